@@ -77,6 +77,7 @@ CHECKS = [
     Check("octets", "python3 checks/scenarios/spell_examples.py", "the octets of examples/, against the rows that spell them"),
     Check("books", "python3 checks/scenarios/book_faults.py", "the faults of partner books"),
     Check("units", "bash checks/scenarios/service_files.sh", "the units of examples/service"),
+    Check("tunnels", "python3 checks/scenarios/tunnels.py", "two stations with stunnel round them, and who isn't let in"),
     Check("held database", "python3 checks/scenarios/database_held.py", "commands over a database that another process holds"),
     Check("command lines beside a resident", "python3 checks/scenarios/command_lines.py --beside", "the same where a station holds the database"),
     Check("resident", "python3 checks/scenarios/resident.py", "a station that holds its database, and who connects to it"),
@@ -234,6 +235,9 @@ def tell_not_tried(left_out, came):
     if os.environ.get("CI") != "true":
         return []
     names = {line.removeprefix(NOT_TRIED).partition(":")[0] for line in lines} & set(WANTED)
+    if names:
+        # without the lists of packages, apt-get would have nothing
+        has_done("update")
     had = [name for name in sorted(names) if has_done("install", "-y", "--download-only", *WANTED[name][1])]
     return [f"what wants {name}, which apt-get has" for name in had]
 

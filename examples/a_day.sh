@@ -42,13 +42,13 @@ give feed --db register --book book.toml schedule_goes_on.octets answer
 give report --db register in
 give report --db register out
 
-say 'The operator fetches the schedule, all 2,500 octets of it, and releases it: an end response is due.'
+say 'The operator fetches the schedule, all 2,500 octets of it, and releases it: an End-to-End Response is due.'
 give fetch --db register 1 fetched
 cmp fetched schedule
 give release --db register --book book.toml 1
 give report --db register issued
 
-say 'The station calls the car maker. Its end response goes out, and the one for the dispatch note comes.'
+say 'The station calls the car maker. Its End-to-End Response goes out, and the one for the dispatch note comes.'
 give feed --db register --book book.toml --role initiator --partner O0177CARMAKER car_maker_is_called.octets answer
 
 say 'In the evening all is delivered, on both sides.'

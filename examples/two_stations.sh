@@ -123,13 +123,13 @@ give report --db supplier.db in
 give fetch --db supplier.db 1 fetched
 cmp fetched schedule
 
-say 'Each operator looks at the file that came, and releases it: two end responses are due.'
+say 'Each operator looks at the file that came, and releases it: two End-to-End Responses are due.'
 give fetch --db carmaker.db 1 note
 cmp note dispatch_note
 give release --db supplier.db --book supplier.toml 1
 give release --db carmaker.db --book carmaker.toml 1
 
-say 'The supplier calls. Both end responses go, and all is delivered.'
+say 'The supplier calls. Both End-to-End Responses go, and all is delivered.'
 give call --db supplier.db --book supplier.toml --partner O0177CARMAKER
 give report --db supplier.db out
 give report --db carmaker.db out

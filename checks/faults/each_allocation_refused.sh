@@ -1,8 +1,8 @@
 #!/bin/bash
 # Runs the program, and the tests of failed allocations, with each of their allocations refused in turn; and the test of the deframer's room with
 # every allocation after the reservation refused. No result may differ, except that an error may take its place. What the program wrote by then
-# is a beginning of the whole output; if the register was refused memory, ESID 08 follows it. It needs a C compiler. The program is that of
-# OFTP_STATION, or else the one that was last proved.
+# is a beginning of the whole output; if the register was refused memory, ESID 08 follows it. A trace may lack lines, and has no others. It
+# needs a C compiler. The program is that of OFTP_STATION, or else the one that was last proved.
 #
 #     checks/faults/each_allocation_refused.sh [built|program] [--allocations N|all]
 #
@@ -38,7 +38,7 @@ fail() {
 
 # Runs the command with the allocation of this number refused. It returns whether there was such an allocation.
 is_refused() {
-    rm -f reached answer
+    rm -f reached answer trace
     status=0
     FAIL_ALLOC=$number FAIL_ALLOC_REACHED=$room/reached LD_PRELOAD=$room/refuse.so "$@" > out 2> err || status=$?
     [ -e reached ]
@@ -49,8 +49,17 @@ check_whole() {
     if [ -e whole ]; then cmp answer whole || fail 'another answer'; fi
 }
 
+# Checks that the trace has no other lines than the whole one, beside those of the error.
+check_trace() {
+    if [ ! -e trace ]; then return; fi
+    if cut -d ' ' -f 2- trace | grep -vxF -f whole_trace -f err -e '> ESID 08 resources not available' > other_lines; then
+        fail "another line in the trace: $(head -n 1 other_lines)"
+    fi
+}
+
 # Checks what the program left: the same as with ample memory, or an error and a beginning of the same.
 check_left() {
+    check_trace
     case "$status $(cat err)" in
         '0 ')
             check_whole
@@ -98,9 +107,11 @@ each() {
 
 each_of_program() {
     name=$1
-    rm -f whole answer
+    if [[ " $* " = *' --trace '* ]]; then name+=' with a trace'; fi
+    rm -f whole answer trace
     "$program" "$@" > whole_out
     if [ -e answer ]; then mv answer whole; fi
+    if [ -e trace ]; then cut -d ' ' -f 2- trace > whole_trace; fi
     each check_left "$program" "$@"
     check_whole
     if [ "$told" = 0 ]; then fail 'no refusal was told'; fi
@@ -148,12 +159,15 @@ program=${OFTP_STATION:-$root/crates/oftp_station/out/oftp_station}
 each_of_program check --book "$book"
 each_of_program feed --book "$book" "$root/examples/repeated_end_response.octets" answer
 each_of_program feed --book "$book" "$root/examples/one_file.octets" answer
+each_of_program feed --book "$book" --trace trace "$root/examples/repeated_end_response.octets" answer
 if [ "$how" = program ]; then
     echo 'LEFT OUT, since only the gate builds them: the tests of refused growths and of the room that the deframer reserves'
 else
     none_behind_reservation oftp_test_register tests::streams::no_memory_within_room
     each_of_test oftp_test_register tests::files::refused_and_taken_again
     each_of_test oftp_test_register tests::registers::memory::each_allocation_refused
+    each_of_test oftp_test_sessions tests::refused::three_octets_out
+    each_of_test oftp_test_sessions tests::refused::broken_and_taken_up
 fi
 if [ -n "$allocations" ]; then
     rows=(receiving/empty_file taken_up/broken_and_taken_up listening/repeated_end_response sending/three_octets_out)

@@ -8,6 +8,7 @@ accepted, or that can't be accepted for the moment, ends no service. A fetched f
 the line is printed. It needs a C compiler. The last line is `N passed, M failed`.
 """
 
+import bisect
 import errno
 import os
 import socket
@@ -21,9 +22,12 @@ sys.path.insert(0, str(Path(__file__).resolve().parents[1] / "lib"))
 from program import PROGRAM
 from row_files import ROWS, Row
 from services import BOOK, CARMAKER, LONG, Resident, Service, Wrong, expect, free_port, rest_of
-from shims import compile_library
+from shims import compile_library, stopping
 
-MEMORY, SOCKET, FILE = "fault: 4 memory\n", "fault: 8 socket\n", "fault: 7 file\n"
+# More allocations than a session with a database makes; and how many are refused one after another, up to the last one before the answer's
+# file is opened. The last of them are those of the trace, and the others those of the database.
+MOST, SOME = 1 << 14, 8
+MEMORY, SOCKET, FILE, STORE = "fault: 4 memory\n", "fault: 8 socket\n", "fault: 7 file\n", "fault: 6 store 2\n"
 
 
 def failing(library, call, number, times=1, path=""):
@@ -71,6 +75,26 @@ def trace_without_memory(room, library):
     for number, line in ((errno.ENOMEM, MEMORY), (errno.EACCES, FILE)):
         told = run(room, failing(library, "open", number, 9, "trace"), *words)
         expect(told, (1, "", line), f"a trace whose open fails by {number}")
+
+
+def trace_whose_allocations_are_refused(room, _library):
+    """Nor is a refused allocation an error of the file, while a trace that is there is compared with the files of the database."""
+    library = compile_library(room, "refuse_allocation")
+    given, reached = room / "given", room / "reached"
+    given.write_bytes(Row(ROWS / "listening/one_end_response.row").sessions()[0].joined("in"))
+
+    def refused(number, answer):
+        reached.unlink(missing_ok=True)
+        words = ["feed", "--db", "db", "--book", BOOK, "--trace", "trace", "given", answer]
+        return run(room, stopping("refuse", number, library, reached), *words)
+
+    expect(refused(0, "/dev/null"), (0, "end: partner 00\n", ""), "the session")
+    last = bisect.bisect_left(range(MOST), True, key=lambda number: refused(number + 1, "none/answer") and not reached.exists())
+    told = [refused(number, "/dev/null") for number in range(last - SOME + 1, last + 1)]
+    for number, line in enumerate(told, last - SOME + 1):
+        if line not in ((1, "", MEMORY), (1, "", STORE)):
+            raise Wrong(f"allocation {number} of {last} was refused, and told as {line}")
+    expect(told[-1], (1, "", MEMORY), "the last refused allocation")
 
 
 def callers_that_pass(room, library):
@@ -137,6 +161,7 @@ def name_is_kept(room, library):
 CASES = [
     sockets_without_memory,
     trace_without_memory,
+    trace_whose_allocations_are_refused,
     callers_that_pass,
     requests_that_pass,
     callers_of_a_station_that_pass,

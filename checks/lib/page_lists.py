@@ -23,7 +23,7 @@ START_REASONS = {
     **{"19": "signed file not allowed", "20": "unsigned file not allowed", "99": "unspecified"},
 }
 NEGATIVE_REASONS = {
-    **{"03": "user code not known", "04": "invalid password", "09": "unspecified", "11": "invalid filename", "12": "invalid destination"},
+    **{"03": "user code not known", "04": "invalid password", "09": "unspecified reason", "11": "invalid file name", "12": "invalid destination"},
     **{"13": "invalid origin", "14": "invalid storage record format", "15": "maximum record length not supported"},
     **{"16": "file size too big", "20": "invalid record count", "21": "invalid byte count", "22": "access method failure"},
     **{"23": "duplicate file", "24": "file direction refused", "25": "cipher suite not supported", "26": "encrypted file not allowed"},
@@ -31,7 +31,7 @@ NEGATIVE_REASONS = {
     **{"30": "unsigned file not allowed", "31": "file signature not valid", "32": "file decompression failed"},
     **{"33": "file decryption failed", "34": "file processing failed", "35": "not delivered to recipient"},
     **{"36": "not acknowledged by recipient", "50": "transmission stopped by the operator"},
-    **{"90": "file size incompatible with recipient's protocol version", "99": "unspecified"},
+    **{"90": "file size incompatible with recipient's protocol version", "99": "unspecified reason"},
 }
 # The reasons of files, one after another, among them numbers that RFC 5024 doesn't list.
 REFUSED_FOR = ["05", "12", "47", "13", "00", "99", "20", "01"]

@@ -102,7 +102,7 @@ class Service:
             piece = os.read(ready[0].fileno(), 4096) if ready else b""
             if not piece:
                 self.program.kill()
-                raise Wrong(f"{'it ended' if ready else 'no line comes'}, and it told {self.rest()}")
+                raise Wrong(f"{'it ended' if ready else f'no line comes for {self.patience} s'}, and it told {self.rest()}")
             self.texts[ready[0]] += piece
         stream = next(stream for stream in streams if b"\n" in self.texts[stream])
         line, _, self.texts[stream] = self.texts[stream].partition(b"\n")
@@ -111,7 +111,11 @@ class Service:
     def rest(self):
         """What it printed besides the requested lines, up to its end: on standard output, and on standard error."""
         streams = (self.program.stdout, self.program.stderr)
-        return [self.texts.get(stream, b"") + (more or b"") for stream, more in zip(streams, self.program.communicate(timeout=self.patience))]
+        try:
+            last = self.program.communicate(timeout=self.patience)
+        except subprocess.TimeoutExpired as why:
+            raise Wrong(f"it doesn't end within {self.patience} s, and it told {[why.stdout, why.stderr]}") from why
+        return [self.texts.get(stream, b"") + (more or b"") for stream, more in zip(streams, last)]
 
     def ends(self, status=0, err=b""):
         """It ends by itself, and has printed nothing else but this on standard error."""

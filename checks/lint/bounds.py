@@ -56,7 +56,7 @@ def clauses(path, head):
 
 
 OCTETS = constant("oftp_files/src/limits.rt", "octets")
-FILES = constant("oftp_files/src/limits.rt", "files")
+FILES = constant("oftp_register/src/fit.rt", "MOST_FILES")
 RECORDS = constant("oftp_vfile/src/format.rt", "MOST_ROWS")
 RECORD = constant("oftp_vfile/src/format.rt", "LONGEST_RECORD")
 LINE = "oftp_command_line/src/line/arguments.rt"

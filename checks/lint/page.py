@@ -101,7 +101,7 @@ def judged(text):
     yield "its policy says nothing else", len(policy) == len(POLICY) + 2
     for word in FORBIDDEN:
         yield f"it has no {word.strip()}", word not in text
-    for name, phrase in (("START_REASONS", "refusal_phrase"), ("NEGATIVE_REASONS", "negative_phrase")):
+    for name, phrase in (("START_REASONS", "start_phrase"), ("NEGATIVE_REASONS", "negative_phrase")):
         told, shown = reasons_told(phrase), reasons_shown(text, name)
         for number, words in told:
             yield f"{name} has the reason {number} {words}", (number, words) in shown

@@ -187,23 +187,30 @@ def copied_with_its_owner(room):
 
 
 class Stopped:
-    """A fetch that is stopped while its temporary file is written, within this folder."""
+    """A fetch that is stopped while its temporary file is written, within this folder. It is killed if it doesn't go on."""
 
     def __init__(self, room, name):
         self.words = [PROGRAM, "fetch", "--db", "db", "1", name]
         self.room = room
         self.draft = None
-        before = set(drafts_in(room))
-        until = time.monotonic() + LONG
+        self.before = set(drafts_in(room))
         self.begin()
+
+    def __enter__(self):
+        until = time.monotonic() + LONG
         while not self.draft:
             if time.monotonic() > until:
-                raise Wrong(f"no draft was seen: {self.program.communicate()}")
+                self.dies()
+                raise Wrong(f"no draft of {self.words[-1]} was seen within {LONG} s")
             # If it was finished before it was seen, it writes once more.
             if self.program.poll() is not None:
                 self.begin()
-            for draft in set(drafts_in(room)) - before:
-                self.see(room / draft)
+            for draft in set(drafts_in(self.room)) - self.before:
+                self.see(self.room / draft)
+        return self
+
+    def __exit__(self, *_why):
+        self.dies()
 
     def begin(self):
         self.program = subprocess.Popen(self.words, cwd=self.room, umask=0, stdout=subprocess.PIPE, stderr=subprocess.PIPE)
@@ -227,15 +234,15 @@ class Stopped:
 
     def dies(self):
         self.program.kill()
-        self.program.communicate()
+        self.program.wait()
 
 
 def draft_of_one_user(room):
     """While a temporary file is written nobody else may read it; the file then has the mode that the umask gives."""
     receive_large(room)
-    stopped = Stopped(room, "fetched")
-    expect(mode_of(stopped.draft), 0o600, "the draft's mode")
-    stopped.goes_on()
+    with Stopped(room, "fetched") as stopped:
+        expect(f"{mode_of(stopped.draft):o}", "600", "the draft's mode")
+        stopped.goes_on()
     expect((mode_of(room / "fetched"), (room / "fetched").stat().st_size), (0o666, one_file.MOST // 2), "the file")
     expect(drafts_in(room), [], "drafts")
 
@@ -246,16 +253,41 @@ def drafts_left_by_a_kill(room):
     copy = room / "copy"
     for name in ("", "-wal"):
         shutil.copy(room / f"db{name}", room / f"copy{name}")
-    killed = Stopped(room, "killed")
-    killed.dies()
-    expect(drafts_in(room), [killed.draft.name], "the draft that is left")
-    living = Stopped(room, "living")
-    expect(drafts_in(room), [living.draft.name], "the draft that is written")
-    (room / f"{DRAFT}notes").write_bytes(b"no draft")
-    expect_done(run(room, "fetch", "--db", copy, "1", "other"), "done: fetch 1")
-    expect(drafts_in(room), sorted([living.draft.name, f"{DRAFT}notes"]), "the drafts beside another fetch")
-    living.goes_on()
+    with Stopped(room, "killed") as killed:
+        killed.dies()
+        expect(drafts_in(room), [killed.draft.name], "the draft that is left")
+    with Stopped(room, "living") as living:
+        expect(drafts_in(room), [living.draft.name], "the draft that is written, without the one of the killed fetch")
+        (room / f"{DRAFT}notes").write_bytes(b"no draft")
+        expect_done(run(room, "fetch", "--db", copy, "1", "other"), "done: fetch 1")
+        expect(drafts_in(room), sorted([living.draft.name, f"{DRAFT}notes"]), "the drafts beside another fetch")
+        living.goes_on()
     expect(drafts_in(room), [f"{DRAFT}notes"], "the drafts at the end")
+
+
+def drafts_of_another_user(room):
+    """In a folder that several users share, each one removes the temporary files of his own killed processes alone; the superuser removes
+    those of all."""
+    if os.geteuid() != 0:
+        raise NotTried("the superuser: temporary files of other users")
+    receive(room)
+    with tempfile.TemporaryDirectory(dir="/tmp") as path:
+        home = Path(path)
+        home.chmod(0o777)
+        shutil.copy(PROGRAM, home / "program")
+        (home / "program").chmod(0o755)
+        own, foreign = home / f"{DRAFT}1", home / f"{DRAFT}2"
+        for name in ("db", "db-wal"):
+            shutil.copy(room / name, home / name)
+        for name, user in (("db", USER), ("db-wal", USER), (own.name, USER), (foreign.name, FOREIGN)):
+            (home / name).touch(0o600)
+            os.chown(home / name, user, GROUP)
+        words = [home / "program", "fetch", "--db", "db", "1", "fetched"]
+        done = subprocess.run(words, cwd=home, capture_output=True, timeout=LONG, check=False, user=USER, group=GROUP, extra_groups=[])
+        expect((done.returncode, done.stdout, done.stderr), (0, b"done: fetch 1\n", b""), "the fetch")
+        expect(drafts_in(home), [foreign.name], "the drafts behind the fetch of one user")
+        expect_done(run(home, "fetch", "--db", "db", "1", "fetched"), "done: fetch 1")
+        expect(drafts_in(home), [], "the drafts behind the fetch of the superuser")
 
 
 def logs_of_drafts(room):
@@ -331,6 +363,7 @@ CASES = [
     copied_with_its_owner,
     draft_of_one_user,
     drafts_left_by_a_kill,
+    drafts_of_another_user,
     logs_of_drafts,
     names_of_drafts_taken,
     too_long,

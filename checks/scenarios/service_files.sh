@@ -1,6 +1,7 @@
 #!/bin/bash
-# Checks the units of examples/service by systemd-analyze, and its stunnel.conf by stunnel, if these are installed. It reports which isn't. The last
-# line is `N passed, M failed`.
+# Checks the units of examples/service by systemd-analyze, if that is installed. The last line is `N passed, M failed`.
+# No unit is started. A systemd in namespaces of its own runs systemd-tmpfiles first, which empties /tmp: that of the whole machine, unless another
+# one is mounted there.
 set -euo pipefail
 root=$(cd "$(dirname "$0")/../.." && pwd)
 room=$(mktemp -d)
@@ -27,11 +28,6 @@ verify() {
     [ "$status" = 0 ] && ! grep -q 'Unknown\|Failed to parse\|not executable\|Invalid' "$room/verified"
 }
 
-# It binds free ports, and runs until it is ended.
-starts() {
-    timeout 2 stunnel "$room/conf" || [ "$?" = 124 ]
-}
-
 if command -v systemd-analyze > /dev/null; then
     for unit in oftp-run.service oftp-listen.service oftp-call@.service oftp-call@.timer oftp-http.service oftp-collect.service oftp-collect.path \
         oftp-collect.timer oftp-offer.service oftp-offer.path; do
@@ -39,15 +35,6 @@ if command -v systemd-analyze > /dev/null; then
     done
 else
     echo 'NOT TRIED without systemd: the units of examples/service'
-fi
-if command -v stunnel > /dev/null && command -v openssl > /dev/null; then
-    openssl req -x509 -newkey rsa:2048 -nodes -days 1 -subj /CN=station -keyout "$room/key" -out "$room/cert" 2> /dev/null
-    sed -e "s|/etc/oftp/station.key|$room/key|; s|/etc/oftp/.*pem|$room/cert|; s|^setuid.*||; s|^setgid.*||; s|^pid.*|pid = $room/pid|" \
-        -e 's/^accept = .*/accept = 127.0.0.1:0/' "$root/examples/service/stunnel.conf" > "$room/conf"
-    sed -i '1i foreground = yes' "$room/conf"
-    count starts
-else
-    echo 'NOT TRIED without stunnel: examples/service/stunnel.conf'
 fi
 echo "$passed passed, $failed failed"
 [ "$failed" = 0 ]

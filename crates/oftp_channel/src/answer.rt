@@ -31,9 +31,9 @@ pub enum Outlet {
 /// A part of an answer.
 #[derive(Debug, Drop)]
 pub enum AnswerPart {
-    /// Octets for an outlet.
+    /// Octets for an outlet, at most [`LONGEST_PIECE`].
     Piece(Outlet, Vec<u8>),
-    /// The end, with the exit status of the command.
+    /// The end, with the exit status of the command, 0 to 255.
     End(u8),
 }
 

@@ -12,17 +12,17 @@ use oftp_io::Port;
 use std::alloc::Global;
 use std::io::{Read, Write};
 
-/// The octet. Any other octet belongs to another channel.
+/// The octet by which a station says that it will read a request: the digit 1. Any other octet belongs to another channel.
 pub const READY: u8 = b'1';
 
-/// Writes the octet, and returns whether the writer took it. If it didn't, it returned an error.
+/// Writes [`READY`], and returns whether the writer took it. If it didn't, it returned an error.
 pub fn write_ready<W: Write>(writer: &mut Port<W>) -> bool
     ensures { Sent W.contents writer.old writer.new (READY ∷ []) result }
 {
     writer.send(&[READY])
 }
 
-/// Waits for the octet of the station.
+/// Reads [`READY`], for which a command waits before it sends its request.
 ///
 /// # Errors
 ///

@@ -88,8 +88,12 @@ impl From<AllocError> for LineFault {
     }
 }
 
-/// Parses a command line. The first word names the command, and the others are its options and words. `--help` gives [`LineFault::Bad`]
-/// with the help.
+/// Parses a command line. The first word names the command, and the others are its options and words.
+///
+/// # Errors
+///
+/// - [`LineFault::Bad`]: the command line is invalid, or asks for help by `--help`. It has the text for standard error.
+/// - [`LineFault::Memory`]: out of memory.
 pub fn line_of<'a>(alloc: Global, words: &'a [String]) -> Result<Line<'a>, LineFault>
     ensures ok { IfOk result (λ l. line_of_words (map string_bytes words.entry.now) ≡ Some (said l)) }
     ensures bad { IfErr result (λ e. is_bad e ≡ true

@@ -67,7 +67,7 @@ impl DatabaseOffice {
     /// Serves a session, as [`serve_durable`] does.
     ///
     /// # Errors
-    /// Those of [`serve_durable`].
+    /// Those of [`serve_durable`], with what they leave.
     pub fn serve<R: Read, W: Write>(
         &mut self,
         alloc: Global,
@@ -88,7 +88,7 @@ impl DatabaseOffice {
     /// Does an operator's job, as [`operate_durable`] does.
     ///
     /// # Errors
-    /// Those of [`operate_durable`].
+    /// Those of [`operate_durable`], with what they leave.
     pub fn operate<W: Write>(
         &mut self,
         alloc: Global,

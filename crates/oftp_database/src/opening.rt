@@ -12,7 +12,7 @@ use std::fs;
 use std::io::ErrorKind;
 use std::time::{Clock, Duration};
 
-/// How often a locked database is tried again, which is for ten seconds.
+/// How often a command tries a locked database again, each time after 50 milliseconds. This is for ten seconds.
 pub const PATIENCE: u32 = 200;
 
 /// The pause before that, in milliseconds.
@@ -31,15 +31,22 @@ enum Opening {
 }
 
 /// Opens the office of a database. If the database is empty or doesn't exist, its tables are created. If another process has it locked, it
-/// is tried again `patience` times.
+/// is tried again `patience` times, each time after 50 milliseconds.
 ///
 /// # Errors
-/// [`Fault::Store`], also if the database stays locked.
+/// [`Fault::Store`]:
+///
+/// - [`StoreFault::WrongSchema`]: it is another database, which is unchanged.
+/// - [`StoreFault::Store`]: SQLite failed or would keep nothing of it, or it stays locked.
+/// - [`StoreFault::Memory`]: out of memory.
+///
+/// A file that was created stays, with or without the tables.
 pub fn open(rt: &HostRuntime, path: &str, patience: u32) -> Result<DatabaseOffice, Fault> {
     open_if_free(rt, path, patience).map_err(store_fault)
 }
 
-/// Opens the office as [`open`] does, for a command that a station can carry out. Gives up as soon as a station runs over the database.
+/// Opens the office as [`open`] does with [`PATIENCE`], for a command that a station can carry out. Gives up as soon as a station runs over
+/// the database, with the error for one that stays locked.
 ///
 /// # Errors
 /// Those of [`open`].
@@ -63,7 +70,7 @@ fn is_served(rt: &HostRuntime, path: &str) -> bool {
     }
 }
 
-/// Opens a database as [`open`] does, which creates its tables, and closes it.
+/// Opens a database as [`open`] does with [`PATIENCE`], which creates its tables, and closes it.
 ///
 /// # Errors
 /// Those of [`open`].
@@ -86,10 +93,11 @@ pub fn open_if_free(
     patiently(rt, path, Opening::Open, patience)
 }
 
-/// Migrates a database to schema 2, with the same patience. One that doesn't exist isn't created.
+/// Migrates a database to schema 2. One that doesn't exist isn't created. One that is locked is tried again `patience` times, as in
+/// [`open`].
 ///
 /// # Errors
-/// [`Fault::Store`]. If the database doesn't exist, it is the one for a wrong schema.
+/// Those of [`open`]. If the database doesn't exist or has no table, it is the one for a wrong schema. The call may be repeated.
 pub fn migrate(rt: &HostRuntime, path: &str, patience: u32) -> Result<DatabaseOffice, Fault> {
     match fs::metadata(rt, path) {
         Err(error) if error.kind() == ErrorKind::NotFound => {

@@ -6,7 +6,7 @@ use oftp_engine::{End, Role};
 use oftp_held::answer_from;
 use oftp_listing::Reply;
 use oftp_outcomes::Fault;
-use oftp_sockets::{Desk, Replies, Station, Trouble, Wire, ports_of};
+use oftp_sockets::{Desk, Replies, Station, Trouble, Wire};
 use oftp_store::{PathFault, StoreFault};
 use std::io::{Read, Write};
 
@@ -53,13 +53,7 @@ impl Desk for DatabaseOffice {
         station: &Station<'_>,
         wire: Wire<'_, R, W>,
     ) -> Result<End, Trouble> {
-        let Wire {
-            heard,
-            reader,
-            writer,
-            ..
-        } = wire;
-        let (mut reader, mut writer) = ports_of(heard.chain(reader), writer);
+        let (mut reader, mut writer) = wire.into_ports();
         let end = self.serve(rt.alloc(), station.book, role, &mut reader, &mut writer)?;
         Ok(end)
     }

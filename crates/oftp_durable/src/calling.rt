@@ -26,7 +26,7 @@ use std::io::Write;
 ///
 /// # Errors
 ///
-/// Those of [`operate`].
+/// Those of [`operate`], with what they leave.
 pub fn operate_durable<S: Alter, W: Write>(
     alloc: Global,
     office: &mut SqlOffice<S>,

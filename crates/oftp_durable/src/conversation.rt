@@ -27,7 +27,7 @@ use std::io::Write;
 ///
 /// # Errors
 ///
-/// Those of [`Conversation::go_on`].
+/// Those of [`Conversation::go_on`], with what they leave.
 pub fn go_on_durable<S: Alter, W: Write>(
     conversation: &mut Conversation<'_>,
     office: &mut SqlOffice<S>,

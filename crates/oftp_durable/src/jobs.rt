@@ -32,7 +32,7 @@ use std::io::{Read, Write};
 ///
 /// # Errors
 ///
-/// Those of [`run`].
+/// Those of [`run`], with what they leave.
 pub fn run_durable<S: Alter, R: Read, W: Write>(
     alloc: Global,
     office: &mut SqlOffice<S>,
@@ -64,7 +64,7 @@ pub struct Ran<S: Alter> {
 ///
 /// # Errors
 ///
-/// Those of [`open_durable`]. No job was begun.
+/// Those of [`open_durable`], with what they leave. No job was begun, and the jobs are unchanged.
 pub fn run_at<S: Start, R: Read, W: Write>(
     rt: &HostRuntime,
     path: &str,

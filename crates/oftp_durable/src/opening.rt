@@ -36,7 +36,7 @@ fn leaves_alone<S: Alter>(office: &SqlOffice<S>)
 ///
 /// # Errors
 ///
-/// Those of [`open_at`].
+/// Those of [`open_at`], with what they leave.
 pub fn open_durable<S: Start>(
     rt: &HostRuntime,
     path: &str,

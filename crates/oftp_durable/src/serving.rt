@@ -26,7 +26,7 @@ use std::io::{Read, Write};
 ///
 /// # Errors
 ///
-/// Those of [`serve`].
+/// Those of [`serve`], with what they leave.
 pub fn serve_durable<S: Alter, R: Read, W: Write>(
     alloc: Global,
     office: &mut SqlOffice<S>,

@@ -19,6 +19,7 @@ use Rattle.oftp_session.specs.Steps.{has_turn, turned, turns_due, Suits}
 use Rattle.oftp_session.specs.Calls.{Allows, Proceeds}
 use Rattle.oftp_session.proofs.Proceeding.{turned_proceeds}
 use Rattle.oftp_session.proofs.Phases.{opening_suits, over_no_turn, turn_falls}
+use Rattle.oftp_engine.specs.declared.conversation.TheConstants.{LONGEST_FRAME}
 use Rattle.oftp_engine.specs.Runs.{Course, Output, started, octets_of, with_change, with_output, advance, came_in, turned_in, is_stopped, turns, settled, on_front, next_in, run_by, run}
 use Rattle.oftp_engine.specs.Progress.{Grows, Sound, Counted}
 use Rattle.oftp_engine.proofs.Phases.{step_proceeds, fails_proceed}
@@ -203,7 +204,8 @@ run_enough zero m limit s c p q = absurd (omega arith)
 run_enough (suc n) zero limit s c p q = absurd (omega arith)
 run_enough (suc n) (suc m) limit s c p q =
     let d = settled limit c in
-    same_else (is_over d.phase || is_stopped limit d) _ _ d (λ t. front_same n m limit s d (front 100003 s) (front_within 100003 s) (λ t e l. run_enough n m limit t e (omega arith) (omega arith)))
+    same_else (is_over d.phase || is_stopped limit d) _ _ d
+    (λ t. front_same n m limit s d (front LONGEST_FRAME s) (front_within LONGEST_FRAME s) (λ t e l. run_enough n m limit t e (omega arith) (omega arith)))
 
 from_settled : (limit : Option ℕ) (s : List ℕ) (c d : Course) → settled limit c ≡ settled limit d → run limit s c ≡ run limit s d
 unfolding run run_by
@@ -219,28 +221,28 @@ at_settled limit s c e = ap (next_in limit (run_by (length s) limit) s) e
 
 -- the next command
 pub run_frame : (limit : Option ℕ) (s : List ℕ) (c : Course) (n : ℕ)
-    → has_turn c.phase ≡ false → is_over c.phase ≡ false → is_stopped limit c ≡ false → front 100003 s ≡ Whole n
+    → has_turn c.phase ≡ false → is_over c.phase ≡ false → is_stopped limit c ≡ false → front LONGEST_FRAME s ≡ Whole n
     → run limit s c ≡ run limit (drop n s) (came_in c (command_in n s))
 unfolding next_in on_front run
 run_frame limit s c n turn over stopped whole =
-    let within : IsWithin (length s) (Whole n) = subst (IsWithin (length s)) whole (front_within 100003 s) in
+    let within : IsWithin (length s) (Whole n) = subst (IsWithin (length s)) whole (front_within LONGEST_FRAME s) in
     at_settled limit s c (settle_none limit c turn)
-    ∙ else_at (is_over c.phase || is_stopped limit c) c (on_front (run_by (length s) limit) s c (front 100003 s)) (rw (over, stopped) refl)
+    ∙ else_at (is_over c.phase || is_stopped limit c) c (on_front (run_by (length s) limit) s c (front LONGEST_FRAME s)) (rw (over, stopped) refl)
     ∙ ap (on_front (run_by (length s) limit) s c) whole
     ∙ run_enough (length s) (suc (length (drop n s))) limit (drop n s) (came_in c (command_in n s)) (omega (arith, within.0, within.1, length-drop n s)) (omega arith)
 
 -- no header where one is expected
 pub run_bad : (limit : Option ℕ) (s : List ℕ) (c : Course) (fault : _)
-    → has_turn c.phase ≡ false → is_over c.phase ≡ false → is_stopped limit c ≡ false → front 100003 s ≡ Bad fault
+    → has_turn c.phase ≡ false → is_over c.phase ≡ false → is_stopped limit c ≡ false → front LONGEST_FRAME s ≡ Bad fault
     → run limit s c ≡ advance c (fails ProtocolViolation)
 unfolding next_in on_front
 run_bad limit s c fault turn over stopped bad =
     at_settled limit s c (settle_none limit c turn)
-    ∙ else_at (is_over c.phase || is_stopped limit c) c (on_front (run_by (length s) limit) s c (front 100003 s)) (rw (over, stopped) refl)
+    ∙ else_at (is_over c.phase || is_stopped limit c) c (on_front (run_by (length s) limit) s c (front LONGEST_FRAME s)) (rw (over, stopped) refl)
     ∙ ap (on_front (run_by (length s) limit) s c) bad
 
 -- octets that aren't a whole frame
-pub run_waits : (limit : Option ℕ) (s : List ℕ) (c : Course) → has_turn c.phase ≡ false → front 100003 s ≡ Waits → run limit s c ≡ c
+pub run_waits : (limit : Option ℕ) (s : List ℕ) (c : Course) → has_turn c.phase ≡ false → front LONGEST_FRAME s ≡ Waits → run limit s c ≡ c
 unfolding next_in on_front
 run_waits limit s c turn waits =
     at_settled limit s c (settle_none limit c turn)
@@ -252,14 +254,14 @@ pub run_over : (limit : Option ℕ) (s : List ℕ) (c : Course) → is_over c.ph
 unfolding next_in
 run_over limit s c over =
     at_settled limit s c (settle_none limit c (over_no_turn c.phase over))
-    ∙ then_at (is_over c.phase || is_stopped limit c) c (on_front (run_by (length s) limit) s c (front 100003 s)) (rw over refl)
+    ∙ then_at (is_over c.phase || is_stopped limit c) c (on_front (run_by (length s) limit) s c (front LONGEST_FRAME s)) (rw over refl)
 
 -- a session whose writer has stopped
 pub run_stopped : (limit : Option ℕ) (s : List ℕ) (c : Course) → is_stopped limit c ≡ true → run limit s c ≡ c
 unfolding next_in
 run_stopped limit s c stopped =
     at_settled limit s c (settle_stopped limit c stopped)
-    ∙ then_at (is_over c.phase || is_stopped limit c) c (on_front (run_by (length s) limit) s c (front 100003 s)) (or_right (is_over c.phase) (is_stopped limit c) stopped)
+    ∙ then_at (is_over c.phase || is_stopped limit c) c (on_front (run_by (length s) limit) s c (front LONGEST_FRAME s)) (or_right (is_over c.phase) (is_stopped limit c) stopped)
 
 front_grows : (go_on : List ℕ → Course → Course) (s : List ℕ) (d : Course) (f : Head) → ((t : List ℕ) (e : Course) → Grows e (go_on t e)) → Grows d (on_front go_on s d f)
 unfolding on_front
@@ -274,7 +276,7 @@ unfolding run_by next_in
 run_by_grows zero limit s c = grows_none c
 run_by_grows (suc n) limit s c =
     let d = settled limit c in
-    let next = front_grows (run_by n limit) s d (front 100003 s) (run_by_grows n limit) in
+    let next = front_grows (run_by n limit) s d (front LONGEST_FRAME s) (run_by_grows n limit) in
     grows_on c d _ (settled_grows limit c) (grows_either d d _ (is_over d.phase || is_stopped limit d) (grows_none d) next)
 
 -- what is out stays out

@@ -12,6 +12,7 @@ use Rattle.oftp_session.specs.Phases.{Phase, Step, fails, is_over}
 use Rattle.oftp_session.specs.Settings.{Setting}
 use Rattle.oftp_session.specs.Steps.{has_turn, turns_due}
 use Rattle.oftp_session.proofs.Outputs.{MaySay, came_may, fails_may, turned_may}
+use Rattle.oftp_engine.specs.declared.conversation.TheConstants.{LONGEST_FRAME}
 use Rattle.oftp_engine.specs.Runs.{Course, advance, came_in, is_stopped, next_in, on_front, refusal, run, run_by, settled, step_on, turned_in, turns}
 
 -- P holds after each turn, each command that arrives, and an end because of a bad header
@@ -42,7 +43,7 @@ module _ (P : Course → Type 0) (turn : (c : Course) → P c → P (turned_in c
   run_by_keeps (suc n) limit s c h =
       let d = settled limit c in
       let at = settled_keeps limit c h in
-      either (is_over d.phase || is_stopped limit d) d (on_front (run_by n limit) s d (front 100003 s)) at (front_keeps (run_by n limit) s d (front 100003 s) (run_by_keeps n limit) at)
+      either (is_over d.phase || is_stopped limit d) d (on_front (run_by n limit) s d (front LONGEST_FRAME s)) at (front_keeps (run_by n limit) s d (front LONGEST_FRAME s) (run_by_keeps n limit) at)
 
   pub run_keeps : (limit : Option ℕ) (s : List ℕ) (c : Course) → P c → P (run limit s c)
   unfolding run

@@ -15,6 +15,7 @@ use Rattle.oftp_session.specs.Steps.{has_turn}
 use Rattle.oftp_session.specs.Settings.{Setting}
 use Rattle.oftp_session.specs.declared.session.Ending.{Ending}
 use Rattle.oftp_session.specs.Calls.{Seen}
+use Rattle.oftp_engine.specs.declared.conversation.TheConstants.{LONGEST_FRAME}
 use Rattle.oftp_engine.specs.declared.serving.RunFault.{RunFault}
 use Rattle.oftp_engine.specs.declared.serving.RunFault.TheVariants as fault
 use Rattle.oftp_engine.specs.Runs.{Course, Output, run, started, octets_of, answered, advance, is_stopped, with_change}
@@ -70,7 +71,7 @@ pub whole_over : (setting : Setting) (given t : List ℕ) (seen : Seen) (old new
 whole_over setting given t seen old new end h = whole_is setting given t old.office.register h.come.at h.come.went.leads (run_over None (t ++ []) h.come.at (over_from h.come.at.phase end h.ends))
 
 pub whole_waits : (setting : Setting) (given t : List ℕ) (seen : Seen) (old new : Scene) (h : Comes (started setting old.office.register) given t seen old new)
-    → has_turn h.at.phase ≡ false → front 100003 t ≡ Waits → whole setting given old.office.register ≡ h.at
+    → has_turn h.at.phase ≡ false → front LONGEST_FRAME t ≡ Waits → whole setting given old.office.register ≡ h.at
 whole_waits setting given t seen old new h turn waits =
     let rests : run None (t ++ []) h.at ≡ h.at = ap (λ (x : List ℕ). run None x h.at) (append-nil t) ∙ run_waits None t h.at turn waits in
     whole_is setting given t old.office.register h.at h.went.leads rests

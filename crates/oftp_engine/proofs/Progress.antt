@@ -12,6 +12,7 @@ use Rattle.oftp_session.specs.Phases.{is_over, Phase, Step, fails, framed, frame
 use Rattle.oftp_session.specs.Steps.{has_turn, turned, Suits}
 use Rattle.oftp_session.specs.Calls.{Proceeds, Seen}
 use Rattle.oftp_session.proofs.Proceeding.{turned_proceeds}
+use Rattle.oftp_engine.specs.declared.conversation.TheConstants.{LONGEST_FRAME}
 use Rattle.oftp_engine.specs.declared.serving.RunFault.{RunFault}
 use Rattle.oftp_engine.specs.declared.serving.RunFault.TheVariants as fault
 use Rattle.oftp_engine.specs.Runs.{Course, Output, advance, run, is_stopped, octets_of, with_output, with_change, turned_in, came_in}
@@ -254,12 +255,12 @@ command_more n s more five there =
     ap (λ (x : List ℕ). take (n - 4) x) (drop-append-le 4 s more (omega arith)) ∙ take-append-le (n - 4) (drop 4 s) more (omega (arith, length-drop 4 s))
 
 pub leads_frame : (c : Course) (s : List ℕ) (n : ℕ)
-    → has_turn c.phase ≡ false → is_over c.phase ≡ false → front 100003 s ≡ Whole n → (more : List ℕ) (limit : Option ℕ) → is_stopped limit c ≡ false
+    → has_turn c.phase ≡ false → is_over c.phase ≡ false → front LONGEST_FRAME s ≡ Whole n → (more : List ℕ) (limit : Option ℕ) → is_stopped limit c ≡ false
     → run limit (s ++ more) c ≡ run limit (drop n s ++ more) (came_in c (command_in n s))
 leads_frame c s n turn over whole more limit stopped =
-    let within : IsWithin (length s) (Whole n) = subst (IsWithin (length s)) whole (front_within 100003 s) in
-    let told : IsTold (front 100003 s) = subst IsTold (sym whole) tt in
-    run_frame limit (s ++ more) c n turn over stopped (front_more 100003 s more told ∙ whole)
+    let within : IsWithin (length s) (Whole n) = subst (IsWithin (length s)) whole (front_within LONGEST_FRAME s) in
+    let told : IsTold (front LONGEST_FRAME s) = subst IsTold (sym whole) tt in
+    run_frame limit (s ++ more) c n turn over stopped (front_more LONGEST_FRAME s more told ∙ whole)
     ∙ ap (λ (x : List ℕ). run limit x (came_in c (command_in n (s ++ more)))) (drop-append-le n s more within.1)
     ∙ ap (λ (x : List ℕ). run limit (drop n s ++ more) (came_in c x)) (command_more n s more within.0 within.1)
 
@@ -268,17 +269,17 @@ unfolding advance
 over_step c step h = h
 
 -- octets that begin with a frame, or with none that could follow
-pub told_some : (s : List ℕ) (h : Head) → front 100003 s ≡ h → IsTold h → 0 < length s
+pub told_some : (s : List ℕ) (h : Head) → front LONGEST_FRAME s ≡ h → IsTold h → 0 < length s
 unfolding front
 told_some [] h e told = absurd (subst IsTold (sym e) told)
 told_some (x ∷ s) h e told = omega arith
 
 pub leads_bad : (c : Course) (s : List ℕ) (f : FrameFault)
-    → has_turn c.phase ≡ false → is_over c.phase ≡ false → front 100003 s ≡ Bad f → (more : List ℕ) (limit : Option ℕ) → is_stopped limit c ≡ false
+    → has_turn c.phase ≡ false → is_over c.phase ≡ false → front LONGEST_FRAME s ≡ Bad f → (more : List ℕ) (limit : Option ℕ) → is_stopped limit c ≡ false
     → run limit (s ++ more) c ≡ run limit (s ++ more) (advance c (fails ProtocolViolation))
 leads_bad c s f turn over bad more limit stopped =
-    let told : IsTold (front 100003 s) = subst IsTold (sym bad) tt in
-    run_bad limit (s ++ more) c f turn over stopped (front_more 100003 s more told ∙ bad)
+    let told : IsTold (front LONGEST_FRAME s) = subst IsTold (sym bad) tt in
+    run_bad limit (s ++ more) c f turn over stopped (front_more LONGEST_FRAME s more told ∙ bad)
     ∙ sym (run_over limit (s ++ more) (advance c (fails ProtocolViolation)) (over_step c (fails ProtocolViolation) refl))
 
 -- the turns are made whatever octets are there

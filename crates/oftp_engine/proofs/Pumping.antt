@@ -14,6 +14,7 @@ use Rattle.oftp_session.specs.declared.session.Ending.TheVariants.{Own}
 use Rattle.oftp_session.specs.Phases.{Phase, Step, ending_of, fails, is_over}
 use Rattle.oftp_session.specs.Steps.{Suits}
 use Rattle.oftp_session.specs.Calls.{Proceeds, Seen, Stands}
+use Rattle.oftp_engine.specs.declared.conversation.TheConstants.{LONGEST_FRAME}
 use Rattle.oftp_engine.specs.declared.serving.RunFault.{RunFault}
 use Rattle.oftp_engine.specs.Runs.{Course, advance, run, is_stopped, step_on}
 use Rattle.oftp_engine.specs.Serving.{Scene}
@@ -25,7 +26,7 @@ use Rattle.oftp_engine.proofs.Progress.{fails_later, fails_step, fails_with, lea
 -- while it pumps: how far it went, and that the stream returned no error
 pub record IsPumping (c : Course) (s : List ℕ) (stream : Stream) (seen : Seen) (old new : Scene) : Type 0 where
   pub come : Comes c s stream.rest seen old new
-  pub limit : stream.limit ≡ 100003
+  pub limit : stream.limit ≡ LONGEST_FRAME
   pub told : stream.told ≡ None
 
 -- a step that was made, and one that failed
@@ -48,7 +49,7 @@ shorter s after f o e h left =
     let some = next_some s o.now (found s f (Some o) e h) in
     subst (λ (x : Stream). length x.rest < length s.rest) (sym (left ∙ some.3)) (past_shorter s some.0 some.1)
 
-limit_front : (s : Stream) (f : Head) → s.limit ≡ 100003 → front s.limit s.rest ≡ f → front 100003 s.rest ≡ f
+limit_front : (s : Stream) (f : Head) → s.limit ≡ LONGEST_FRAME → front s.limit s.rest ≡ f → front LONGEST_FRAME s.rest ≡ f
 limit_front s f limit e = sym (ap (λ (n : ℕ). front n s.rest) limit) ∙ e
 
 over_after : (c : Course) (reason : SessionReason) → Some (Own reason) ≡ ending_of (advance c (fails reason)).phase
@@ -90,8 +91,9 @@ module _ (k : Course) (s : List ℕ) (stream : Stream) (seen0 : Seen) (first old
     abbrev taken : Settles p.come.at seen old mid
     taken = turns (p.come.went.stands stood) p.come.at p.come.now
 
-    abbrev settled : Comes k s stream.rest seen first mid
-    settled = record {
+    -- how far the run has come once these turns are made
+    abbrev after_turns : Comes k s stream.rest seen first mid
+    after_turns = record {
       at = taken.at;
       went = went_on k p.come.at taken.at s stream.rest stream.rest first old mid p.come.went (went_with p.come.at taken.at stream.rest old mid taken.went);
       now = taken.now;
@@ -99,19 +101,19 @@ module _ (k : Course) (s : List ℕ) (stream : Stream) (seen0 : Seen) (first old
 
     -- the session has ended
     pub has_ended : (end : Ending) → ended ≡ Some end → IsOver k s stream.rest seen first mid end
-    has_ended end some = record { come = settled; ends = sym some ∙ shows settled.at.phase settled.now.stands }
+    has_ended end some = record { come = after_turns; ends = sym some ∙ shows after_turns.at.phase after_turns.now.stands }
 
     -- it goes on
     module _ (none : ended ≡ None) (after : Stream) (left : after ≡ left_of stream stream.told) where
-      live : is_over settled.at.phase ≡ false
-      live = live_from settled.at.phase ended (shows settled.at.phase settled.now.stands) none
+      live : is_over after_turns.at.phase ≡ false
+      live = live_from after_turns.at.phase ended (shows after_turns.at.phase after_turns.now.stands) none
 
       -- no frame is whole
       pub waits : (f : Option (Bor (List ℕ))) → Ok (option_copied f) ≡ next_of stream stream.told → f ≡ None → IsWaiting k s after seen first mid
       waits f e h =
           let none = next_none stream (found stream f None e h) in
           subst (λ (x : Stream). IsWaiting k s x seen first mid) (sym (left ∙ none.1)) (record {
-            come = settled;
+            come = after_turns;
             turn = taken.done;
             over = live;
             waits = limit_front stream Waits p.limit none.0;
@@ -125,17 +127,17 @@ module _ (k : Course) (s : List ℕ) (stream : Stream) (seen0 : Seen) (first old
         read = next_some stream o.now (found stream f (Some o) e h)
 
         abbrev step : Step
-        step = step_on settled.at.setting settled.at.phase settled.at.register (command_of o.now)
+        step = step_on after_turns.at.setting after_turns.at.phase after_turns.at.register (command_of o.now)
 
-        proceeds : Suits settled.at.phase settled.at.register → Proceeds settled.at.register step
-        proceeds = step_proceeds settled.at.setting settled.at.phase settled.at.register (command_of o.now)
+        proceeds : Suits after_turns.at.phase after_turns.at.register → Proceeds after_turns.at.register step
+        proceeds = step_proceeds after_turns.at.setting after_turns.at.phase after_turns.at.register (command_of o.now)
 
-        goes : (more : List ℕ) (limit : Option ℕ) → is_stopped limit settled.at ≡ false
-            → run limit (stream.rest ++ more) settled.at ≡ run limit (drop read.0 stream.rest ++ more) (advance settled.at step)
+        goes : (more : List ℕ) (limit : Option ℕ) → is_stopped limit after_turns.at ≡ false
+            → run limit (stream.rest ++ more) after_turns.at ≡ run limit (drop read.0 stream.rest ++ more) (advance after_turns.at step)
         goes = subst
-            (λ (x : List ℕ). (more : List ℕ) (limit : Option ℕ) → is_stopped limit settled.at ≡ false → run limit (stream.rest ++ more) settled.at
-            ≡ run limit (drop read.0 stream.rest ++ more) (advance settled.at (step_on settled.at.setting settled.at.phase settled.at.register (command_of x))))
-            read.2 (leads_frame settled.at stream.rest read.0 taken.done live (limit_front stream (Whole read.0) p.limit read.1))
+            (λ (x : List ℕ). (more : List ℕ) (limit : Option ℕ) → is_stopped limit after_turns.at ≡ false → run limit (stream.rest ++ more) after_turns.at
+            ≡ run limit (drop read.0 stream.rest ++ more) (advance after_turns.at (step_on after_turns.at.setting after_turns.at.phase after_turns.at.register (command_of x))))
+            read.2 (leads_frame after_turns.at stream.rest read.0 taken.done live (limit_front stream (Whole read.0) p.limit read.1))
 
         some : 0 < length stream.rest
         some = told_some stream.rest (Whole read.0) (limit_front stream (Whole read.0) p.limit read.1) tt
@@ -146,8 +148,8 @@ module _ (k : Course) (s : List ℕ) (stream : Stream) (seen0 : Seen) (first old
             → IsPumping k s after next first z
         obeyed next z made =
             subst (λ (x : Stream). IsPumping k s x next first z) (sym (left ∙ read.3)) (record {
-              come = step_made k s stream.rest (drop read.0 stream.rest) seen first mid settled step proceeds goes (take read.0 stream.rest) (cut read.0 stream.rest) some next z
-                  (made (settled.went.stands stood) settled.at live settled.now);
+              come = step_made k s stream.rest (drop read.0 stream.rest) seen first mid after_turns step proceeds goes (take read.0 stream.rest) (cut read.0 stream.rest) some next z
+                  (made (after_turns.went.stands stood) after_turns.at live after_turns.now);
               limit = p.limit;
               told = p.told;
             })
@@ -159,8 +161,8 @@ module _ (k : Course) (s : List ℕ) (stream : Stream) (seen0 : Seen) (first old
             → result ≡ Err f → Pumped k s after next first z result
         obey_fails next z f result fails same =
             subst (Pumped k s after next first z) (sym same)
-            (step_failed k s stream.rest (drop read.0 stream.rest) seen first mid settled step proceeds goes (take read.0 stream.rest) (cut read.0 stream.rest) some z f
-            (fails (settled.went.stands stood) settled.at live settled.now))
+            (step_failed k s stream.rest (drop read.0 stream.rest) seen first mid after_turns step proceeds goes (take read.0 stream.rest) (cut read.0 stream.rest) some z f
+            (fails (after_turns.went.stands stood) after_turns.at live after_turns.now))
 
       -- there was no header where one is expected
       module _ {T : Type 0} (x : FrameFault) (e : Err x ≡ next_of stream stream.told) (next : Seen) (z : Scene) (refused : Result T RunFault)
@@ -168,30 +170,30 @@ module _ (k : Course) (s : List ℕ) (stream : Stream) (seen0 : Seen) (first old
         abbrev bad : (front stream.limit stream.rest ≡ Bad x) × (left_of stream stream.told ≡ with_fault stream x)
         bad = next_err stream x p.told (sym e)
 
-        bad_proceeds : Suits settled.at.phase settled.at.register → Proceeds settled.at.register (fails ProtocolViolation)
-        bad_proceeds = fails_proceed settled.at.phase settled.at.register ProtocolViolation
+        bad_proceeds : Suits after_turns.at.phase after_turns.at.register → Proceeds after_turns.at.register (fails ProtocolViolation)
+        bad_proceeds = fails_proceed after_turns.at.phase after_turns.at.register ProtocolViolation
 
-        bad_goes : (more : List ℕ) (limit : Option ℕ) → is_stopped limit settled.at ≡ false
-            → run limit (stream.rest ++ more) settled.at ≡ run limit (stream.rest ++ more) (advance settled.at (fails ProtocolViolation))
-        bad_goes = leads_bad settled.at stream.rest x taken.done live (limit_front stream (Bad x) p.limit bad.0)
+        bad_goes : (more : List ℕ) (limit : Option ℕ) → is_stopped limit after_turns.at ≡ false
+            → run limit (stream.rest ++ more) after_turns.at ≡ run limit (stream.rest ++ more) (advance after_turns.at (fails ProtocolViolation))
+        bad_goes = leads_bad after_turns.at stream.rest x taken.done live (limit_front stream (Bad x) p.limit bad.0)
 
         bad_some : 0 < length stream.rest
         bad_some = told_some stream.rest (Bad x) (limit_front stream (Bad x) p.limit bad.0) tt
 
-        abbrev step_now : Stepped settled.at (fails ProtocolViolation) next mid z refused
-        step_now = stepped settled.at settled.now
+        abbrev step_now : Stepped after_turns.at (fails ProtocolViolation) next mid z refused
+        step_now = stepped after_turns.at after_turns.now
 
         -- the session was ended
         pub refused_bad : (v : T) → refused ≡ Ok v → IsOver k s after.rest next first z (Own ProtocolViolation)
         refused_bad v ok =
-            let made = ok_at settled.at (fails ProtocolViolation) next mid z refused v step_now ok in
-            let come = step_made k s stream.rest stream.rest seen first mid settled (fails ProtocolViolation) bad_proceeds bad_goes [] refl bad_some next z made in
+            let made = ok_at after_turns.at (fails ProtocolViolation) next mid z refused v step_now ok in
+            let come = step_made k s stream.rest stream.rest seen first mid after_turns (fails ProtocolViolation) bad_proceeds bad_goes [] refl bad_some next z made in
             subst (λ (t : Stream). IsOver k s t.rest next first z (Own ProtocolViolation)) (sym (left ∙ bad.1))
-            (record { come = come; ends = over_after settled.at ProtocolViolation })
+            (record { come = come; ends = over_after after_turns.at ProtocolViolation })
 
         -- the writer returned an error within the ESID
         pub refuse_fails : (f : RunFault) (result : Result (Option Ending) RunFault) → refused ≡ Err f → result ≡ Err f → Pumped k s after next first z result
         refuse_fails f result failed same =
             subst (Pumped k s after next first z) (sym same)
-            (step_failed k s stream.rest stream.rest seen first mid settled (fails ProtocolViolation) bad_proceeds bad_goes [] refl bad_some z f
-            (err_at settled.at (fails ProtocolViolation) next mid z refused f step_now failed))
+            (step_failed k s stream.rest stream.rest seen first mid after_turns (fails ProtocolViolation) bad_proceeds bad_goes [] refl bad_some z f
+            (err_at after_turns.at (fails ProtocolViolation) next mid z refused f step_now failed))

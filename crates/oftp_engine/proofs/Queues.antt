@@ -28,6 +28,7 @@ use Rattle.oftp_session.specs.Phases.{Phase, Step, esid_of, frame_of, is_over}
 use Rattle.oftp_session.specs.Settings.{Setting}
 use Rattle.oftp_session.specs.Steps.{opening}
 use Rattle.oftp_session.proofs.Phases.{opening_suits}
+use Rattle.oftp_engine.specs.declared.conversation.TheConstants.{LONGEST_FRAME}
 use Rattle.oftp_engine.specs.Frames.{over_commands}
 use Rattle.oftp_engine.specs.Queues.{AreHeard, IsQueue, IsSayable, QueuesAreHeard, RunsAreHeard, RunsSayCommands, RunsSayQueues, SaysQueues, as_read, in_frames, over_queue}
 use Rattle.oftp_engine.specs.Ranges.{IsSpellable, RangesAreKept, StartsInRange}
@@ -90,20 +91,20 @@ record Cut (said : List Command) (octets : List ℕ) : Type 0 where
   rest : List ℕ
   all : said ≡ heard ++ lost
   whole : octets ≡ flat_map frame (map Canon heard) ++ rest
-  each : AllByRecursion (IsCommand 100003) (map Canon heard)
-  waits : front 100003 rest ≡ Waits
-  fine : rest_fault 100003 rest ≡ None
+  each : AllByRecursion (IsCommand LONGEST_FRAME) (map Canon heard)
+  waits : front LONGEST_FRAME rest ≡ Waits
+  fine : rest_fault LONGEST_FRAME rest ≡ None
   same : as_read heard ≡ map Ok heard
 
-spoken : (m : Command) → IsSayable m → IsCommand 100003 (Canon m)
+spoken : (m : Command) → IsSayable m → IsCommand LONGEST_FRAME (Canon m)
 spoken m h = (canon_some m, h.1)
 
 cut_short : (m : Command) (ms : List Command) (octets lost : List ℕ) → IsSayable m
     → frame_of m ++ flat_map frame_of ms ≡ octets ++ lost → length octets < length (Canon m) + 4 → Cut (m ∷ ms) octets
 unfolding frame_of
 cut_short m ms octets lost fit e short =
-    let here : front 100003 (octets ++ lost) ≡ Whole (length (Canon m) + 4) = ap (front 100003) (sym e) ∙ front_frame 100003 (Canon m) (flat_map frame_of ms) (spoken m fit) in
-    let cut = front_cut 100003 (length (Canon m) + 4) octets lost here short in
+    let here : front LONGEST_FRAME (octets ++ lost) ≡ Whole (length (Canon m) + 4) = ap (front LONGEST_FRAME) (sym e) ∙ front_frame LONGEST_FRAME (Canon m) (flat_map frame_of ms) (spoken m fit) in
+    let cut = front_cut LONGEST_FRAME (length (Canon m) + 4) octets lost here short in
     record { heard = []; lost = m ∷ ms; rest = octets; all = refl; whole = refl; each = tt; waits = cut.0; fine = cut.1; same = refl }
 
 with_first : (m : Command) (ms : List Command) (octets lost : List ℕ) → IsSayable m
@@ -177,15 +178,15 @@ over_heard limit (m ∷ ms) c same =
 pub queues_are_heard : QueuesAreHeard
 queues_are_heard said octets lost each e =
     let cut = cut_of said octets lost each e in
-    let front : Front 100003 octets (map Canon cut.heard) cut.rest = record { whole = cut.whole; each = cut.each; last = none_waits 100003 cut.rest cut.waits } in
+    let front : Front LONGEST_FRAME octets (map Canon cut.heard) cut.rest = record { whole = cut.whole; each = cut.each; last = none_waits LONGEST_FRAME cut.rest cut.waits } in
     record {
       heard = cut.heard;
       lost = cut.lost;
       all = cut.all;
       frames = record { rest = cut.rest; front = front; fault_is = cut.fine };
       alone = λ commands fault reads.
-          let one = one_front 100003 octets commands (map Canon cut.heard) reads.rest cut.rest reads.front front in
-          (one.0, sym reads.fault_is ∙ ap (rest_fault 100003) one.1 ∙ cut.fine);
+          let one = one_front LONGEST_FRAME octets commands (map Canon cut.heard) reads.rest cut.rest reads.front front in
+          (one.0, sym reads.fault_is ∙ ap (rest_fault LONGEST_FRAME) one.1 ∙ cut.fine);
       same = cut.same;
       session = λ limit c. ap (λ (x : List ℕ). run limit x c) cut.whole ∙ folds limit (map Canon cut.heard) cut.rest None c cut.each cut.waits ∙ over_heard limit cut.heard c cut.same;
     }

@@ -6,6 +6,7 @@ use Rattle.oftp_session.specs.Phases.{ending_of, is_over}
 use Rattle.oftp_session.specs.Calls.{Seen}
 use Rattle.oftp_session.specs.Settings.{Setting}
 use Rattle.oftp_session.specs.declared.session.Ending.{Ending}
+use Rattle.oftp_engine.specs.declared.conversation.TheConstants.{LONGEST_FRAME}
 use Rattle.oftp_engine.specs.declared.serving.RunFault.{RunFault}
 use Rattle.oftp_engine.specs.Runs.{Course, started}
 use Rattle.oftp_engine.specs.Serving.{Scene}
@@ -27,7 +28,7 @@ module _ {setting : Setting} {given : List ℕ} {before stream : Stream} {seen0 
   -- by the contracts of an office
   pub has_pumped : {answer : Result (Option Ending) RunFault} → HasHeard setting given (record { seen = seen0; stream = before }) first old
       → (new.office.stands → Only new.office.register new.office)
-      → (old.office.stands → (c : Course) → before.limit ≡ 100003 → before.told ≡ None → IsAt c seen0 old → Pumped c before.rest stream seen old new answer)
+      → (old.office.stands → (c : Course) → before.limit ≡ LONGEST_FRAME → before.told ≡ None → IsAt c seen0 old → Pumped c before.rest stream seen old new answer)
       → HasPumped setting given before stream seen0 seen first old new answer
   has_pumped h alone steps = record {
     heard = h;

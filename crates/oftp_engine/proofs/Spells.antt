@@ -17,6 +17,7 @@ use Rattle.oftp_partners.specs.Book.{IsBook, IsPartner}
 use Rattle.oftp_partners.specs.Fields.{IsBufferSize}
 use Rattle.oftp_partners.specs.declared.partner.Partner.{Partner}
 use Rattle.oftp_vfile.specs.declared.format.TakeFault.{TakeFault}
+use Rattle.oftp_vfile.specs.declared.format.TheConstants.{MOST_ROWS}
 use Rattle.oftp_vfile.specs.Carries.{is_open}
 use Rattle.oftp_vfile.specs.Fill.{records_of}
 use Rattle.oftp_vfile.specs.Reading.{taken}
@@ -160,7 +161,7 @@ response_spells setting contact r response =
     (record { said = rtr_sayable; change = filing_spells r response }) (fails_spells InvalidData)
 
 -- a file goes on after no more rows than it may have
-count_few : (setting : Setting) (contact : Contact) (r : Register) (sfid : Sfid) (count : ℕ) → IsSound r → verdict_on setting contact r sfid ≡ start.Accept count → count ≤ 1000000
+count_few : (setting : Setting) (contact : Contact) (r : Register) (sfid : Sfid) (count : ℕ) → IsSound r → verdict_on setting contact r sfid ≡ start.Accept count → count ≤ MOST_ROWS
 count_few setting contact r sfid count sound h =
     let may = accepted_begins setting contact r sfid count sound h in
     let after = apply_keeps r _ may.after sound may.fit may.made in

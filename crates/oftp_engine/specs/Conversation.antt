@@ -8,6 +8,7 @@ use Rattle.oftp_session.specs.Phases.{ending_of, is_over}
 use Rattle.oftp_session.specs.Settings.{Setting}
 use Rattle.oftp_session.specs.Steps.{opening}
 use Rattle.oftp_session.specs.declared.session.Ending.{Ending}
+use Rattle.oftp_engine.specs.declared.conversation.TheConstants.{LONGEST_FRAME}
 use Rattle.oftp_engine.specs.declared.serving.RunFault.{RunFault}
 use Rattle.oftp_engine.specs.declared.serving.RunFault.TheVariants as fault
 use Rattle.oftp_engine.specs.Runs.{started}
@@ -25,7 +26,7 @@ pub record IsFresh (setting' : Setting) (talk : Dialogue) : Type 0 where
   pub setting : talk.seen.setting ≡ setting'
   pub stands : Stands (opening setting'.called) talk.seen
   pub rest : talk.stream.rest ≡ []
-  pub limit : talk.stream.limit ≡ 100003
+  pub limit : talk.stream.limit ≡ LONGEST_FRAME
   pub told : talk.stream.told ≡ None
 
 -- it heard these octets, and nothing else of it changed
@@ -41,7 +42,7 @@ pub record HasHeard (setting : Setting) (given : List ℕ) (talk : Dialogue) (fi
   pub sound : IsSound first.office.register
   pub stood : first.office.stands
   pub come : Comes (started setting first.office.register) given talk.stream.rest talk.seen first now
-  pub limit : talk.stream.limit ≡ 100003
+  pub limit : talk.stream.limit ≡ LONGEST_FRAME
   pub told : talk.stream.told ≡ None
 
 -- It waits for more octets. All outputs of the session over these octets are out, the register is that session's, and a crash leaves this

@@ -8,6 +8,7 @@ use Rattle.oftp_session.specs.Calls.{Proceeds, Seen}
 use Rattle.oftp_session.specs.declared.session.Ending.{Ending}
 use Rattle.oftp_session.specs.declared.session.SessionFault.{SessionFault}
 use Rattle.oftp_session.specs.declared.session.SessionFault.TheVariants as session
+use Rattle.oftp_engine.specs.declared.conversation.TheConstants.{LONGEST_FRAME}
 use Rattle.oftp_engine.specs.Runs.{Course, run, is_stopped, advance, octets_of}
 use Rattle.oftp_io.specs.declared.port.Port.{Port}
 use Rattle.oftp_io.specs.Ports.{Sent}
@@ -150,8 +151,8 @@ pub record IsWaiting (c : Course) (s : List ℕ) (stream : Stream) (seen : Seen)
   pub come : Comes c s stream.rest seen old new
   pub turn : has_turn come.at.phase ≡ false
   pub over : is_over come.at.phase ≡ false
-  pub waits : front 100003 stream.rest ≡ Waits
-  pub limit : stream.limit ≡ 100003
+  pub waits : front LONGEST_FRAME stream.rest ≡ Waits
+  pub limit : stream.limit ≡ LONGEST_FRAME
   pub told : stream.told ≡ None
 
 abbrev pub Pumped : Course → List ℕ → Stream → Seen → Scene → Scene → Result (Option Ending) RunFault → Type 0

@@ -22,6 +22,7 @@ use Rattle.oftp_session.specs.Settings.{Setting}
 use Rattle.oftp_session.specs.Phases.{Phase, ListenerIdle, Receiving, is_over}
 use Rattle.oftp_session.specs.Receiving.{offered_identity}
 use Rattle.oftp_session.specs.Calls.{Makes}
+use Rattle.oftp_engine.specs.declared.conversation.TheConstants.{LONGEST_FRAME}
 use Rattle.oftp_engine.specs.declared.operating.Operator.{Operator}
 use Rattle.oftp_engine.specs.Runs.{Course, came_in, is_stopped, run, settled, started}
 use Rattle.oftp_engine.specs.Operating.{Deed, IsDeed}
@@ -93,7 +94,7 @@ pub record BringsParts (file : File) (identity : Identity) (session : SessionDat
   pub octets : All (λ octet. octet < 256) session.stream
   pub commands : List (List ℕ)
   pub fault : Option FrameFault
-  pub reads : Reads 100003 session.stream commands fault
+  pub reads : Reads LONGEST_FRAME session.stream commands fault
   pub parts : AreParts file identity session.limit commands (started session.setting r)
 
 -- a register that a session may leave, which is the one after a prefix of its changes, for it may stop anywhere

@@ -12,13 +12,14 @@ use Rattle.oftp_register.specs.Register.{Register}
 use Rattle.oftp_session.specs.Settings.{Setting}
 use Rattle.oftp_session.specs.Phases.{esid_of, frame_of, is_over}
 use Rattle.oftp_session.specs.Steps.{came}
+use Rattle.oftp_engine.specs.declared.conversation.TheConstants.{LONGEST_FRAME}
 use Rattle.oftp_engine.specs.Ranges.{StartsInRange}
 use Rattle.oftp_engine.specs.Runs.{Course, Output, advance, is_stopped, octets_of, run, settled, started}
 use Rattle.oftp_engine.specs.Serving.{last_frame}
 
 -- a command that a frame can hold: each field is in its range, and the frame isn't too long
 abbrev pub IsSayable : Command → Type 0
-IsSayable command = IsFit command × (length (Canon command) + 4 ≤ 100003)
+IsSayable command = IsFit command × (length (Canon command) + 4 ≤ LONGEST_FRAME)
 
 -- commands as octets: their frames, one after another
 abbrev pub in_frames : List Command → List ℕ
@@ -41,8 +42,8 @@ pub record IsHeard (said : List Command) (octets : List ℕ) : Type 0 where
   pub heard : List Command
   pub lost : List Command
   pub all : said ≡ heard ++ lost
-  pub frames : Reads 100003 octets (map Canon heard) None
-  pub alone : (commands : List (List ℕ)) (fault : Option FrameFault) → Reads 100003 octets commands fault → (commands ≡ map Canon heard) × (fault ≡ None)
+  pub frames : Reads LONGEST_FRAME octets (map Canon heard) None
+  pub alone : (commands : List (List ℕ)) (fault : Option FrameFault) → Reads LONGEST_FRAME octets commands fault → (commands ≡ map Canon heard) × (fault ≡ None)
   pub same : as_read heard ≡ map Ok heard
   pub session : (limit : Option ℕ) (c : Course) → run limit octets c ≡ over_queue limit heard c
 

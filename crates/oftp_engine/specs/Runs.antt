@@ -15,6 +15,7 @@ use Rattle.oftp_session.specs.Phases.{Phase, Step, ending_of, fails, frame_of, i
 use Rattle.oftp_session.specs.Steps.{has_turn, turned, turns_due, came, opening}
 use Rattle.oftp_session.specs.declared.session.Ending.{Ending}
 use Rattle.oftp_session.specs.declared.session.Ending.TheVariants as ended
+use Rattle.oftp_engine.specs.declared.conversation.TheConstants.{LONGEST_FRAME}
 use Rattle.oftp_engine.specs.declared.serving.End.{End}
 use Rattle.oftp_engine.specs.declared.serving.End.TheVariants.{Own, Partner, Input}
 
@@ -94,7 +95,7 @@ on_front go_on s c Waits = c
 on_front go_on s c (Bad fault) = advance c (fails ProtocolViolation)
 
 unfoldable pub next_in : Option ℕ → (List ℕ → Course → Course) → List ℕ → Course → Course
-next_in limit go_on s c = if is_over c.phase || is_stopped limit c then c else on_front go_on s c (front 100003 s)
+next_in limit go_on s c = if is_over c.phase || is_stopped limit c then c else on_front go_on s c (front LONGEST_FRAME s)
 
 -- the turns that are due, then the next command, and so on
 unfoldable pub run_by : ℕ → Option ℕ → List ℕ → Course → Course

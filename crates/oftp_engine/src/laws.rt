@@ -3,6 +3,7 @@
 ghost use Rattle.std.specs.Prelude.{◌≡◌, ◌<◌, ◌++◌, ℕ, [], All, List, Option, Ok};
 ghost use Rattle.oftp_wire.specs.declared.frame_fault.FrameFault.{FrameFault};
 ghost use Rattle.oftp_wire.specs.Stream.{Reads};
+ghost use Rattle.oftp_engine.specs.declared.conversation.TheConstants.{LONGEST_FRAME};
 ghost use Rattle.oftp_engine.specs.Conversation.{Dialogue, HasHeard, HeardMore, IsFresh, Listens, ShowsSame};
 ghost use Rattle.oftp_engine.specs.Events.{DeedsAreOrders, StopsLeavePrefixes};
 ghost use Rattle.oftp_engine.specs.Frames.{over_commands};
@@ -27,10 +28,11 @@ use oftp_io::Port;
 use oftp_register::Office;
 use std::io::{Read, Write};
 
-/// A run over the octets of a stream is the fold over the commands in its frames, with the error after them.
+/// A run over the octets of a stream is the fold over the commands in its frames, with the error after them. The function does nothing; its
+/// contract is the theorem.
 pub fn folds_over_frames()
     ensures { (limit : Option ℕ) (stream : List ℕ) (commands : List (List ℕ)) (fault : Option FrameFault) (c : Course)
-        → All (λ octet. octet < 256) stream → Reads 100003 stream commands fault
+        → All (λ octet. octet < 256) stream → Reads LONGEST_FRAME stream commands fault
         → run limit stream c ≡ over_commands limit commands fault c }
 {}
 
@@ -78,7 +80,7 @@ pub fn conversations_hear_pieces<O: Office, W: Write>()
         → Listens setting given talk (scene W.contents (O.view first) front) (scene W.contents (O.view later) here) }
 {}
 
-/// All changes of a run from a sound register are made, one after another.
+/// All changes of a run from a sound register are made, one after another. The function does nothing; its contract is the theorem.
 pub fn changes_are_made()
     ensures { (limit : Option ℕ) (setting : Setting) (given : List ℕ) (r : Register) → IsSound r
         → apply_all r (run limit given (started setting r)).changes ≡ Ok (run limit given (started setting r)).register }
@@ -111,7 +113,9 @@ pub fn lists_grow<O: Office, R: Read, W: Write>()
         ≡ Ok (O.view now).register }
 {}
 
-/// The same for one session, after each of its changes. The function does nothing; its contract is the theorem.
+/// One session brings parts of a file, and may break anywhere. After each of its changes the register has nothing of the file, or a
+/// beginning, or the file as one transfer gives it. [`jobs_make_the_file`](crate::jobs_make_the_file) says the same of any sessions and
+/// calls. The function does nothing; its contract is the theorem.
 pub fn parts_make_the_file()
     ensures { PartsMakeTheFile }
 {}

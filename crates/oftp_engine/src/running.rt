@@ -138,7 +138,7 @@ fn do_job<O: Office, R: Read, W: Write>(
 ///
 /// # Errors
 ///
-/// Those of [`run`].
+/// Those of [`run`], with what they leave.
 pub fn do_next<O: Office, R: Read, W: Write>(
     alloc: Global,
     office: &mut O,

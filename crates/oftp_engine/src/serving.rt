@@ -8,6 +8,7 @@ ghost use Rattle.oftp_session.specs.Steps.{came, has_turn, opening, turned};
 ghost use Rattle.oftp_session.specs.Calls.{IsFailure, Stands, said};
 ghost use Rattle.oftp_session.specs.Standings.{Broken, is_closed, is_due, is_sending, turns_left};
 ghost use Rattle.oftp_io.specs.Ports.{Sent, Puts};
+ghost use Rattle.oftp_engine.specs.declared.conversation.TheConstants.{LONGEST_FRAME};
 ghost use Rattle.oftp_engine.specs.Runs.{Course, ended_as, step_on};
 ghost use Rattle.oftp_engine.specs.Served.{Gave, InputEnded, ReaderTold, Serves, setting_of, WriterErr, WriterTold};
 ghost use Rattle.oftp_engine.specs.Serving.{scene};
@@ -27,7 +28,7 @@ use std::io::{Read, Write};
 /// The number of octets that one read asks for.
 const PIECE: usize = 4096;
 
-/// How a session ended.
+/// How a session ended (RFC 5024, section 5.3.11).
 #[derive(Clone, Copy, Debug, Drop, PartialEq, Eq)]
 pub enum End {
     /// The station sent ESID with this reason.
@@ -49,7 +50,7 @@ impl From<Ending> for End {
     }
 }
 
-/// Which side calls.
+/// Which side calls (RFC 5024, section 4.2.1).
 #[derive(Clone, Copy, Drop)]
 pub enum Role<'b> {
     /// A partner calls the station.
@@ -268,7 +269,7 @@ pub(crate) fn pump<O: Office, W: Write>(
     requires { session.old.standing ≢ Broken }
     ensures clean { (O.view office.new).clean → (O.view office.old).clean }
     ensures own { IfErr result IsOwn }
-    ensures steps { (O.view office.new).clean → (O.view office.old).stands → (c : Course) → stream.old.limit ≡ 100003 → stream.old.told ≡ None
+    ensures steps { (O.view office.new).clean → (O.view office.old).stands → (c : Course) → stream.old.limit ≡ LONGEST_FRAME → stream.old.told ≡ None
         → IsAt c session.old (scene W.contents (O.view office.old) writer.old)
         → Pumped c stream.old.rest stream.new session.new
         (scene W.contents (O.view office.old) writer.old)

@@ -19,7 +19,8 @@ const GROUP: u32 = 0o070;
 /// Creates an empty file for writing. Only its owner may read or write it, whatever the umask is.
 ///
 /// # Errors
-/// The file can't be created. If the path exists already, even as a dangling link, it is left alone and the error is `AlreadyExists`.
+/// The file can't be created. If the path exists already, even as a dangling link, it is left alone and the error is `AlreadyExists`. If
+/// only the permissions can't be set, the empty file stays.
 pub fn make_private(rt: &HostRuntime, path: &str) -> io::Result<File> {
     let file = OpenOptions::new()
         .append(true)

@@ -123,7 +123,7 @@ fn remove_left(rt: &HostRuntime, path: &str) {
     }
 }
 
-/// The path of the write-ahead log of a draft that is a copy of a database.
+/// The path of the write-ahead log of a draft that is a copy of a database: the draft's path with `-wal` behind it.
 ///
 /// # Errors
 /// [`Fault::MEMORY`].
@@ -131,7 +131,7 @@ pub fn log_of(rt: &HostRuntime, path: &str) -> Result<String, Fault> {
     format!(in rt.alloc(); "{path}-wal").map_err(|_| Fault::MEMORY)
 }
 
-/// Removes the write-ahead log of a draft, if there is one.
+/// Removes the write-ahead log of a draft, if there is one. If it can't be removed, it stays.
 pub fn remove_log(rt: &HostRuntime, path: &str) {
     if let Ok(log) = log_of(rt, path) {
         let _ = fs::remove_file(rt, log.as_str());

@@ -11,7 +11,7 @@ use std::rt::Files;
 /// The endings of the files beside a database: its log, those that sqlite3 makes, and the socket of its station.
 const BESIDE: [&str; 4] = ["-wal", "-shm", "-journal", "-station"];
 
-/// The error for a failed file operation. Out of memory isn't an error of the file.
+/// The error for a failed file operation: [`Fault::MEMORY`] if memory ran out, which isn't an error of the file, or [`Fault::File`].
 pub fn file_fault(error: &io::Error) -> Fault {
     if error.kind() == ErrorKind::OutOfMemory {
         Fault::MEMORY

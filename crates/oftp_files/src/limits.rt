@@ -1,9 +1,10 @@
 //! The limits of the program.
 
+use oftp_register::MOST_FILES;
 use oftp_vfile::Limits;
 
-/// The limits of a register: the number of files, and the octets of each.
+/// The limits of a register: as many files as an office may hold, of 64 MiB each.
 pub const LIMITS: Limits = Limits {
-    files: 1_000_000,
+    files: MOST_FILES,
     octets: 67_108_864,
 };

@@ -91,8 +91,8 @@ pub fn draft_of(rt: &HostRuntime, name: &Name) -> Result<Draft, Fault> {
 /// Gives a written draft its name, and syncs the file and its folder. A draft whose writing failed is removed.
 ///
 /// # Errors
-/// The error of the writing; or [`Fault::File`] if the draft can't be synced or renamed. The draft is removed then. If only the folder
-/// can't be synced, the file has its name already.
+/// The error of the writing; or [`Fault::File`] if the draft can't get its permissions, be synced or be renamed; or [`Fault::MEMORY`]. The
+/// draft is removed then. If only the folder can't be synced, the file has its name already.
 pub fn settle(
     rt: &HostRuntime,
     draft: Draft,

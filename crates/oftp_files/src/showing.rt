@@ -13,7 +13,8 @@ const PIECE: usize = 4_096;
 /// Writes a line for each command in a file, up to the first fault. Returns whether there was no fault.
 ///
 /// # Errors
-/// [`Fault::File`] if the file can't be read; [`RunFault::Write`] if `out` returned an error; [`Fault::MEMORY`].
+/// [`Fault::File`] if the file can't be read; [`Fault::Run`] with [`RunFault::Write`] if `out` returned an error; [`Fault::MEMORY`]. The
+/// lines before it are written.
 pub fn show(rt: &HostRuntime, input: &str, out: &mut impl Write) -> Result<bool, Fault> {
     let mut input = open_input(rt, input)?;
     let mut transcript = Transcript::new(rt.alloc());

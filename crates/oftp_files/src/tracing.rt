@@ -65,12 +65,12 @@ impl<'a> Trace<'a> {
         }
     }
 
-    /// Appends lines that have their times already.
+    /// Appends lines that have their times already. They are lost if they can't be written.
     pub fn append(&self, lines: &[u8]) {
         self.put(lines)
     }
 
-    /// Appends the line for the end of a session.
+    /// Appends the line for the end of a session, or for the error that ended it, as [`Trace::tell`] does.
     pub fn tell_end(&self, ended: &Result<End, Fault>) {
         match ended {
             Ok(end) => self.tell(&Outcome::Ended(*end)),
@@ -78,7 +78,7 @@ impl<'a> Trace<'a> {
         }
     }
 
-    /// Appends a line with the time. It is lost if the clock fails or memory runs out.
+    /// Appends a line with the time. It is lost if the clock fails, memory runs out or it can't be written.
     pub fn tell<L: fmt::Display>(&self, line: &L) {
         if let Some(time) = self.time() {
             if let Ok(text) = format!(in self.rt.alloc(); "{time} {line}\n") {
@@ -112,7 +112,8 @@ fn keep(alloc: Global, kept: &RefCell<Vec<u8>>, lines: &[u8]) {
     }
 }
 
-/// The reader or writer of a session, with the trace of its octets, if there is one.
+/// The reader or writer of a session, with the trace of its octets, if there is one. Once the clock can't be read or memory runs out, the
+/// octets aren't traced any more.
 #[derive(Drop)]
 pub struct Traced<'a, S> {
     stream: S,

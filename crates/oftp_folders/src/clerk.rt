@@ -18,13 +18,13 @@ pub trait Clerk {
     /// The text of a report.
     ///
     /// # Errors
-    /// The office failed, or the station is gone; out of memory.
+    /// [`Fault::Run`] if the office failed or the station is gone; [`Fault::MEMORY`].
     fn report(&mut self, kind: ReportKind) -> Result<String, Fault>;
 
     /// Writes the incoming file with a number to a path that doesn't exist.
     ///
     /// # Errors
-    /// Those of [`Clerk::report`], and that the file can't be created. Nothing is at the path then.
+    /// Those of [`Clerk::report`], and [`Fault::File`] if the file can't be created. At the path is nothing then, or the whole file.
     fn fetch(&mut self, no: u64, path: &str) -> Result<Completion, Fault>;
 
     /// Issues the End-to-End Response of the incoming file with a number.

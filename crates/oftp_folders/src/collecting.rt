@@ -16,8 +16,9 @@ const ANSWERED: &str = "refused: 3 state";
 /// released. Returns whether none was refused.
 ///
 /// # Errors
-/// Those of the clerk, that a file can't be created or the folder synced, or that `out` returned an error. What was written and released so
-/// far stays, and the next call continues there.
+/// Those of the clerk; [`Fault::File`] if a file can't be created, something else has its name, or the folder can't be synced;
+/// [`Fault::Run`] if `out` returned an error; [`Fault::MEMORY`]. What was written and released so far stays, and the next call continues
+/// there.
 pub fn collect<D: Clerk + Drop>(
     rt: &HostRuntime,
     line: &Collect<'_>,

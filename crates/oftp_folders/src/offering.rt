@@ -24,8 +24,8 @@ const MOST_MOMENTS: u32 = 1_000_001;
 /// none was refused.
 ///
 /// # Errors
-/// Those of the clerk, that a file can't be moved or a folder synced, or that `out` returned an error. Taken files stay taken, and the next
-/// call continues with them.
+/// Those of the clerk; [`Fault::File`] if a folder can't be read or synced, or a file can't be moved; [`Fault::Run`] if `out` returned an
+/// error; [`Fault::MEMORY`]. Taken files stay taken, and the next call continues with them.
 pub fn offer<D: Clerk + Drop>(
     rt: &HostRuntime,
     line: &Offer<'_>,

@@ -9,8 +9,10 @@ use std::os::unix::fs::MetadataExt;
 /// A tick in nanoseconds: a time has four digits after its seconds.
 const TICK: i64 = 100_000;
 
-/// How many ticks a second has.
-const TICKS: i64 = 10_000;
+/// The ticks of a second. They are the standard's counter, which begins at 1 (RFC 5024, section 5.3.3).
+const FIRST_TICK: i64 = 1;
+
+const LAST_TICK: i64 = 9_999;
 
 /// The first second that isn't accepted: the last that jiff can represent, on 30 December 9999.
 const LAST: i64 = 253_402_207_200;
@@ -30,25 +32,28 @@ impl Moment {
     pub(super) fn of(about: &Metadata) -> Moment {
         let second = about.mtime();
         if (0..LAST).contains(&second) {
-            let tick = (about.mtime_nsec() / TICK).clamp(0, TICKS - 1);
+            let tick = (about.mtime_nsec() / TICK).clamp(FIRST_TICK, LAST_TICK);
             Moment { second, tick }
         } else {
-            Moment { second: 0, tick: 0 }
+            Moment::begin(0)
         }
+    }
+
+    /// The beginning of a second.
+    fn begin(second: i64) -> Moment {
+        let tick = FIRST_TICK;
+        Moment { second, tick }
     }
 
     /// The time one tick later.
     pub(super) fn next(self) -> Moment {
-        if self.tick < TICKS - 1 {
+        if self.tick < LAST_TICK {
             Moment {
                 second: self.second,
                 tick: self.tick.saturating_add(1),
             }
         } else {
-            Moment {
-                second: self.second.saturating_add(1),
-                tick: 0,
-            }
+            Moment::begin(self.second.saturating_add(1))
         }
     }
 

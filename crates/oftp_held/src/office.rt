@@ -25,10 +25,12 @@ pub trait HeldOffice {
     /// Does an operation on the office.
     fn run<E: Errand>(&mut self, errand: E) -> E::Outcome;
 
-    /// Continues a conversation as far as its octets allow. Returns how it ended, if it did. It must not be called after an error.
+    /// Continues a conversation as far as its octets allow, as [`Conversation::go_on`] does. Returns how it ended, or `None` where it waits
+    /// for more octets. It must not be called after an error.
     ///
     /// # Errors
-    /// The output can't be written, the office failed, or out of memory.
+    /// Those of [`Conversation::go_on`]: [`RunFault::Write`] if the output can't be written, [`RunFault::Office`] if the office failed, or
+    /// [`RunFault::Memory`].
     fn go_on<W: Write>(
         &mut self,
         conversation: &mut Conversation<'_>,
@@ -37,10 +39,10 @@ pub trait HeldOffice {
         requires { conversation.old.seen.standing ≢ Broken }
         ensures { OnOk result (conversation.new.seen.standing ≢ Broken) };
 
-    /// Does the next job of a growing list.
+    /// Does the next job of a growing list, and stores the job's result in it.
     ///
     /// # Errors
-    /// The office failed, or out of memory.
+    /// [`RunFault::Office`] if the office failed, or [`RunFault::Memory`]. The list ends there.
     fn do_next<R: Read, W: Write>(
         &mut self,
         alloc: Global,

@@ -16,7 +16,7 @@ pub struct Port<X> {
 }
 
 impl<X> Port<X> {
-    /// The port of a reader or a writer. A reader gives at most `most` octets, and then its end.
+    /// The port of a reader or a writer. A reader gives at most `most` octets, and then its end. For a writer `most` means nothing.
     pub fn new(inner: X, most: u64) -> Port<X>
         ensures { result ≡ record { inner = inner; most = most; moved = 0; faults = 0; ended = false } }
     {
@@ -29,14 +29,14 @@ impl<X> Port<X> {
         }
     }
 
-    /// How many octets it gave or took.
+    /// How many octets it gave or took, modulo 2^64.
     pub fn moved(&self) -> u64
         ensures { result ≡ self.now.moved }
     {
         self.moved
     }
 
-    /// How many errors it returned. A write that takes no octet of a slice that isn't empty counts as one.
+    /// How many errors it returned, modulo 2^64. A write that takes no octet of a slice that isn't empty counts as one.
     pub fn faults(&self) -> u64
         ensures { result ≡ self.now.faults }
     {

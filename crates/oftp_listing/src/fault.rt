@@ -8,7 +8,7 @@ use std::alloc::{AllocError, AllocFailed};
 use std::error::Error;
 use std::fmt;
 
-/// Why there is no reply, or no report.
+/// Why there is no reply to a request, or no report.
 #[derive(Clone, Copy, Debug, Drop, PartialEq, Eq)]
 pub enum ListFault {
     /// The head of the request is incomplete.

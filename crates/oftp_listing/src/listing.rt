@@ -172,7 +172,8 @@ fn serve<O: Office>(
     }
 }
 
-/// The reply to a request, from the register of the office. The octets are the head and perhaps more. The office is only read.
+/// The reply to an HTTP request, from the register of the office. The octets are the head and perhaps more. The office is only read, also
+/// where the call returns an error.
 ///
 /// - 400: the head isn't accepted or has more than 64 fields, or there are more than 8,192 octets.
 /// - 404: the target isn't a route, or its number isn't that of an entry.

@@ -84,7 +84,7 @@ pub enum Outcome {
 }
 
 impl Outcome {
-    /// Whether the command was refused.
+    /// Whether the command was refused: [`Outcome::Unknown`] or [`Outcome::WrongState`].
     pub fn is_refusal(&self) -> bool
         ensures { result ≡ is_refusal self.now }
     {
@@ -159,7 +159,11 @@ impl fmt::Display for Carried<'_> {
     }
 }
 
-/// Writes a line and flushes it, so that readers of the output get it at once. Any error is [`RunFault::Write`].
+/// Writes a line and its line end, and flushes the output, so that its readers get the line at once.
+///
+/// # Errors
+///
+/// [`Fault::Run`] with [`RunFault::Write`]: the output returned an error. It may have the line, or a beginning of it.
 pub fn write_line<L: fmt::Display>(out: &mut impl Write, line: &L) -> Result<(), Fault>
     ensures fails { IfErr result (λ fault. fault ≡ write_fault) }
 {

@@ -15,11 +15,11 @@ IsPassword v = IsName 8 v
 abbrev pub IsAddress : List ℕ → Type 0
 IsAddress v = (1 ≤ length v) × (length v ≤ 255)
 
--- a Data Exchange Buffer size in octets (RFC 5024, section 5.3.2)
+-- the station's Data Exchange Buffer size in octets; RFC 5024 allows 99,999 (section 5.3.2)
 abbrev pub IsBufferSize : ℕ → Type 0
 IsBufferSize n = (128 ≤ n) × (n ≤ 16384)
 
--- a Credit in DATA commands (RFC 5024, section 5.3.2)
+-- the Credit that the station offers, in DATA commands; RFC 5024 allows 999 (section 5.3.2)
 abbrev pub IsCredit : ℕ → Type 0
 IsCredit n = (1 ≤ n) × (n ≤ 99)
 

@@ -49,8 +49,16 @@ fn book_in(alloc: Global, table: &Table) -> Result<Book, BookFault>
 ///
 /// # Errors
 ///
-/// The first fault, in this order: the keys of `station`, the number of partners, then each partner. [`BookFault::Memory`] may come at any
-/// point.
+/// The first fault, in this order:
+///
+/// - [`BookFault::NotToml`]: the text isn't TOML.
+/// - [`BookFault::MissingKey`], [`BookFault::WrongKind`], [`BookFault::BadCode`] or [`BookFault::BadNumber`], of `station` or of one of its
+///   keys.
+/// - [`BookFault::WrongKind`]: the partners aren't an array. Or [`BookFault::TooMany`]: they are more than 1,000.
+/// - The first fault of a partner or of one of its keys: [`BookFault::MissingKey`], [`BookFault::WrongKind`] or [`BookFault::BadCode`], or,
+///   once its code is read, [`BookFault::DuplicateCode`].
+///
+/// [`BookFault::Memory`] may come at any point.
 #[tactic(auto, unfolding(crate::specs::Book::book_of))]
 pub fn read(alloc: Global, text: &str) -> Result<Book, BookFault>
     ensures value { Answers result (book_of text.now) }
@@ -80,8 +88,8 @@ impl Book {
         self.directory.len()
     }
 
-    /// The partner with a code, or `None` where no partner has it. It allocates nothing. It takes a
-    /// logarithmic number of comparisons; no clause says this.
+    /// The partner with a code, or `None` where no partner has it. It allocates nothing. It takes a logarithmic number of comparisons; no
+    /// clause says this.
     pub fn partner(&self, code: &[u8]) -> Option<&Partner>
         ensures value { option_map (λ p. p.now) result ≡ partner_at code.now self.now.partners }
         ensures book { IsBook self.now }

@@ -164,7 +164,7 @@ impl Address {
     }
 }
 
-/// The Data Exchange Buffer size of the station: 128 to 16,384 octets (RFC 5024, section 5.3.2).
+/// The Data Exchange Buffer size of the station: 128 to 16,384 octets. RFC 5024 allows 99,999 (section 5.3.2).
 #[derive(Clone, Copy, Debug, PartialEq, Eq)]
 pub struct BufferSize {
     octets: u16,
@@ -219,7 +219,7 @@ impl BufferSize {
     }
 }
 
-/// The Credit that the station offers: 1 to 99 DATA commands (RFC 5024, section 5.3.2).
+/// The Credit that the station offers: 1 to 99 DATA commands. RFC 5024 allows 999 (section 5.3.2).
 #[derive(Clone, Copy, Debug, PartialEq, Eq)]
 pub struct Credit {
     commands: u8,

@@ -171,7 +171,7 @@ is_closing state = false
 abbrev pub if_allowed : Bool → Outgoing → Result Outgoing Cause
 if_allowed allowed file = if allowed then Ok file else Err State
 
--- this many rows were acknowledged by CDT (RFC 5024, section 5.3.7)
+-- this many rows were wholly sent when CDT came (RFC 5024, section 4.4.1)
 abbrev pub marked : ℕ → Outgoing → Result Outgoing Cause
 marked rows file = if_allowed (is_waiting file.state && nat_le rows (length file.rows)) (record file { mark = rows })
 
@@ -187,7 +187,7 @@ handed file = if_allowed (is_closing file.state) (record file { state = Handed }
 abbrev pub refused : ℕ → Outgoing → Result Outgoing Cause
 refused reason file = if_allowed (is_waiting file.state || is_closing file.state) (record file { state = Refused reason })
 
--- it is sent again from its first row on (RFC 5024, section 5.3.10)
+-- it is sent again from its first row on, after EFNA, or after SFPA where its end was sent (RFC 5024, sections 5.3.4 and 5.3.10)
 abbrev pub reopened : Outgoing → Result Outgoing Cause
 reopened file = if_allowed (is_closing file.state) (record file { state = Waiting; mark = 0 })
 

@@ -28,7 +28,7 @@ pub record Incoming : Type 0 where
   pub rows : List (List ℕ)
   pub response : Option Issued
 
--- A file for a partner. Its mark is the number of rows that were acknowledged by CDT.
+-- A file for a partner. Its mark is the number of rows that were wholly sent when CDT last came.
 pub record Outgoing : Type 0 where
   pub identity : Identity
   pub format : Format

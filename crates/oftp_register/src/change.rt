@@ -92,7 +92,7 @@ pub enum Change<'a> {
         /// The reason text, empty in an End-to-End Response.
         text: Text<'a>,
     },
-    /// Set the mark of an outgoing file: `rows` rows were acknowledged by CDT (RFC 5024, section 5.3.7).
+    /// Set the mark of an outgoing file: `rows` rows were wholly sent when CDT came (RFC 5024, section 4.4.1).
     Mark {
         /// The file's number.
         no: u64,
@@ -109,14 +109,15 @@ pub enum Change<'a> {
         /// The file's number.
         no: u64,
     },
-    /// Record that the partner refuses an outgoing file (RFC 5024, sections 5.3.5 and 5.3.10).
+    /// Record that the partner refuses an outgoing file by SFNA (RFC 5024, section 5.3.5).
     Refuse {
         /// The file's number.
         no: u64,
         /// The reason of the refusal.
         reason: Count<2>,
     },
-    /// Send an outgoing file again from its first row on (RFC 5024, section 5.3.10).
+    /// Send an outgoing file again from its first row on, after EFNA, or after SFPA where its end was sent (RFC 5024, sections 5.3.4 and
+    /// 5.3.10).
     Reopen {
         /// The file's number.
         no: u64,

@@ -67,7 +67,7 @@ pub struct OutgoingEntry {
     pub description: Note,
     /// How many rows it has.
     pub rows: u64,
-    /// Its mark: how many rows were acknowledged by CDT.
+    /// Its mark: how many rows were wholly sent when CDT last came.
     pub mark: u64,
     /// Its state.
     pub state: OutgoingState,

@@ -6,7 +6,7 @@ ghost use Rattle.oftp_register.specs.Register.{same_identity};
 use crate::name::{DigitString, Name};
 use oftp_wire::Count;
 
-/// The identity of a file (RFC 5024, section 5.3.3): its dataset name with date and time, originator and destination.
+/// The identity of a file: its dataset name with date and time (RFC 5024, section 1.5.2), and here also its originator and destination.
 #[derive(Drop)]
 pub struct Identity {
     /// The virtual file's dataset name.

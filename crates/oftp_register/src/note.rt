@@ -23,7 +23,7 @@ impl Model for Note {
 }
 
 impl Note {
-    /// The text in a field.
+    /// The text in a field, copied.
     ///
     /// # Errors
     ///

@@ -51,6 +51,9 @@ impl<T: Drop> From<AllocFailed<T>> for OfficeFault {
 ///
 /// The results hold where the office was open before the call and reads what was written. Both are facts of the contracts that no call can
 /// check. What a crash may leave holds under the same premise, also after an error.
+///
+/// After [`OfficeFault::Store`] or [`OfficeFault::Memory`] the office may no longer be open. If it is, its register is the one before the
+/// call. A look-up never returns [`OfficeFault::Refused`].
 pub trait Office {
     // what contracts see of the office
     ghost view: { Self → View };
@@ -58,54 +61,54 @@ pub trait Office {
     /// The limits of the office. It allocates nothing.
     fn limits(&self) -> Limits
         ensures answer { result ≡ (view self.now).register.limits }
-        // This needs no clean store.
+        // This holds also where the store doesn't read what was written.
         ensures within { (result.files ≤ MOST_FILES) × (result.octets ≤ MOST_OCTETS) };
 
-    /// The incoming file of an identity. The register is unchanged.
+    /// The incoming file of an identity, or `None` where there is none. The register is unchanged.
     ///
     /// # Errors
     ///
-    /// [`OfficeFault::Store`] and [`OfficeFault::Memory`].
+    /// [`OfficeFault::Store`]: the store failed. [`OfficeFault::Memory`]: out of memory.
     fn look_in(&mut self, identity: &Identity) -> Result<Option<IncomingEntry>, OfficeFault>
         ensures looks { LooksUp (λ r found. found ≡ look_in r identity.now) (view self.old) (view self.new) result }
-        // This needs no clean store.
+        // This holds also where the store doesn't read what was written.
         ensures within { IfOk result (λ found. IfSome found IsIncomingWithin) };
 
-    /// The outgoing file of an identity. The register is unchanged.
+    /// The outgoing file of an identity, or `None` where there is none. The register is unchanged.
     ///
     /// # Errors
     ///
-    /// [`OfficeFault::Store`] and [`OfficeFault::Memory`].
+    /// [`OfficeFault::Store`]: the store failed. [`OfficeFault::Memory`]: out of memory.
     fn look_out(&mut self, identity: &Identity) -> Result<Option<OutgoingEntry>, OfficeFault>
         ensures looks { LooksUp (λ r found. found ≡ look_out r identity.now) (view self.old) (view self.new) result }
-        // This needs no clean store.
+        // This holds also where the store doesn't read what was written.
         ensures within { IfOk result (λ found. IfSome found IsOutgoingWithin) };
 
-    /// The incoming file with a number. The register is unchanged.
+    /// The incoming file with a number, or `None` where no file has it. Files are numbered from 1 on. The register is unchanged.
     ///
     /// # Errors
     ///
-    /// [`OfficeFault::Store`] and [`OfficeFault::Memory`].
+    /// [`OfficeFault::Store`]: the store failed. [`OfficeFault::Memory`]: out of memory.
     fn in_by_no(&mut self, no: u64) -> Result<Option<IncomingEntry>, OfficeFault>
         ensures looks { LooksUp (λ r found. found ≡ in_by_no r no) (view self.old) (view self.new) result }
-        // This needs no clean store.
+        // This holds also where the store doesn't read what was written.
         ensures within { IfOk result (λ found. IfSome found IsIncomingWithin) };
 
-    /// The outgoing file with a number. The register is unchanged.
+    /// The outgoing file with a number, or `None` where no file has it. Files are numbered from 1 on. The register is unchanged.
     ///
     /// # Errors
     ///
-    /// [`OfficeFault::Store`] and [`OfficeFault::Memory`].
+    /// [`OfficeFault::Store`]: the store failed. [`OfficeFault::Memory`]: out of memory.
     fn out_by_no(&mut self, no: u64) -> Result<Option<OutgoingEntry>, OfficeFault>
         ensures looks { LooksUp (λ r found. found ≡ out_by_no r no) (view self.old) (view self.new) result }
-        // This needs no clean store.
+        // This holds also where the store doesn't read what was written.
         ensures within { IfOk result (λ found. IfSome found IsOutgoingWithin) };
 
     /// Whether a table has as many files as the limits allow, or more. The register is unchanged.
     ///
     /// # Errors
     ///
-    /// [`OfficeFault::Store`] and [`OfficeFault::Memory`].
+    /// [`OfficeFault::Store`]: the store failed. [`OfficeFault::Memory`]: out of memory.
     fn files_full(&mut self, side: Side) -> Result<bool, OfficeFault>
         ensures looks { LooksUp (λ r full. full ≡ files_full r side) (view self.old) (view self.new) result };
 
@@ -113,16 +116,17 @@ pub trait Office {
     ///
     /// # Errors
     ///
-    /// [`OfficeFault::Store`] and [`OfficeFault::Memory`].
+    /// [`OfficeFault::Store`]: the store failed. [`OfficeFault::Memory`]: out of memory.
     fn has_received(&mut self, kind: ResponseKind, identity: &Identity) -> Result<bool, OfficeFault>
         ensures looks { LooksUp (λ r there. there ≡ has_received r kind identity.now) (view self.old) (view self.new) result };
 
-    /// What a session sends next to a partner. It is the first response that is due and wasn't tried. If there is none and `files` is true,
-    /// it is the first file that is waiting or closing and wasn't tried. The register is unchanged.
+    /// What a session sends next to a partner, or `None` where nothing is left. It is the first response that is due and has a greater
+    /// number than the cursor's. If there is none and `files` is true, it is the first file that is waiting or closing and has a greater
+    /// number than the cursor's. The register is unchanged.
     ///
     /// # Errors
     ///
-    /// [`OfficeFault::Store`] and [`OfficeFault::Memory`].
+    /// [`OfficeFault::Store`]: the store failed. [`OfficeFault::Memory`]: out of memory.
     fn next_item(
         &mut self,
         partner: &Name<25>,
@@ -130,10 +134,10 @@ pub trait Office {
         files: bool,
     ) -> Result<Option<Item>, OfficeFault>
         ensures looks { LooksUp (λ r item. item ≡ next_item r partner.now cursor files) (view self.old) (view self.new) result }
-        // This needs no clean store.
+        // This holds also where the store doesn't read what was written.
         ensures within { IfOk result (λ found. IfSome found IsItemWithin) };
 
-    /// At most `most` rows of a file, from row `from` on. A number without a file has no rows. The register is unchanged.
+    /// At most `most` rows of a file, from row `from` on, counted from 0. A number without a file has no rows. The register is unchanged.
     ///
     /// Where the store may read something else than was written, only the number of rows is promised, because the call doesn't look at the
     /// file's format. A caller who needs rows of a format checks them by [`are_rows`]; that check doesn't fail on rows of the register.
@@ -142,27 +146,27 @@ pub trait Office {
     ///
     /// # Errors
     ///
-    /// [`OfficeFault::Store`] and [`OfficeFault::Memory`].
+    /// [`OfficeFault::Store`]: the store failed. [`OfficeFault::Memory`]: out of memory.
     fn rows_of(&mut self, side: Side, no: u64, from: u64, most: u64) -> Result<Rows, OfficeFault>
         ensures looks { LooksUp (λ r rows. rows ≡ rows_of r side no from most) (view self.old) (view self.new) result }
-        // This needs no clean store.
+        // This holds also where the store doesn't read what was written.
         ensures within { IfOk result (AreRowsWithin from most) };
 
     /// The number of octets of a file, or 0 for a number without a file. The register is unchanged.
     ///
     /// # Errors
     ///
-    /// [`OfficeFault::Store`] and [`OfficeFault::Memory`].
+    /// [`OfficeFault::Store`]: the store failed. [`OfficeFault::Memory`]: out of memory.
     fn units_of(&mut self, side: Side, no: u64) -> Result<u64, OfficeFault>
         ensures looks { LooksUp (λ r units. units ≡ units_of r side no) (view self.old) (view self.new) result }
-        // This needs no clean store.
+        // This holds also where the store doesn't read what was written.
         ensures within { IfOk result (λ units. units ≤ MOST_UNITS) };
 
     /// All incoming files, in order of their numbers. The register is unchanged.
     ///
     /// # Errors
     ///
-    /// [`OfficeFault::Store`] and [`OfficeFault::Memory`].
+    /// [`OfficeFault::Store`]: the store failed. [`OfficeFault::Memory`]: out of memory.
     fn list_in(&mut self) -> Result<Vec<IncomingEntry>, OfficeFault>
         ensures looks { LooksUp (λ r entries. entries.items ≡ list_in r) (view self.old) (view self.new) result };
 
@@ -170,7 +174,7 @@ pub trait Office {
     ///
     /// # Errors
     ///
-    /// [`OfficeFault::Store`] and [`OfficeFault::Memory`].
+    /// [`OfficeFault::Store`]: the store failed. [`OfficeFault::Memory`]: out of memory.
     fn list_out(&mut self) -> Result<Vec<OutgoingEntry>, OfficeFault>
         ensures looks { LooksUp (λ r entries. entries.items ≡ list_out r) (view self.old) (view self.new) result };
 
@@ -178,7 +182,7 @@ pub trait Office {
     ///
     /// # Errors
     ///
-    /// [`OfficeFault::Store`] and [`OfficeFault::Memory`].
+    /// [`OfficeFault::Store`]: the store failed. [`OfficeFault::Memory`]: out of memory.
     fn list_issued(&mut self) -> Result<Vec<IssuedEntry>, OfficeFault>
         ensures looks { LooksUp (λ r entries. entries.items ≡ list_issued r) (view self.old) (view self.new) result };
 
@@ -186,7 +190,7 @@ pub trait Office {
     ///
     /// # Errors
     ///
-    /// [`OfficeFault::Store`] and [`OfficeFault::Memory`].
+    /// [`OfficeFault::Store`]: the store failed. [`OfficeFault::Memory`]: out of memory.
     fn list_received(&mut self) -> Result<Vec<ReceivedEntry>, OfficeFault>
         ensures looks { LooksUp (λ r entries. entries.items ≡ list_received r) (view self.old) (view self.new) result };
 

@@ -10,8 +10,12 @@ use crate::office::{Office, OfficeFault};
 ///
 /// # Errors
 ///
-/// The error of the change that failed: [`OfficeFault::Refused`] with its cause, if it is the first that the register refuses. If the
-/// office is still open, it has the register after the changes before.
+/// That of the first change that failed:
+///
+/// - [`OfficeFault::Refused`] where the register refuses it, with its cause.
+/// - [`OfficeFault::Store`] and [`OfficeFault::Memory`] as [`Office::commit`] returns them.
+///
+/// If the office is still open, it has the register after the changes before.
 pub fn commit_all<O: Office>(office: &mut O, changes: Vec<Change<'_>>) -> Result<(), OfficeFault>
     ensures { CommitsAll changes.entry.items (O.view office.old) (O.view office.new) result }
 {

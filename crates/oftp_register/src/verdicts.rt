@@ -28,7 +28,7 @@ pub struct Terms {
     pub limits: Limits,
 }
 
-/// Whether an offered file is accepted.
+/// Whether an offered file is accepted (RFC 5024, sections 5.3.4 and 5.3.5).
 #[derive(Clone, Copy, Debug, Drop, PartialEq, Eq)]
 pub enum StartVerdict {
     /// It is accepted, with this Restart position for SFPA.
@@ -42,7 +42,7 @@ pub enum StartVerdict {
     },
 }
 
-/// Whether the EFID of a file has its counts.
+/// Whether the EFID of a file has its counts (RFC 5024, sections 5.3.9 and 5.3.10).
 #[derive(Clone, Copy, Debug, Drop, PartialEq, Eq)]
 pub enum EndVerdict {
     /// It has, and the file is complete.
@@ -175,8 +175,8 @@ pub fn start_verdict(
     StartVerdict::Accept(restart_position(sfid, found, terms.restart))
 }
 
-/// Whether EFID has the counts of the whole file, with the rows of earlier sessions (RFC 5024, sections 5.3.8 to 5.3.10). In U and T the
-/// count of records is 0. It allocates nothing.
+/// Whether EFID has the counts of the whole file, with the rows of earlier sessions (RFC 5024, sections 5.3.8 to 5.3.10). These are
+/// `records`, which is 0 in U and T, and `units` in octets. It allocates nothing.
 pub fn end_verdict(efid: &Efid, records: u64, units: u64) -> EndVerdict
     ensures { result ≡ end_verdict efid.now records units }
 {

@@ -219,10 +219,11 @@ fn tell_in(alloc: Global, outcome: Outcome, answer: &mut Answer) -> Result<u8, F
     Ok(status)
 }
 
-/// Looks up the whole incoming file with this number, or the refusal if there is none.
+/// Looks up the whole incoming file with this number, or the refusal if there is none: [`Outcome::Unknown`], or [`Outcome::WrongState`] for
+/// a file that isn't whole.
 ///
 /// # Errors
-/// The office failed.
+/// [`Fault::Run`] with [`RunFault::Office`]: the office failed.
 pub fn entry_to_fetch<O: Office>(
     office: &mut O,
     no: u64,

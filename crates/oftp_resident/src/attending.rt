@@ -9,7 +9,7 @@ use crate::yielding::{GREETING, Yielding};
 use oftp_engine::{Conversation, End, Port, Role, RunFault};
 use oftp_held::HeldOffice;
 use oftp_outcomes::Fault;
-use oftp_sockets::{Desk, Station, Term, Trouble, Wire, ports_of};
+use oftp_sockets::{Desk, Station, Term, Trouble, Wire};
 use std::io::{Read, Write};
 use std::time::Instant;
 
@@ -43,17 +43,11 @@ impl<O: HeldOffice> Desk for Attending<'_, '_, O> {
         station: &Station<'_>,
         wire: Wire<'_, R, W>,
     ) -> Result<End, Trouble> {
-        let Wire {
-            heard,
-            reader,
-            writer,
-            term,
-        } = wire;
         let wait = Wait {
-            at_hand: heard.len() as u64,
-            term,
+            at_hand: wire.heard.len() as u64,
+            term: wire.term,
         };
-        let (mut reader, mut writer) = ports_of(heard.chain(reader), writer);
+        let (mut reader, mut writer) = wire.into_ports();
         let mut conversation = Conversation::new(rt.alloc(), station.book, role);
         self.talk(&mut conversation, &mut reader, &mut writer, wait)
     }

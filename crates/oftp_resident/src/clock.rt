@@ -115,7 +115,8 @@ impl Errand for Looking<'_> {
     }
 }
 
-/// The codes of the partners of a book, in the order of its text. A text without partners has none.
+/// The codes of the partners of a book, in the order of its text. A text without partners, or one that isn't UTF-8, has none. A partner
+/// without a code is left out.
 ///
 /// # Errors
 /// [`Fault::MEMORY`], also if the text isn't TOML.

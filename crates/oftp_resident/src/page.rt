@@ -6,7 +6,7 @@ pub(crate) const PAGE: &str = r###"<!doctype html>
 <head>
 <meta charset="utf-8">
 <meta http-equiv="Content-Security-Policy" content="default-src 'none'; connect-src 'self'; img-src data:;
-  script-src 'sha256-aCOUqI2dIutLDaoC26iD7sWDHZFzKGe4Q0Jyp5Vc7Pk='; style-src 'sha256-6ydgNxWktbe59SKh5qqWlZcNM+Tbv6Qp5vhS0GHFr78=';
+  script-src 'sha256-zNxBDo1u83N4M72nus4rZi3FudA+ijWNs9FKJaBqk7k='; style-src 'sha256-6ydgNxWktbe59SKh5qqWlZcNM+Tbv6Qp5vhS0GHFr78=';
   base-uri 'none'; form-action 'none'; require-trusted-types-for 'script'; trusted-types 'none'">
 <meta name="viewport" content="width=device-width, initial-scale=1">
 <meta name="color-scheme" content="light dark">
@@ -197,14 +197,14 @@ const START_REASONS = {
 };
 // The reasons of NERP (section 5.3.14): why a file was returned.
 const NEGATIVE_REASONS = {
-  "03": "user code not known", "04": "invalid password", "09": "unspecified", "11": "invalid filename", "12": "invalid destination",
+  "03": "user code not known", "04": "invalid password", "09": "unspecified reason", "11": "invalid file name", "12": "invalid destination",
   "13": "invalid origin", "14": "invalid storage record format", "15": "maximum record length not supported", "16": "file size too big",
   "20": "invalid record count", "21": "invalid byte count", "22": "access method failure", "23": "duplicate file",
   "24": "file direction refused", "25": "cipher suite not supported", "26": "encrypted file not allowed",
   "27": "unencrypted file not allowed", "28": "compression not allowed", "29": "signed file not allowed",
   "30": "unsigned file not allowed", "31": "file signature not valid", "32": "file decompression failed", "33": "file decryption failed",
   "34": "file processing failed", "35": "not delivered to recipient", "36": "not acknowledged by recipient",
-  "50": "transmission stopped by the operator", "90": "file size incompatible with recipient's protocol version", "99": "unspecified",
+  "50": "transmission stopped by the operator", "90": "file size incompatible with recipient's protocol version", "99": "unspecified reason",
 };
 const FORMATS = { F: "fixed", V: "variable", U: "unstructured", T: "text" };
 
@@ -214,9 +214,9 @@ const STATES = {
   in: {
     open: { words: "Incomplete", look: "wait", hint: "The rest comes with a later session." },
     release: { words: "To be released", look: "act", sums: "to be released", hint: "Complete. Fetch it, then release or refuse it." },
-    eerp_due: { words: "Released, EERP not yet sent", look: "wait", hint: "The end response goes with the next session." },
+    eerp_due: { words: "Released, EERP not yet sent", look: "wait", hint: "The EERP goes with the next session." },
     eerp_sent: { words: "Released, EERP sent", look: "good" },
-    nerp_due: { words: "Refused here, NERP not yet sent", look: "wait", hint: "The negative end response goes with the next session." },
+    nerp_due: { words: "Refused here, NERP not yet sent", look: "wait", hint: "The NERP goes with the next session." },
     nerp_sent: { words: "Refused here, NERP sent", look: "rest" },
   },
   out: {
@@ -227,8 +227,8 @@ const STATES = {
       words: "Not confirmed for long", look: "act", sums: "not confirmed for long",
       hint: "All of it was sent, and the partner hasn't said that it has it. Call the partner: the next session settles it.",
     },
-    handed: { words: "Handed over", look: "wait", hint: "The partner has it. Its end response is awaited." },
-    delivered: { words: "Delivered", look: "good", hint: "The partner's end response (EERP) came." },
+    handed: { words: "Handed over", look: "wait", hint: "The partner has it. Its EERP or NERP is awaited." },
+    delivered: { words: "Delivered", look: "good", hint: "The partner's EERP came: it has released the file." },
     refused: {
       words: "Refused by the partner", look: "bad", sums: "refused by a partner",
       hint: "Mend what the reason names, and submit it with another date or time.",

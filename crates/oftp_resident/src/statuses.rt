@@ -10,16 +10,16 @@ pub const DONE: u8 = 0;
 /// The exit status of a command that was refused, or failed.
 pub const FAILED: u8 = 1;
 
-/// Writes the outcome of a command. Returns the exit status.
+/// Writes the outcome of a command as a line. Returns the exit status: [`FAILED`] for a refusal, else [`DONE`].
 ///
 /// # Errors
-/// `out` returned an error.
+/// [`Fault::Run`]: `out` returned an error.
 pub fn tell(outcome: Outcome, out: &mut impl Write) -> Result<u8, Fault> {
     write_line(out, &outcome)?;
     Ok(if outcome.is_refusal() { FAILED } else { DONE })
 }
 
-/// The exit status of an operator's call, whose line was written.
+/// The exit status of an operator's call, whose line was written: [`FAILED`] for a refusal, else [`DONE`].
 pub fn status_of(told: Told) -> u8 {
     match told {
         Told::Done => DONE,
@@ -27,7 +27,7 @@ pub fn status_of(told: Told) -> u8 {
     }
 }
 
-/// The exit status of a command over many files, by whether none was refused.
+/// The exit status of a command over many files, by whether none was refused: [`DONE`], else [`FAILED`].
 pub fn status_where(is_done: bool) -> u8 {
     if is_done { DONE } else { FAILED }
 }

@@ -105,10 +105,12 @@ pub(super) struct Resident<'a> {
     last: u8,
 }
 
-/// Serves partners and commands with an office, one job after another, and writes a line to `out` for each session.
+/// Serves partners and commands with an office, one job after another, and writes a line to `out` for each session. Before the first it
+/// writes `ready`.
 ///
 /// # Errors
-/// An error of the office, of `out`, of a listener or of the clock.
+/// [`Fault::Run`] for an error of the office or of `out`; [`Fault::Socket`] for one of a listener or of the clock; [`Fault::MEMORY`]. The
+/// jobs that were done stay done.
 pub fn reside(
     rt: &HostRuntime,
     bench: &Bench<'_>,

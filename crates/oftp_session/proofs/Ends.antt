@@ -7,6 +7,7 @@ use Rattle.oftp_wire.specs.declared.command.Efid.{Efid}
 use Rattle.oftp_wire.specs.declared.reason.SessionReason.TheVariants.{ProtocolViolation}
 use Rattle.oftp_vfile.specs.declared.format.Format.{Format}
 use Rattle.oftp_vfile.specs.declared.format.Format.TheVariants.{Fixed, Variable, Unstructured, Text}
+use Rattle.oftp_vfile.specs.declared.format.TheConstants.{BLOCK, MOST_ROWS}
 use Rattle.oftp_vfile.specs.VirtualFile.{AreRows, closed, octets_in}
 use Rattle.oftp_vfile.specs.Subrecord.{Subrecord, octets_of}
 use Rattle.oftp_vfile.specs.Carries.{Carried, Carries, InBlocks, is_open, stage_of}
@@ -16,6 +17,7 @@ use Rattle.oftp_vfile.proofs.ClosedLemmas.{closed_file, ended_piece}
 use Rattle.oftp_vfile.proofs.LendLemmas.{rows_from}
 use Rattle.oftp_vfile.proofs.ShedLemmas.{shed_counts}
 use Rattle.oftp_register.specs.declared.change.Change.TheVariants.{Close, GiveUp}
+use Rattle.oftp_register.specs.declared.fit.TheConstants.{MOST_OCTETS}
 use Rattle.oftp_register.specs.declared.verdicts.EndVerdict.{EndVerdict}
 use Rattle.oftp_register.specs.Register.{Register}
 use Rattle.oftp_register.specs.Verdicts.{end_verdict}
@@ -53,7 +55,7 @@ pub last_of : (contact : Contact) (f : Receipt) (s : Reception) → Tracks conta
 last_of contact f s at = ap (λ (t : Taking). closed t.rows t.tail) at.taker
 
 -- the octets of full blocks
-block_octets : (rows : List (List ℕ)) → All (λ (r : List ℕ). length r ≡ 1024) rows → length (octets_in rows) ≡ 1024 * length rows
+block_octets : (rows : List (List ℕ)) → All (λ (r : List ℕ). length r ≡ BLOCK) rows → length (octets_in rows) ≡ BLOCK * length rows
 block_octets rows all =
     let n = blocks_length (octets_in rows) rows [] (record { joined = sym (append-nil (octets_in rows)); full = all; rest = omega arith }) in
     omega (arith, n)
@@ -70,7 +72,7 @@ closed_more rows (x ∷ xs) = omega (arith, length-append rows ((x ∷ xs) ∷ [
 -- a stream within its octets has no more rows than a file may have, its last block included
 stream_few : (t : Taking) (ss : List Subrecord) (from : ℕ) (rows : List (List ℕ)) (tail : List ℕ) → InBlocks (octets_of ss) rows tail
     → t.units ≡ length (octets_of ss) → (ss ≢ [] → t.kept_units + t.units ≤ t.limit)
-    → t.kept_units ≡ 1024 * from → t.limit ≤ 1024000000 → from + length rows ≤ 1000000 → from + length (closed rows tail) ≤ 1000000
+    → t.kept_units ≡ BLOCK * from → t.limit ≤ MOST_OCTETS → from + length rows ≤ MOST_ROWS → from + length (closed rows tail) ≤ MOST_ROWS
 stream_few t ss from rows [] b u o k l few = few
 stream_few t ss from rows (x ∷ xs) b u o k l few =
     let n = blocks_length (octets_of ss) rows (x ∷ xs) b in
@@ -79,7 +81,7 @@ stream_few t ss from rows (x ∷ xs) b u o k l few =
     omega (arith, within, n, u, k, l, length-append rows ((x ∷ xs) ∷ []))
 
 -- a file that ends has no more rows than it may
-pub end_few : (r : Register) (f : Receipt) → IsSound r → IsReceived r f → is_open (carried_by f).stage ≡ false → f.from + length (closed (carried_by f).rows (carried_by f).tail) ≤ 1000000
+pub end_few : (r : Register) (f : Receipt) → IsSound r → IsReceived r f → is_open (carried_by f).stage ≡ false → f.from + length (closed (carried_by f).rows (carried_by f).tail) ≤ MOST_ROWS
 end_few r f sound holds shut = by t.format refl
   where
     t : Taking
@@ -88,7 +90,7 @@ end_few r f sound holds shut = by t.format refl
     ss : List Subrecord
     ss = flat_map (λ (x : List Subrecord). x) holds.took.subs
 
-    few : f.from + length t.rows ≤ 1000000
+    few : f.from + length t.rows ≤ MOST_ROWS
     few = let same = carried_same f in let h = holds.took.holds.few in omega (arith, h, same.2)
 
     carried : (format : Format) → t.format ≡ format → Carried format t.longest ss t.rows t.tail
@@ -97,24 +99,24 @@ end_few r f sound holds shut = by t.format refl
     shut' : is_open (stage_of ss) ≡ false
     shut' = ap is_open (sym holds.took.holds.last) ∙ shut
 
-    records : t.tail ≡ [] → f.from + length (closed t.rows t.tail) ≤ 1000000
-    records e = subst (λ (x : List ℕ). f.from + length (closed t.rows x) ≤ 1000000) (sym e) few
+    records : t.tail ≡ [] → f.from + length (closed t.rows t.tail) ≤ MOST_ROWS
+    records e = subst (λ (x : List ℕ). f.from + length (closed t.rows x) ≤ MOST_ROWS) (sym e) few
 
     blocks : (format : Format) → f.file.format ≡ format → AreFullRows format f.file.longest f.file.rows
     blocks format e =
         let entry = all_at IsSoundIncoming f.number r.incoming f.file sound.incoming holds.entry in
         subst (λ (x : Format). AreFullRows x f.file.longest f.file.rows) e (open_rows f.file entry holds.opened)
 
-    stream : InBlocks (octets_of ss) t.rows t.tail → All (λ (r : List ℕ). length r ≡ 1024) f.file.rows → f.from + length (closed t.rows t.tail) ≤ 1000000
+    stream : InBlocks (octets_of ss) t.rows t.tail → All (λ (r : List ℕ). length r ≡ BLOCK) f.file.rows → f.from + length (closed t.rows t.tail) ≤ MOST_ROWS
     stream b all =
         let same = carried_same f in
-        let first = block_octets (take f.from f.file.rows) (All-take (λ (r : List ℕ). length r ≡ 1024) f.from f.file.rows all) in
+        let first = block_octets (take f.from f.file.rows) (All-take (λ (r : List ℕ). length r ≡ BLOCK) f.from f.file.rows all) in
         let count = length-take-le f.from f.file.rows holds.kept in
-        let k : t.kept_units ≡ 1024 * f.from = omega (arith, same.3, holds.units, first, count) in
-        let l : t.limit ≤ 1024000000 = omega (arith, carried_limit f, holds.limit, sound.small) in
+        let k : t.kept_units ≡ BLOCK * f.from = omega (arith, same.3, holds.units, first, count) in
+        let l : t.limit ≤ MOST_OCTETS = omega (arith, carried_limit f, holds.limit, sound.small) in
         stream_few t ss f.from t.rows t.tail b holds.took.holds.units holds.took.holds.octets k l few
 
-    by : (format : Format) → t.format ≡ format → f.from + length (closed t.rows t.tail) ≤ 1000000
+    by : (format : Format) → t.format ≡ format → f.from + length (closed t.rows t.tail) ≤ MOST_ROWS
     by Fixed e = records (ended_piece ss t.rows t.tail shut' (carried Fixed e).0)
     by Variable e = records (ended_piece ss t.rows t.tail shut' (carried Variable e).0)
     by Unstructured e = stream (carried Unstructured e).1 (blocks Unstructured (sym (carried_same f).0 ∙ e))

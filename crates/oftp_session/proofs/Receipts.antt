@@ -6,6 +6,7 @@ use Rattle.std.specs.Result.{result_unwrap_or}
 use Rattle.oftp_vfile.specs.declared.format.Format.{Format}
 use Rattle.oftp_vfile.specs.declared.format.Format.TheVariants.{Fixed, Variable, Unstructured, Text}
 use Rattle.oftp_vfile.specs.declared.format.TakeFault.{TakeFault}
+use Rattle.oftp_vfile.specs.declared.format.TheConstants.{BLOCK}
 use Rattle.oftp_vfile.specs.VirtualFile.{units_in}
 use Rattle.oftp_vfile.specs.Subrecord.{Subrecord, count_in}
 use Rattle.oftp_vfile.specs.Carries.{Carried}
@@ -124,8 +125,8 @@ full_carried Text longest ss rows tail c = c.1.full
 pub full_drop : (format : Format) (longest k : ℕ) (rows : List (List ℕ)) → AreFullRows format longest rows → AreFullRows format longest (drop k rows)
 full_drop Fixed longest k rows h = All-drop (λ (r : List ℕ). length r ≡ longest) k rows h
 full_drop Variable longest k rows h = All-drop (λ (r : List ℕ). length r ≤ longest) k rows h
-full_drop Unstructured longest k rows h = All-drop (λ (r : List ℕ). length r ≡ 1024) k rows h
-full_drop Text longest k rows h = All-drop (λ (r : List ℕ). length r ≡ 1024) k rows h
+full_drop Unstructured longest k rows h = All-drop (λ (r : List ℕ). length r ≡ BLOCK) k rows h
+full_drop Text longest k rows h = All-drop (λ (r : List ℕ). length r ≡ BLOCK) k rows h
 
 -- rows that were received may be stored
 pub keep_fits : (r : Register) (f : Receipt) → IsReceived r f → IsFit r (Keep f.number (rows_to_keep f (carried_by f)))

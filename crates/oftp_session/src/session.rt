@@ -23,7 +23,7 @@ use oftp_wire::{Command, Count, SessionReason};
 use std::alloc::Global;
 use std::marker::Model;
 
-/// Who ended a session, and the reason in its ESID.
+/// Who ended a session, and the reason in its ESID (RFC 5024, section 5.3.11).
 #[derive(Clone, Copy, Debug, Drop, PartialEq, Eq)]
 pub enum Ending {
     /// The station.
@@ -174,7 +174,7 @@ impl<'b> Session<'b> {
     ghost use Rattle.std.specs.Borrow.{sem};
     ghost use Rattle.oftp_session.specs.After.{After, AfterEnd, AfterStep, AfterTurn, InPhase};
 
-    /// A session with a partner that calls. It allocates nothing.
+    /// A session with a partner that calls, by the station's book. It allocates nothing.
     pub fn responder(alloc: Global, book: &'b Book) -> Session<'b>
         ensures setting { result.setting ≡ record { book = book.entry.now; called = None } }
         ensures stands { Stands Phase.ResponderOpening result }
@@ -192,7 +192,7 @@ impl<'b> Session<'b> {
         }
     }
 
-    /// A session with a partner that the station calls. It allocates nothing.
+    /// A session with a partner that the station calls, by the station's book. It allocates nothing.
     pub fn initiator(alloc: Global, book: &'b Book, partner: &'b Partner) -> Session<'b>
         ensures setting { result.setting
             ≡ record { book = book.entry.now; called = Some partner.entry.now } }
@@ -239,8 +239,8 @@ impl<'b> Session<'b> {
     /// # Errors
     ///
     /// - [`SessionFault::Ended`]: the session was over or broken, and nothing is changed.
-    /// - [`SessionFault::Office`]: the office returned an error.
-    /// - [`SessionFault::Memory`]: out of memory, at a DATA or an EFID of the file that is received.
+    /// - [`SessionFault::Office`]: the office returned an error. A crash leaves the register with the change of the command or without it.
+    /// - [`SessionFault::Memory`]: out of memory, at a DATA or an EFID of the file that is received. The register is unchanged.
     ///
     /// After the last two only [`Session::fail`] may follow.
     pub fn on_command<O: Office>(
@@ -285,8 +285,9 @@ impl<'b> Session<'b> {
     /// # Errors
     ///
     /// - [`SessionFault::Ended`]: the session was over or broken, and nothing is changed.
-    /// - [`SessionFault::Office`]: the office returned an error.
-    /// - [`SessionFault::Memory`], only while a file is sent: there is no buffer for its DATA, or an allocation failed.
+    /// - [`SessionFault::Office`]: the office returned an error. A crash leaves the register with the change of the command or without it.
+    /// - [`SessionFault::Memory`], only while a file is sent: there is no buffer for its DATA, or an allocation failed. The register is
+    ///   unchanged.
     ///
     /// After the last two only [`Session::fail`] may follow.
     pub fn turn<O: Office>(&mut self, office: &mut O) -> Result<Out<'_>, SessionFault>
@@ -318,7 +319,8 @@ impl<'b> Session<'b> {
         Ok(self.frame.out())
     }
 
-    /// Ends the session with an ESID of this reason, also after an error. It allocates nothing.
+    /// Ends the session with an ESID of this reason, also after an error, and returns its frame as a borrowed slice (RFC 5024, section
+    /// 5.3.11). It allocates nothing.
     ///
     /// # Errors
     ///

@@ -73,7 +73,7 @@ pub fn passes(error: &io::Error) -> bool {
     }
 }
 
-/// The error for a failed socket operation. Out of memory isn't an error of the socket.
+/// The error for a failed socket operation: [`Fault::MEMORY`] if memory or the system's buffers ran out, or [`Fault::Socket`].
 pub fn socket_fault(error: &io::Error) -> Fault {
     if error.kind() == ErrorKind::OutOfMemory || error.raw_os_error() == Some(NO_BUFFERS) {
         Fault::MEMORY

@@ -44,7 +44,7 @@ impl<'a> Leaving<'a> {
         self.leavers.is_empty()
     }
 
-    /// Adds a connection. If it can't be added, it is closed at once.
+    /// Adds a connection. If it can't be added, it is closed at once. If 64 are there already, the oldest is closed.
     pub fn take_in(&mut self, connection: Connection) {
         let Ok(since) = Instant::now(self.rt) else {
             return;
@@ -63,7 +63,7 @@ impl<'a> Leaving<'a> {
         });
     }
 
-    /// Drops what the partners still send. Closes the connections of those that have left, or whose time is over.
+    /// Drops what the partners still send. Closes the connections of those that have left, have sent 16 MiB, or have had five seconds.
     pub fn go_on(&mut self) {
         let rt = self.rt;
         for leaver in &mut self.leavers {

@@ -7,7 +7,7 @@ use std::time::{Duration, Instant};
 /// How often a read or write that a signal interrupts is made, within the time of the first.
 const MOST_CALLS: u32 = 1_000;
 
-/// How long a partner may be idle. Zero seconds are no limit.
+/// How long a partner may be idle, from a number of seconds. `None` is no limit, for which 0 seconds stand.
 pub fn patience_of(seconds: u64) -> Option<Duration> {
     match seconds {
         0 => None,
@@ -48,7 +48,8 @@ impl<'a> Term<'a> {
         self.connection.is_heard()
     }
 
-    /// How much longer the partner may be idle, if it has been so since `since`. `None` once that time is over.
+    /// How much longer the partner may be idle, if it has been so since `since`. `None` once that time is over, or if the clock can't be
+    /// read.
     pub fn left(&self, since: Instant) -> Option<Duration> {
         let whole = self
             .length

@@ -45,7 +45,8 @@ impl SocketPlace {
     /// listens. From the first moment only the file's owner may connect.
     ///
     /// # Errors
-    /// Any error of the system; one if another file has the name, which stays.
+    /// Any error of the system; one if another file has the name, which stays. If the socket was bound and can't listen, its file stays
+    /// too.
     pub fn listen(&self, rt: &HostRuntime) -> io::Result<UnixListener> {
         self.remove(rt)?;
         let socket = rt.unix_socket()?;

@@ -26,15 +26,16 @@ pub trait Replies {
     /// The reply to a request that depends on the register.
     ///
     /// # Errors
-    /// An error of this client, or of the service.
+    /// [`Trouble::OfCaller`] for an error of this client; [`Trouble::OfService`] for one that ends the service.
     fn reply_to(&mut self, rt: &HostRuntime, request: &[u8]) -> Result<Reply, Trouble>;
 }
 
-/// Answers `requests` requests, each on its own connection. After an error of one client alone, its connection is closed without a reply,
+/// Answers requests, each on its own connection, until `requests` connections have come. One that fails, or ends before its request is
+/// whole, is closed without a reply. After an error of the source of replies that is of one client alone, its connection is closed so too,
 /// and `err` gets a line.
 ///
 /// # Errors
-/// Any other error: of the source of replies, of the listener, or out of memory.
+/// Any other error: of the source of replies; [`Fault::Socket`] for one of the listener; [`Fault::MEMORY`].
 pub fn http_on<A: Replies>(
     rt: &HostRuntime,
     listener: &TcpListener,

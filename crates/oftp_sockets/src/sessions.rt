@@ -4,12 +4,13 @@ use crate::admission::{Admission, Opening, Skipping, admit};
 use crate::callers::{Trouble, settled};
 use crate::connection::Connection;
 use crate::moments::{Term, Timed, Within};
+use crate::ports::ports_of;
 use crate::waiting::{Caller, Waiting};
-use oftp_engine::{End, Role, RunFault};
+use oftp_engine::{End, Port, Role, RunFault};
 use oftp_files::{Trace, Traced};
 use oftp_outcomes::{Fault, Outcome, write_line};
 use oftp_partners::{Book, Partner};
-use std::io::{Read, Write};
+use std::io::{Chain, Read, Write};
 use std::net::{TcpListener, TcpStream};
 use std::time::{Duration, Instant};
 
@@ -24,6 +25,13 @@ pub struct Wire<'a, R, W> {
     pub writer: W,
     /// The deadline of the session.
     pub term: Term<'a>,
+}
+
+impl<'a, R: Read, W: Write> Wire<'a, R, W> {
+    /// The ports of the session. What was read already comes first.
+    pub fn into_ports(self) -> (Port<Chain<&'a [u8], R>>, Port<W>) {
+        ports_of(self.heard.chain(self.reader), self.writer)
+    }
 }
 
 /// The service that runs sessions.
@@ -141,15 +149,9 @@ pub fn part(
 
 /// Appends the end of a session to its trace, if it has one.
 pub fn tell_end(station: &Station<'_>, served: &Result<End, Trouble>) {
-    let Some(trace) = station.trace else {
-        return;
-    };
-    match served {
-        Ok(end) => trace.tell(&Outcome::Ended(*end)),
-        Err(trouble) => {
-            let trouble = *trouble;
-            trace.tell(&trouble.fault());
-        }
+    if let Some(trace) = station.trace {
+        let served = *served;
+        trace.tell_end(&served.map_err(Trouble::fault));
     }
 }
 

@@ -102,10 +102,11 @@ impl<'a> Waiting<'a> {
         Err(Trouble::from(Fault::Socket))
     }
 
-    /// The caller whose turn it is, if there is one: the first that is to be admitted, else the first that leaves.
+    /// The caller whose turn it is, if there is one: the first that is to be admitted, else the first that leaves. It is no longer among
+    /// those that wait.
     ///
     /// # Errors
-    /// An error of that caller, or of the service.
+    /// [`Trouble::OfCaller`] for an error of that caller; [`Trouble::OfService`] for one that ends the service.
     pub fn due(&mut self, station: &Station<'_>) -> Result<Option<Caller>, Trouble> {
         let Some(place) = self.called(station)? else {
             return Ok(None);
@@ -123,7 +124,8 @@ impl<'a> Waiting<'a> {
     /// Accepts and greets the next caller, if there is room. The listener has to be non-blocking.
     ///
     /// # Errors
-    /// An error of a caller that can't be greeted, or of the listener.
+    /// [`Trouble::OfCaller`] if a caller can't be greeted, whose connection is closed then; [`Trouble::OfService`] for an error of the
+    /// listener, or out of memory.
     pub fn take_in(&mut self, station: &Station<'_>) -> Result<Arrival, Trouble> {
         if self.callers.len() as u64 >= MOST_WAITING {
             return Ok(Arrival::Nobody);
@@ -141,7 +143,7 @@ impl<'a> Waiting<'a> {
         Ok(Arrival::Somebody)
     }
 
-    /// The connection of the newest caller.
+    /// The connection of the newest caller, or `None` if no caller waits.
     pub fn newest(&self) -> Option<&Connection> {
         match self.callers.last() {
             Some(caller) => Some(&caller.connection),
@@ -225,7 +227,7 @@ impl<'a> Waiting<'a> {
     /// Whether a caller is to be admitted, and hasn't left.
     ///
     /// # Errors
-    /// Out of memory.
+    /// [`Fault::MEMORY`].
     pub fn has_guest(&mut self, station: &Station<'_>) -> Result<bool, Fault> {
         let rt = self.rt;
         for caller in &mut self.callers {
@@ -278,7 +280,7 @@ impl Read for Spoken<'_> {
 }
 
 impl Caller {
-    /// The code of the partner that it is admitted as. `None` if it isn't admitted.
+    /// The code of the partner that it is admitted as. `None` if it isn't admitted, or memory runs out.
     pub fn code(&self, alloc: Global) -> Option<String> {
         if !matches!(&self.standing, Standing::Enters) {
             return None;

@@ -50,7 +50,7 @@ pub fn perform(
     }
 }
 
-/// Reports arguments that can't be read. Returns the exit status.
+/// Reports to `err` that the arguments can't be read. Returns the exit status: 1 if memory ran out, or 2 for a word that isn't UTF-8.
 pub fn tell_unread(error: &io::Error, err: &mut impl Write) -> u8 {
     if error.kind() == ErrorKind::OutOfMemory {
         let _ = writeln!(err, "{}", Fault::MEMORY);

@@ -20,6 +20,7 @@ mod ReceivedLemmas
 mod LookLemmas
 mod LoopLemmas
 mod PageLemmas
+mod IncomingPageLemmas
 mod FormatLemmas
 mod OfficeLemmas
 mod OpenLemmas

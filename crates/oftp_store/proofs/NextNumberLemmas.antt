@@ -44,7 +44,7 @@ use Rattle.oftp_store.specs.declared.queries.next_number.Sendable.TheVariants as
 use Rattle.oftp_store.proofs.FirstLemmas.{answers_first, ascending, first_query, first_row, first_shown, first_wanted, number_told, passing, rising, shown}
 use Rattle.oftp_store.proofs.ReadLemmas.{IsRead, read_so}
 
-abbrev above : Term → Term → Term
+abbrev pub above : Term → Term → Term
 above = op2 (by.Compare compare.Gt Binary)
 
 abbrev pub next_params : ℕ → List ℕ → Row
@@ -66,7 +66,7 @@ gt_of_cmp m n =
     ]
 
 -- `>` on two numbers
-greater_numbers : (m n : ℕ) → is_true (binary (by.Compare compare.Gt Binary) (Int (pos m)) (Int (pos n))) ≡ nat_lt n m
+pub greater_numbers : (m n : ℕ) → is_true (binary (by.Compare compare.Gt Binary) (Int (pos m)) (Int (pos n))) ≡ nat_lt n m
 unfolding binary
 greater_numbers m n = truth_of (is_gt (value_cmp (Int (pos m)) (Int (pos n)))) ∙ ap is_gt (number_cmp m n) ∙ gt_of_cmp m n
   where

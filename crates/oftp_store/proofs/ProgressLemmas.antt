@@ -19,7 +19,7 @@ use Rattle.oftp_store.specs.declared.queries.progress.ResponseProgress.{Response
 use Rattle.oftp_store.proofs.NumberLemmas.{entry_known, entry_placed, entry_unknown}
 
 -- what each entry has, at a number
-mapped_placed : {X Y : Type 0} (f : X → Y) (k : ℕ) (xs before : List X) (x : X) (after : List X) → IsPlaced xs k before x after → entry_at k (map f xs) ≡ Some (f x)
+pub mapped_placed : {X Y : Type 0} (f : X → Y) (k : ℕ) (xs before : List X) (x : X) (after : List X) → IsPlaced xs k before x after → entry_at k (map f xs) ≡ Some (f x)
 mapped_placed f k xs before x after placed =
     entry_placed k (map f xs) (map f before) (f x) (map f after)
     (record { here = ap (map f) placed.here ∙ map-append f before (x ∷ after); number = omega (arith, placed.number, length-map before f) })

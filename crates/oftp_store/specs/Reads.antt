@@ -1,16 +1,19 @@
 -- What is read back from the rows that a query returned.
 use Rattle.std.specs.Prelude.{◌≡◌, ◌+◌, ◌++◌, ℕ, List, [], ◌∷◌, length, Option, Some, None, slice_get}
 use Rattle.std.specs.Option.{option_map}
-use Rattle.sqlite.specs.declared.types.Value.TheVariants.{Text}
+use Rattle.sqlite.specs.declared.types.Value.{Value}
+use Rattle.sqlite.specs.declared.types.Value.TheVariants.{Null, Int, Real, Text, Blob}
 use Rattle.sqlite.specs.Order.{Row, bytes, column}
 use Rattle.oftp_wire.specs.Octets.{number}
 use Rattle.oftp_vfile.specs.VirtualFile.{IsLongest}
 use Rattle.oftp_register.specs.declared.entry.OutgoingState.{OutgoingState}
 use Rattle.oftp_register.specs.declared.entry.ResponseKind.TheVariants.{NegativeEndResponse}
+use Rattle.oftp_register.specs.declared.entries.IncomingEntry.{IncomingEntry}
 use Rattle.oftp_register.specs.declared.entries.IssuedResponse.{IssuedResponse}
 use Rattle.oftp_register.specs.declared.entries.ReceivedEntry.{ReceivedEntry}
+use Rattle.oftp_register.specs.declared.entries.Side.TheVariants as side
 use Rattle.oftp_register.specs.Register.{Register, Incoming, Outgoing, Received}
-use Rattle.oftp_register.specs.LookUps.{entry_at, issued_response}
+use Rattle.oftp_register.specs.LookUps.{entry_at, file_rows, issued_response}
 use Rattle.oftp_tables.specs.Tables.{dispatch_in, format_in, format_text, identity_in, identity_values, in_state_in, in_state_text, kind_in, kind_text, number_in, number_value, out_state_in, out_state_text, reason_text, refusal_text, sent_number}
 use Rattle.oftp_store.specs.declared.queries.header.FileHeader.{FileHeader}
 use Rattle.oftp_store.specs.declared.queries.header.IncomingHeader.{IncomingHeader}
@@ -75,8 +78,24 @@ IsToldOf {X} tell entries k (Some told) = (before : List X) × (x : X) × (after
 
 -- ---- responses
 
+-- a response in four columns from a place on
+abbrev pub response_from : ℕ → Row → IssuedResponse
+response_from at row = record {
+  kind = kind_in (bytes (column row at));
+  reason = number (bytes (column row (at + 1)));
+  text = bytes (column row (at + 2));
+  dispatch = dispatch_in (number_in (column row (at + 3)));
+}
+
 abbrev pub response_in : Row → IssuedResponse
-response_in row = record { kind = kind_in (bytes (column row 0)); reason = number (bytes (column row 1)); text = bytes (column row 2); dispatch = dispatch_in (number_in (column row 3)) }
+response_in row = response_from 0 row
+
+-- a row tells a response, in four columns from a place on
+pub record TellsResponse (x : IssuedResponse) (at : ℕ) (row : Row) : Type 0 where
+  pub kind : column row at ≡ Text (kind_text x.kind)
+  pub reason : column row (at + 1) ≡ Text (reason_text x.kind x.reason)
+  pub text : column row (at + 2) ≡ Text x.text
+  pub dispatch : column row (at + 3) ≡ number_value (sent_number x.dispatch)
 
 -- the columns of a response
 abbrev pub response_values : IssuedResponse → Row
@@ -124,3 +143,38 @@ received_entry_of n header note =
 abbrev pub TellsCount : Option Row → ℕ → Type 0
 TellsCount None count = count ≡ 0
 TellsCount (Some row) count = (at : ℕ) × (column row 0 ≡ number_value at) × (count ≡ at + 1)
+
+-- ---- a page of incoming files
+
+-- a response of which this is the first column, NULL where there is none
+abbrev pub if_told : Value → IssuedResponse → Option IssuedResponse
+if_told Null x = None
+if_told (Int n) x = Some x
+if_told (Real n) x = Some x
+if_told (Text t) x = Some x
+if_told (Blob b) x = Some x
+
+abbrev pub paged_response : Row → Option IssuedResponse
+paged_response row = if_told (column row 9) (response_from 9 row)
+
+abbrev pub paged_number : Row → ℕ
+paged_number row = number_in (column row 13)
+
+-- the file that a row tells, with so many rows
+abbrev pub paged_file : Row → ℕ → IncomingEntry
+paged_file row count =
+    let header = incoming_header_in row in
+    record {
+      no = paged_number row;
+      identity = header.file.identity;
+      format = header.file.format;
+      longest = header.file.longest;
+      description = header.file.description;
+      state = header.state;
+      rows = count;
+      response = paged_response row;
+    }
+
+-- and with the rows that it has in a register
+abbrev pub paged_entry : Register → Row → IncomingEntry
+paged_entry r row = paged_file row (length (file_rows r side.Incoming (paged_number row)))

@@ -1,5 +1,5 @@
 -- The SQL of the statements.
-use Rattle.std.specs.Prelude.{ℕ, List, codes}
+use Rattle.std.specs.Prelude.{◌++◌, ℕ, List, codes}
 use Rattle.sqlite.specs.Given.{IsPlain}
 use Rattle.sqlite.specs.Listing.{understood}
 use Rattle.oftp_register.specs.declared.entries.Side.{Side}
@@ -50,6 +50,12 @@ IsPlainText text = IsPlain (understood office_schema text)
 
 abbrev pub in_header_text : List ℕ
 in_header_text = codes "SELECT dataset, date, time, originator, destination, format, longest, description, state FROM in_file WHERE no = ?1"
+
+-- a page of the incoming files behind a number, each with its response: the columns of the header, of the response, and the number
+abbrev pub in_page_text : List ℕ
+in_page_text =
+    codes "SELECT dataset, date, time, originator, destination, format, longest, description, state, kind, reason, note, sent, in_file.no "
+    ++ codes "FROM in_file LEFT JOIN issued ON issued.no = in_file.no WHERE in_file.no > ?1 ORDER BY in_file.no LIMIT ?2"
 
 abbrev pub out_header_text : List ℕ
 out_header_text = codes "SELECT dataset, date, time, originator, destination, format, longest, description, mark, state, reason FROM out_file WHERE no = ?1"

@@ -108,7 +108,7 @@ fn connect<S: Start>(
 /// - [`PathRefused::Path`]: the files weren't opened. It is [`PathFault::Unkept`] exactly where the path is empty or `:memory:`,
 ///   [`PathFault::Held`] where another connection has locked them, and [`StoreFault::Store`] or [`StoreFault::Memory`] where SQLite fails.
 /// - [`PathRefused::Store`]: [`SqlOffice::open`] refused the store in the files. After [`StoreFault::WrongSchema`], which is never returned
-///   for files without a table, they are unchanged.
+///   for files without a table, they are unchanged. After another fault they hold their old content or the new tables.
 pub fn open_at<S: Start>(
     rt: &HostRuntime,
     path: &str,
@@ -146,7 +146,8 @@ pub fn open_at<S: Start>(
 ///
 /// - [`PathRefused::Path`] as for [`open_at`].
 /// - [`PathRefused::Store`]: [`SqlOffice::migrate`] refused the store in the files. After [`StoreFault::WrongSchema`], which is the error
-///   for all files without a table, they are unchanged.
+///   for all files without a table, they are unchanged. After another fault they hold their old content, or its tables of schema 2, and the
+///   call may be repeated.
 pub fn migrate_at<S: Start>(
     rt: &HostRuntime,
     path: &str,

@@ -7,6 +7,7 @@ pub(crate) mod file_by_number;
 mod first_row;
 mod header;
 pub(crate) mod identity;
+pub(crate) mod incoming_list;
 mod issued;
 pub(crate) mod last_number;
 pub(crate) mod lists;

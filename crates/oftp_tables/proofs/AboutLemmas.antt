@@ -1,5 +1,5 @@
 -- What the query on `about` returns.
-use Rattle.std.proofs.Common.{◌≡◌, false, ℕ, List, [], ◌∷◌, length, map, codes, inl, inr, refl, sym, ap, subst}
+use Rattle.std.proofs.Common.{◌≡◌, false, ℕ, List, [], ◌∷◌, length, map, codes, Result, Ok, Err, OnErr, inl, inr, refl, sym, ap, subst}
 use Rattle.std.specs.List.Sorted.{IsPermutation}
 use Rattle.std.proofs.lemmas.List.Sorted.{IsPermutation-sym}
 use Rattle.sqlite_tied.specs.Compute.{everything}
@@ -66,6 +66,11 @@ finds_about schema old new rows has h =
       there = λ is. one_permutation _ _ (IsPermutation-sym _ _ (subst (IsPermutation told) is perm));
       back = λ is. one_permutation _ _ (subst (λ xs. IsPermutation xs rows) is perm);
     }
+
+-- what an error leaves holds of its result
+pub after_error : {T E : Type 0} (P : Type 0) (result : Result T E) → P → OnErr result P
+after_error P (Ok x) holds = tt
+after_error P (Err e) holds = holds
 
 -- what the query does
 module _ (old new : State) (has : HasAbout old.now.schema) where

@@ -47,10 +47,8 @@ fn about_tells<S: Alter>(conn: &mut Connection<S>, schema: u32) -> Result<bool, 
     ensures answer { HasCleanDisk (state S.Store conn.new) → IfOk result (λ right. IsTrue right ↔ (about_told (state S.Store conn.old).now.trees ≡ about_rows schema)) }
     ensures error { HasCleanDisk (state S.Store conn.new) → IfErr result (FailsToQuery (codes "SELECT id, schema FROM about") [] (state S.Store conn.old) (state S.Store conn.new)) }
 {
-    match conn.query_all("SELECT id, schema FROM about", &[]) {
-        Ok(rows) => Ok(tells(rows.as_slice(), schema)),
-        Err(error) => Err(error),
-    }
+    let rows = conn.query_all("SELECT id, schema FROM about", &[])?;
+    Ok(tells(rows.as_slice(), schema))
 }
 
 // Returns `WrongSchema` unless `about` has this schema. The database has schema 1 or 2.

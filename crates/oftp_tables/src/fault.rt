@@ -15,7 +15,7 @@ pub enum StoreFault {
     WrongSchema,
 }
 
-/// The fault of a failed call of the store.
+/// The fault of a failed call of the store: [`StoreFault::Memory`] where memory ran out, and [`StoreFault::Store`] for all other errors.
 pub fn store_fault_of(error: Error) -> StoreFault
     ensures named { result ≢ StoreFault.WrongSchema }
     ensures memory { (result ≡ StoreFault.Memory) ↔ (error ≡ Error.SqliteFailure ErrorCode.OutOfMemory) }

@@ -22,7 +22,8 @@ pub fn number(no: u64) -> i64
     no as i64
 }
 
-/// The office's error for an error of the store. Out of memory, and that no rowid is left, are [`OfficeFault::Memory`].
+/// The office's error for an error of the store. It is [`OfficeFault::Memory`] where memory ran out or no rowid is left, and
+/// [`OfficeFault::Store`] for all others.
 pub fn office_fault_of(error: Error) -> OfficeFault
     ensures fails { IsFailure result }
     ensures memory { (result ≡ OfficeFault.Memory) ↔ ((error ≡ Error.SqliteFailure ErrorCode.OutOfMemory) ⊎ (error ≡ Error.SqliteFailure ErrorCode.NoRowid)) }
@@ -35,11 +36,12 @@ pub fn office_fault_of(error: Error) -> OfficeFault
     }
 }
 
-/// Runs a query over the office's tables. All rows of the result are in memory.
+/// Runs a query over the office's tables, with values for its parameters. All rows of the result are in memory.
 ///
 /// # Errors
 ///
-/// That of the query, as [`office_fault_of`] gives it.
+/// That of the query, as [`office_fault_of`] gives it. A query that only reads leaves the tables as they are, except that an open
+/// transaction may be undone.
 pub fn ask<S: Alter>(
     conn: &mut Connection<S>,
     sql: &str,

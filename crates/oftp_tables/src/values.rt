@@ -18,7 +18,7 @@ use sqlite::Row;
 use sqlite::types::ValueRef;
 use std::alloc::Global;
 
-/// Reads a name from column `at`.
+/// Reads a name from column `at`, counted from 0. `None` where the column isn't a text of 0 to N allowed characters.
 pub fn name_at<const N: usize>(row: &Row, at: usize) -> Option<Name<N>>
     ensures told { IfSome result (λ name. name ≡ bytes (column row.now at)) }
     ensures fits { IfSome result (λ name. column row.now at ≡ value.Text name) }
@@ -33,7 +33,7 @@ pub fn name_at<const N: usize>(row: &Row, at: usize) -> Option<Name<N>>
     }
 }
 
-/// Reads digits from column `at`.
+/// Reads digits from column `at`, counted from 0. `None` where the column isn't a text of exactly N digits.
 pub fn digits_at<const N: usize>(row: &Row, at: usize) -> Option<DigitString<N>>
     ensures told { IfSome result (λ digits. digits ≡ bytes (column row.now at)) }
     ensures fits { IfSome result (λ digits. column row.now at ≡ value.Text digits) }
@@ -48,7 +48,8 @@ pub fn digits_at<const N: usize>(row: &Row, at: usize) -> Option<DigitString<N>>
     }
 }
 
-/// Reads an identity from five columns, the first of which is `at`, below 100.
+/// Reads an identity from five columns: dataset name, date, time, originator and destination. The first is column `at`, counted from 0,
+/// which is below 100. `None` where a column isn't such a text.
 pub fn identity_at(row: &Row, at: usize) -> Option<Identity>
     requires { at < 100 }
     ensures told { IfSome result (λ identity. identity ≡ identity_in at row.now) }
@@ -64,7 +65,7 @@ pub fn identity_at(row: &Row, at: usize) -> Option<Identity>
     })
 }
 
-/// Reads a format from column `at`.
+/// Reads a format from column `at`, counted from 0: one of the texts `F`, `V`, `U` and `T`. `None` where the column has none of them.
 pub fn format_at(row: &Row, at: usize) -> Option<Format>
     ensures told { IfSome result (λ format. format ≡ format_in (bytes (column row.now at))) }
     ensures fits { IfSome result (λ format. column row.now at ≡ value.Text (format_text format)) }
@@ -88,7 +89,7 @@ pub fn format_at(row: &Row, at: usize) -> Option<Format>
     }
 }
 
-/// Reads a number of octets or rows from column `at`.
+/// Reads a number of octets or rows from column `at`, counted from 0. `None` where the column isn't an integer from 0 to 2^32 - 1.
 pub fn number_at(row: &Row, at: usize) -> Option<u32>
     ensures told { IfSome result (λ n. n ≡ number_in (column row.now at)) }
     ensures fits { IfSome result (λ n. column row.now at ≡ value.Int (pos n)) }
@@ -103,7 +104,7 @@ pub fn number_at(row: &Row, at: usize) -> Option<u32>
     }
 }
 
-/// Reads the number of an entry from column `at`.
+/// Reads the number of an entry from column `at`, counted from 0. `None` where the column isn't an integer from 0 on.
 pub fn no_at(row: &Row, at: usize) -> Option<u64>
     ensures fits { IfSome result (λ n. column row.now at ≡ value.Int (pos n)) }
     ensures found { (n : ℕ) → column row.now at ≡ value.Int (pos n) → IsSome result }
@@ -117,11 +118,12 @@ pub fn no_at(row: &Row, at: usize) -> Option<u64>
     }
 }
 
-/// Reads a text from column `at`.
+/// Reads a text from column `at`, counted from 0.
 ///
 /// # Errors
 ///
-/// [`OfficeFault::Store`] where there is no text that fits, and [`OfficeFault::Memory`].
+/// - [`OfficeFault::Store`]: the column isn't a text of 0 to 999 octets of UTF-8.
+/// - [`OfficeFault::Memory`]: out of memory.
 pub fn text_at(alloc: Global, row: &Row, at: usize) -> Result<Note, OfficeFault>
     ensures told { IfOk result (λ note. note ≡ bytes (column row.now at)) }
     ensures fits { IfOk result (λ note. column row.now at ≡ value.Text note) }
@@ -143,7 +145,7 @@ pub fn text_at(alloc: Global, row: &Row, at: usize) -> Result<Note, OfficeFault>
     }
 }
 
-/// Reads the state of an incoming file from column `at`.
+/// Reads the state of an incoming file from column `at`, counted from 0: the text `open` or `whole`. `None` where the column has neither.
 pub fn incoming_state_at(row: &Row, at: usize) -> Option<IncomingState>
     ensures told { IfSome result (λ state. state ≡ in_state_in (bytes (column row.now at))) }
     ensures fits { IfSome result (λ state. column row.now at ≡ value.Text (in_state_text state)) }
@@ -222,8 +224,8 @@ fn outgoing_state_of(text: &[u8], reason: &[u8]) -> Option<OutgoingState>
     }
 }
 
-/// Reads the state of an outgoing file from column `at`, below 100, and the reason of a refusal from the next column, which is empty in any
-/// other state.
+/// Reads the state of an outgoing file from column `at`, counted from 0, which is below 100. The next column has the reason of a refusal in
+/// two digits, and is empty in any other state. `None` where the two columns don't stand for a state.
 pub fn outgoing_state_at(row: &Row, at: usize) -> Option<OutgoingState>
     requires { at < 100 }
     ensures told { IfSome result (λ state. state ≡ out_state_in (bytes (column row.now at)) (bytes (column row.now (at + 1)))) }
@@ -237,7 +239,7 @@ pub fn outgoing_state_at(row: &Row, at: usize) -> Option<OutgoingState>
     }
 }
 
-/// Reads the kind of a response from column `at`.
+/// Reads the kind of a response from column `at`, counted from 0: the text `EERP` or `NERP`. `None` where the column has neither.
 pub fn kind_at(row: &Row, at: usize) -> Option<ResponseKind>
     ensures told { IfSome result (λ kind. kind ≡ kind_in (bytes (column row.now at))) }
     ensures fits { IfSome result (λ kind. column row.now at ≡ value.Text (kind_text kind)) }
@@ -270,8 +272,8 @@ fn reason_of(kind: ResponseKind, text: &[u8]) -> Option<Count<2>>
     }
 }
 
-/// Reads the reason of a response of this kind from column `at`: two digits for a Negative End Response, and an empty text, which is 0, for
-/// an End-to-End Response.
+/// Reads the reason of a response of this kind from column `at`, counted from 0: two digits for a Negative End Response, and an empty text,
+/// which is 0, for an End-to-End Response. `None` where the column has anything else.
 pub fn reason_at(row: &Row, at: usize, kind: ResponseKind) -> Option<Count<2>>
     ensures told { IfSome result (λ reason. reason ≡ number (bytes (column row.now at))) }
     ensures fits { IfSome result (λ reason. column row.now at ≡ value.Text (reason_text kind reason)) }
@@ -283,7 +285,8 @@ pub fn reason_at(row: &Row, at: usize, kind: ResponseKind) -> Option<Count<2>>
     }
 }
 
-/// Reads from column `at` whether a response was sent.
+/// Reads from column `at`, counted from 0, whether a response was sent: 0 for one that is due, 1 for one that was sent. `None` where the
+/// column has neither.
 pub fn dispatch_at(row: &Row, at: usize) -> Option<Dispatch>
     ensures told { IfSome result (λ dispatch. dispatch ≡ dispatch_in (number_in (column row.now at))) }
     ensures fits { IfSome result (λ dispatch. column row.now at ≡ value.Int (pos (sent_number dispatch))) }
@@ -296,11 +299,12 @@ pub fn dispatch_at(row: &Row, at: usize) -> Option<Dispatch>
     }
 }
 
-/// Reads the body of a row of a file from column `at`.
+/// Reads the octets of a row of a file from column `at`, counted from 0.
 ///
 /// # Errors
 ///
-/// [`OfficeFault::Store`] where there is none, and [`OfficeFault::Memory`].
+/// - [`OfficeFault::Store`]: the column isn't a blob.
+/// - [`OfficeFault::Memory`]: out of memory.
 pub fn body_at(alloc: Global, row: &Row, at: usize) -> Result<oftp_vfile::Row, OfficeFault>
     ensures told { IfOk result (λ body. body ≡ bytes (column row.now at)) }
     ensures fits { IfOk result (λ body. column row.now at ≡ value.Blob body) }

@@ -14,6 +14,7 @@ mod hearing;
 mod lists;
 mod noting;
 mod operators;
+mod refused;
 mod stations;
 
 /// The partner's SSID and an EERP.
@@ -39,7 +40,7 @@ fn office_fails(rt: HostRuntime) -> Result<(), Fail> {
             Line::of(INPUT),
             1_000_000,
         );
-        assert_eq!(rt; heard.end, Err(RunFault::Office));
+        assert!(rt; heard.end == Err(RunFault::Office));
         assert_eq!(rt; office.faults(), 1);
         assert_eq!(rt; heard.faults, 0);
         assert!(rt; heard.said.as_slice() == OUTPUT);
@@ -55,7 +56,7 @@ fn limit_ends_the_input(rt: HostRuntime) -> Result<(), Fail> {
         let mut office = Noting::failing(rt.alloc(), false);
         let role = Role::Responder;
         let heard = hear(rt.alloc(), &mut office, &book, role, Line::of(INPUT), most);
-        assert_eq!(rt; heard.end, Ok(End::Input), "at most {most}");
+        assert!(rt; heard.end == Ok(End::Input), "at most {most}");
         assert!(rt; heard.has_ended);
         assert_eq!(rt; heard.octets, most);
         assert_eq!(rt; heard.moved, sent, "at most {most}");

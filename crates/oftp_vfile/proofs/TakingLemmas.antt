@@ -1,5 +1,5 @@
 -- What a taker does with subrecords, one after another, and how it is restored.
-use Rattle.std.proofs.Common.{◌≡◌, ℕ, ◌+◌, ◌-◌, ◌<◌, ◌≤◌, ◌%◌, ◌/◌, Bool, true, false, cond, nat_le, ◌&&◌, Option, Some, None, List, [], ◌∷◌, ◌++◌, length, take, drop, refl, sym, ap, ◌∙◌, subst, arith, append_assoc}
+use Rattle.std.proofs.Common.{◌≡◌, ℕ, ◌+◌, ◌-◌, ◌<◌, ◌≤◌, ◌%◌, ◌/◌, ◌^◌, Bool, true, false, cond, nat_le, ◌&&◌, Option, Some, None, List, [], ◌∷◌, ◌++◌, length, take, drop, refl, sym, ap, ◌∙◌, subst, arith, append_assoc}
 use Rattle.std.proofs.lemmas.Bool.{leb-false, ltb-false, lt-leb, le-ltb, leb-true, or_parts}
 use Rattle.std.proofs.lemmas.List.{append-nil, length-append, length-take-le, length_push, same_from_push, length-drop, take-append-drop}
 use Rattle.std.proofs.lemmas.List.Concat.{flat_map-append}
@@ -228,7 +228,7 @@ grown_record t s rows tail e r q =
 -- the invariant of a taker
 pub record Bounded (t : Taking) : Type 0 where
   pub short : is_stream t.format ≡ true → length t.tail < BLOCK
-  pub fits : t.kept_units + t.limit < 9223372036854775808
+  pub fits : t.kept_units + t.limit < 2 ^ 63
   pub taken : t.units ≤ t.limit
   pub few : t.kept_rows + t.away + length t.rows ≤ MOST_ROWS
 

@@ -19,7 +19,7 @@ abbrev pub pieces : List Subrecord → List (List ℕ)
 pieces [] = [] ∷ []
 pieces (s ∷ ss) = if s.ends then s.octets ∷ pieces ss else onto s.octets (pieces ss)
 
--- at most one end flag, on the last subrecord: the end of a stream (RFC 5024, section 7.2)
+-- at most one end flag, on the last subrecord: the end of a stream (RFC 5024, section 7.2 on unstructured files; T goes likewise)
 abbrev pub IsStream : List Subrecord → Type 0
 IsStream [] = Unit {0}
 IsStream (s ∷ []) = Unit {0}

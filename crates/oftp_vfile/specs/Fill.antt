@@ -67,7 +67,7 @@ weight (r ∷ rs) = length r + 1 + weight rs
 abbrev pub fill : ℕ → List (List ℕ) → List (List ℕ)
 fill size records = map payload_of (fill_from (weight records) size records)
 
--- what a transfer of these rows sends, as records: a stream is one record (RFC 5024, section 7.2)
+-- what a transfer of these rows sends, as records: a stream is one record (RFC 5024, section 7.2 on unstructured files; T goes likewise)
 abbrev pub records_of : Format → List (List ℕ) → List (List ℕ)
 records_of format rows = if is_stream format then octets_in rows ∷ [] else rows
 

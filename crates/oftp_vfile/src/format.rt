@@ -11,10 +11,10 @@ use std::fmt;
 /// The number of octets of a block, which is a row of a stream other than the last (RFC 5024, section 1.5.4).
 pub const BLOCK: usize = 1024;
 
-/// The most rows of a file.
+/// The most rows of a file: records in F and V, blocks in U and T.
 pub const MOST_ROWS: usize = 1_000_000;
 
-/// The greatest length of a record, in octets.
+/// The greatest length of a record, in octets. RFC 5024 allows 99,999 (section 5.3.3).
 pub const LONGEST_RECORD: u32 = 16_384;
 
 /// The format of a virtual file (RFC 5024, section 1.5.3).
@@ -72,7 +72,7 @@ pub struct Limits {
     pub octets: u64,
 }
 
-/// Why a taker refuses a payload.
+/// Why a taker refuses a payload (RFC 5024, section 7.2).
 #[derive(Clone, Copy, Debug, PartialEq, Eq, Hash)]
 pub enum TakeFault {
     /// A subrecord extends past the end of its payload.

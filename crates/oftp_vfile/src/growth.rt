@@ -80,7 +80,8 @@ pub fn back_to(rows: &mut Vec<Row>, tail: &mut Vec<u8>, row_count: usize, tail_l
     tail.truncate(tail_len);
 }
 
-/// Appends a part of a record, and makes the record a row where it ends. `size` octets are allocated for it at once.
+/// Appends a part of a record, and makes the record a row where it ends, which `ends` says. Where it goes on and the tail has no room for
+/// the part, `size` octets are allocated at once.
 ///
 /// # Errors
 ///

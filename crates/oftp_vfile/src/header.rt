@@ -14,7 +14,8 @@ const COUNT: u8 = 0x3f;
 /// The most octets of a subrecord.
 pub const MOST_COUNT: usize = 63;
 
-/// The header of an uncompressed subrecord of fewer than 64 octets.
+/// The header of an uncompressed subrecord of fewer than 64 octets (RFC 5024, section 7.2). `ends` says whether it ends a record, or a
+/// stream.
 pub fn header_octet(ends: bool, count: usize) -> u8
     requires { count < 64 }
     ensures { result ≡ header_octet ends count }

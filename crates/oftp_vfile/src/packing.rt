@@ -21,7 +21,7 @@ fn put(out: &mut [u8], at: usize, ends: bool, part: &[u8])
     out[at + 1..at + 1 + count].copy_from_slice(part);
 }
 
-/// A place in the given rows: a row, and the number of its octets before the place.
+/// A place in the given rows: a row, counted from 0, and the number of its octets before the place.
 #[derive(Clone, Copy)]
 pub struct Place {
     pub row: usize,
@@ -167,8 +167,9 @@ pub enum End {
     Short,
 }
 
-/// Writes subrecords of a stream, from an offset of the first row on. The offset is 0, or within that row. No row is empty, and `out` has
-/// at least 2 octets.
+/// Writes subrecords of a stream, from an offset of the first row on. It returns how many octets were written, the next place, and why the
+/// payload ends there. `last` says whether the rows reach the end of the stream. The offset is 0, or within the first row. No row is empty,
+/// and `out` has at least 2 octets.
 pub fn pack_stream(rows: &[Row], offset: usize, last: bool, out: &mut [u8]) -> (usize, Place, End)
     requires offset { 0 < offset → offset < length (slice_index_or rows.now 0 []) }
     requires some { All (λ r. 0 < length r) rows.now }

@@ -116,12 +116,15 @@ impl Taker {
         }
     }
 
-    /// Takes the next payload: the octets after the `D` of a DATA command (RFC 5024, section 5.3.6). It may be empty.
+    /// Takes the next payload: the octets after the `D` of a DATA command (RFC 5024, sections 5.3.6 and 7.2). It may be empty.
     ///
     /// # Errors
     ///
-    /// That of the first faulty subrecord. Where several apply, it is the first of `AfterEnd`, `Compressed`, `Cut`, `TooBig` and
-    /// `RecordSize`. `Memory` means out of memory. The taker is unchanged.
+    /// - That of the first faulty subrecord. Where several apply, it is the first of [`TakeFault::AfterEnd`], [`TakeFault::Compressed`],
+    ///   [`TakeFault::Cut`], [`TakeFault::TooBig`] and [`TakeFault::RecordSize`].
+    /// - [`TakeFault::Memory`]: out of memory.
+    ///
+    /// The taker is unchanged.
     pub fn take(&mut self, payload: &[u8]) -> Result<(), TakeFault>
         // A payload that is taken carries rows within the limits, after the payloads before.
         ensures took { (gone payloads : List (List ℕ)) → Took self.old gone payloads

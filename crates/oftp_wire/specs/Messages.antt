@@ -12,7 +12,7 @@ use Rattle.oftp_wire.specs.declared.command.Eerp.{Eerp}
 use Rattle.oftp_wire.specs.declared.command.Nerp.{Nerp}
 use Rattle.oftp_wire.specs.declared.command.Command.{Command}
 use Rattle.oftp_wire.specs.declared.command.Command.TheVariants as commands
-use Rattle.oftp_wire.specs.Reasons.{refusal_text, session_text, negative_text}
+use Rattle.oftp_wire.specs.Reasons.{start_text, end_text, session_text, negative_text}
 
 -- the text of a fault
 abbrev pub fault_text : WireFault → List ℕ
@@ -45,7 +45,7 @@ sfid_text s = codes "SFID " ++ (file_text s.dataset s.date s.time ++ (codes " fr
 
 -- SFNA: the reason, whether the file may be offered again, and the text
 abbrev pub sfna_text : Sfna → List ℕ
-sfna_text s = codes "SFNA " ++ (refusal_text s.reason ++ ((if s.retry then codes ", retry" else []) ++ text_after_colon s.text))
+sfna_text s = codes "SFNA " ++ (start_text s.reason ++ ((if s.retry then codes ", retry" else []) ++ text_after_colon s.text))
 
 -- EERP: the file, and the station that the response is for
 abbrev pub eerp_text : Eerp → List ℕ
@@ -66,7 +66,7 @@ command_text (commands.Data s) = codes "DATA of " ++ (decimal (length s) ++ code
 command_text commands.Cdt = codes "CDT"
 command_text (commands.Efid s) = codes "EFID of " ++ (decimal s.records ++ (codes " records and " ++ (decimal s.units ++ codes " octets")))
 command_text (commands.Efpa s) = if s.change_direction then codes "EFPA, change of direction" else codes "EFPA"
-command_text (commands.Efna s) = codes "EFNA " ++ (refusal_text s.reason ++ text_after_colon s.text)
+command_text (commands.Efna s) = codes "EFNA " ++ (end_text s.reason ++ text_after_colon s.text)
 command_text (commands.Esid s) = codes "ESID " ++ (session_text s.reason ++ text_after_colon s.text)
 command_text commands.Cd = codes "CD"
 command_text (commands.Eerp s) = eerp_text s

@@ -65,9 +65,9 @@ reason_of NoRoom = None
 abbrev pub two_digits : ℕ → List ℕ
 two_digits n = decimal (n / 10) ++ decimal (n % 10)
 
--- what RFC 5024 calls a reason of SFNA or EFNA with this number, or nothing where it lists none (sections 5.3.5 and 5.3.10)
-unfoldable pub refusal_phrase : ℕ → List ℕ
-refusal_phrase n =
+-- what RFC 5024 calls a reason of SFNA with this number, or nothing where it lists none (section 5.3.5)
+unfoldable pub start_phrase : ℕ → List ℕ
+start_phrase n =
     if n == 1 then codes "invalid filename"
     else if n == 2 then codes "invalid destination"
     else if n == 3 then codes "invalid origin"
@@ -88,6 +88,14 @@ refusal_phrase n =
     else if n == 99 then codes "unspecified"
     else []
 
+-- what it calls a reason of EFNA: those of SFNA, and three of its own (section 5.3.10)
+unfoldable pub end_phrase : ℕ → List ℕ
+end_phrase n =
+    if n == 21 then codes "invalid file signature"
+    else if n == 22 then codes "file decryption failure"
+    else if n == 23 then codes "file decompression failure"
+    else start_phrase n
+
 -- what it calls a reason of ESID (section 5.3.11)
 unfoldable pub session_phrase : ℕ → List ℕ
 session_phrase n =
@@ -104,7 +112,7 @@ session_phrase n =
     else if n == 10 then codes "mode or capabilities incompatible"
     else if n == 11 then codes "invalid challenge response"
     else if n == 12 then codes "secure authentication requirements incompatible"
-    else if n == 99 then codes "unspecified"
+    else if n == 99 then codes "unspecified abort code"
     else []
 
 -- what it calls a reason of NERP (section 5.3.14)
@@ -112,8 +120,8 @@ unfoldable pub negative_phrase : ℕ → List ℕ
 negative_phrase n =
     if n == 3 then codes "user code not known"
     else if n == 4 then codes "invalid password"
-    else if n == 9 then codes "unspecified"
-    else if n == 11 then codes "invalid filename"
+    else if n == 9 then codes "unspecified reason"
+    else if n == 11 then codes "invalid file name"
     else if n == 12 then codes "invalid destination"
     else if n == 13 then codes "invalid origin"
     else if n == 14 then codes "invalid storage record format"
@@ -138,7 +146,7 @@ negative_phrase n =
     else if n == 36 then codes "not acknowledged by recipient"
     else if n == 50 then codes "transmission stopped by the operator"
     else if n == 90 then codes "file size incompatible with recipient's protocol version"
-    else if n == 99 then codes "unspecified"
+    else if n == 99 then codes "unspecified reason"
     else []
 
 -- a number and what it is called, for an operator
@@ -146,9 +154,13 @@ abbrev pub told_as : ℕ → List ℕ → List ℕ
 told_as n [] = codes "unknown reason " ++ two_digits n
 told_as n (b ∷ bs) = two_digits n ++ (codes " " ++ (b ∷ bs))
 
--- a reason of SFNA or EFNA, for an operator
-unfoldable pub refusal_text : ℕ → List ℕ
-refusal_text n = told_as n (refusal_phrase n)
+-- a reason of SFNA, for an operator
+unfoldable pub start_text : ℕ → List ℕ
+start_text n = told_as n (start_phrase n)
+
+-- a reason of EFNA
+unfoldable pub end_text : ℕ → List ℕ
+end_text n = told_as n (end_phrase n)
 
 -- a reason of ESID
 unfoldable pub session_text : ℕ → List ℕ

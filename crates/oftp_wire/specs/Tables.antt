@@ -234,7 +234,7 @@ eerp_table = record {
   end = 110;
 }
 
--- NERP with n octets of text (RFC 5024, section 5.3.14); its offsets and reserved octets are those of this station's profile
+-- NERP with n octets of text (RFC 5024, section 5.3.14)
 abbrev pub nerp_table : ℕ → Table Nerp
 nerp_table n = record {
   rows = word 0 (codes "N")

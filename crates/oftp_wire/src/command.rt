@@ -29,7 +29,7 @@ pub struct Ssid<'a> {
     pub user: X<'a, 8>,
 }
 
-/// The direction in which a station transfers files.
+/// The direction in which a station transfers files (RFC 5024, section 5.3.2).
 #[derive(Clone, Copy, Debug, PartialEq, Eq)]
 pub enum Mode {
     /// `S`: it only sends files.
@@ -86,7 +86,7 @@ pub(crate) enum Format {
     Text,
 }
 
-/// The format of a virtual file, with its longest record in octets.
+/// The format of a virtual file, with its longest record in octets (RFC 5024, section 5.3.3).
 #[derive(Clone, Copy, Debug, PartialEq, Eq)]
 pub enum Layout {
     /// `F`: records of one length.
@@ -168,8 +168,7 @@ pub struct Eerp<'a> {
     pub originator: X<'a, 25>,
 }
 
-/// NERP, Negative End Response: the file won't be delivered (RFC 5024, section 5.3.14). The offsets of its fields and its reserved octets
-/// are those of this station's profile.
+/// NERP, Negative End Response: the file won't be delivered (RFC 5024, section 5.3.14).
 #[derive(Debug, Drop, PartialEq)]
 pub struct Nerp<'a> {
     /// The dataset name of the file.
@@ -221,6 +220,6 @@ pub enum Command<'a> {
     Eerp(Eerp<'a>),
     /// The file won't be delivered.
     Nerp(Nerp<'a>),
-    /// The response was stored (RFC 5024, section 5.3.15).
+    /// The response has come, and the next command may follow (RFC 5024, sections 4.3.8 and 5.3.15).
     Rtr,
 }

@@ -124,11 +124,11 @@ impl Deframer {
     }
 
     /// A deframer that has allocated twice `room` octets. `feed` doesn't return `Memory` while the octets that were fed and not returned
-    /// are at most `room`. `limit` must be 5 to 100,003.
+    /// are at most `room`. `limit` is as in `new`: 5 to 100,003 octets.
     ///
     /// # Errors
     ///
-    /// [`FrameFault::Memory`].
+    /// [`FrameFault::Memory`]: out of memory, or twice `room` isn't a `usize`.
     pub fn with_room(alloc: Global, limit: usize, room: usize) -> Result<Deframer, FrameFault>
         requires low { 5 ≤ limit }
         requires high { limit ≤ 100003 }
@@ -197,7 +197,8 @@ impl Deframer {
     ///
     /// # Errors
     ///
-    /// [`FrameFault::BadHeader`] or [`FrameFault::BadLength`]. From then on `feed` and `next` both return it.
+    /// [`FrameFault::BadHeader`] or [`FrameFault::BadLength`]: the next frame is faulty. Its octets stay where they are. From then on
+    /// `feed` and `next` both return this error.
     pub fn next(&mut self) -> Result<Option<&[u8]>, FrameFault>
         ensures value { shown result ≡ next_of self.old self.old.told }
         ensures* after { sem 𝓛 (Rests the_row self.entry

@@ -6,7 +6,9 @@ ghost use Rattle.oftp_wire.specs.Messages.{printable, shown_text, text_after_col
 
 use crate::command::{Command, Eerp, Nerp, Sfid, Sfna, Ssid};
 use crate::field::{Count, Digits, Octets, Text, X};
-use crate::words::{write_negative_reason, write_refusal, write_session_reason};
+use crate::words::{
+    write_end_reason, write_negative_reason, write_session_reason, write_start_reason,
+};
 use std::fmt;
 
 impl<const N: usize> fmt::Display for X<'_, N> {
@@ -83,7 +85,7 @@ impl fmt::Display for Command<'_> {
             }),
             Command::Efna(s) => {
                 f.write_str("EFNA ")?;
-                write_refusal(f, s.reason)?;
+                write_end_reason(f, s.reason)?;
                 write_text(f, &s.text)
             }
             Command::Esid(s) => {
@@ -112,7 +114,7 @@ fn write_sfna<W: fmt::Write>(f: &mut fmt::Formatter<W>, s: &Sfna) -> fmt::Result
     ensures { DisplaysOnOk W.write_str_gives f.old result (Some (sfna_text s.now)) f.new }
 {
     f.write_str("SFNA ")?;
-    write_refusal(f, s.reason)?;
+    write_start_reason(f, s.reason)?;
     f.write_str(if s.retry { ", retry" } else { "" })?;
     write_text(f, &s.text)
 }

@@ -5,7 +5,7 @@ ghost use Rattle.oftp_wire.specs.Reasons.{start_number, start_reason, end_number
 
 use crate::fault::WireFault;
 use crate::field::Count;
-use crate::words::{write_refusal, write_session_reason};
+use crate::words::{write_end_reason, write_session_reason, write_start_reason};
 use std::fmt;
 
 /// Why a station refuses a virtual file: the reasons of SFNA (RFC 5024, section 5.3.5).
@@ -182,23 +182,23 @@ impl WireFault {
 
 impl fmt::Display for StartReason {
     ghost use Rattle.std.specs.Prelude.{Some};
-    ghost use Rattle.oftp_wire.specs.Reasons.{start_number, refusal_text};
+    ghost use Rattle.oftp_wire.specs.Reasons.{start_number, start_text};
 
-    ghost output = { λ r. Some (refusal_text (start_number r)) };
+    ghost output = { λ r. Some (start_text (start_number r)) };
 
     fn fmt<W: fmt::Write>(&self, f: &mut fmt::Formatter<W>) -> fmt::Result {
-        write_refusal(f, self.number())
+        write_start_reason(f, self.number())
     }
 }
 
 impl fmt::Display for EndReason {
     ghost use Rattle.std.specs.Prelude.{Some};
-    ghost use Rattle.oftp_wire.specs.Reasons.{end_number, refusal_text};
+    ghost use Rattle.oftp_wire.specs.Reasons.{end_number, end_text};
 
-    ghost output = { λ r. Some (refusal_text (end_number r)) };
+    ghost output = { λ r. Some (end_text (end_number r)) };
 
     fn fmt<W: fmt::Write>(&self, f: &mut fmt::Formatter<W>) -> fmt::Result {
-        write_refusal(f, self.number())
+        write_end_reason(f, self.number())
     }
 }
 

@@ -2,15 +2,15 @@
 
 ghost use Rattle.std.specs.Prelude.{◌≡◌, Some};
 ghost use Rattle.std.specs.Fmt.{DisplaysOnOk};
-ghost use Rattle.oftp_wire.specs.Reasons.{two_digits, refusal_phrase, session_phrase, negative_phrase, told_as, refusal_text, session_text, negative_text};
+ghost use Rattle.oftp_wire.specs.Reasons.{two_digits, start_phrase, end_phrase, session_phrase, negative_phrase, told_as, start_text, end_text, session_text, negative_text};
 
 use crate::field::Count;
 use std::fmt;
 
-/// What a reason of SFNA or EFNA is called (RFC 5024, sections 5.3.5 and 5.3.10). Nothing for a number that isn't listed.
-#[tactic(auto, unfolding(crate::specs::Reasons::refusal_phrase))]
-fn refusal_phrase(number: Count<2>) -> &'static str
-    ensures { result.now ≡ refusal_phrase number }
+/// What a reason of SFNA is called (RFC 5024, section 5.3.5). Nothing for a number that isn't listed.
+#[tactic(auto, unfolding(crate::specs::Reasons::start_phrase))]
+fn start_phrase(number: Count<2>) -> &'static str
+    ensures { result.now ≡ start_phrase number }
 {
     match number.get() {
         1 => "invalid filename",
@@ -35,6 +35,19 @@ fn refusal_phrase(number: Count<2>) -> &'static str
     }
 }
 
+/// What a reason of EFNA is called: as one of SFNA, and three of its own (section 5.3.10).
+#[tactic(auto, unfolding(crate::specs::Reasons::end_phrase))]
+fn end_phrase(number: Count<2>) -> &'static str
+    ensures { result.now ≡ end_phrase number }
+{
+    match number.get() {
+        21 => "invalid file signature",
+        22 => "file decryption failure",
+        23 => "file decompression failure",
+        _ => start_phrase(number),
+    }
+}
+
 /// What a reason of ESID is called (section 5.3.11).
 #[tactic(auto, unfolding(crate::specs::Reasons::session_phrase))]
 fn session_phrase(number: Count<2>) -> &'static str
@@ -54,7 +67,7 @@ fn session_phrase(number: Count<2>) -> &'static str
         10 => "mode or capabilities incompatible",
         11 => "invalid challenge response",
         12 => "secure authentication requirements incompatible",
-        99 => "unspecified",
+        99 => "unspecified abort code",
         _ => "",
     }
 }
@@ -67,8 +80,8 @@ fn negative_phrase(number: Count<2>) -> &'static str
     match number.get() {
         3 => "user code not known",
         4 => "invalid password",
-        9 => "unspecified",
-        11 => "invalid filename",
+        9 => "unspecified reason",
+        11 => "invalid file name",
         12 => "invalid destination",
         13 => "invalid origin",
         14 => "invalid storage record format",
@@ -93,7 +106,7 @@ fn negative_phrase(number: Count<2>) -> &'static str
         36 => "not acknowledged by recipient",
         50 => "transmission stopped by the operator",
         90 => "file size incompatible with recipient's protocol version",
-        99 => "unspecified",
+        99 => "unspecified reason",
         _ => "",
     }
 }
@@ -122,15 +135,26 @@ fn write_told<W: fmt::Write>(
     write!(f, " {phrase}")
 }
 
-/// Writes a reason of SFNA or EFNA.
-#[tactic(auto, unfolding(crate::specs::Reasons::refusal_text))]
-pub(crate) fn write_refusal<W: fmt::Write>(
+/// Writes a reason of SFNA.
+#[tactic(auto, unfolding(crate::specs::Reasons::start_text))]
+pub(crate) fn write_start_reason<W: fmt::Write>(
     f: &mut fmt::Formatter<W>,
     number: Count<2>,
 ) -> fmt::Result
-    ensures { DisplaysOnOk W.write_str_gives f.old result (Some (refusal_text number)) f.new }
+    ensures { DisplaysOnOk W.write_str_gives f.old result (Some (start_text number)) f.new }
 {
-    write_told(f, number, refusal_phrase(number))
+    write_told(f, number, start_phrase(number))
+}
+
+/// Writes a reason of EFNA.
+#[tactic(auto, unfolding(crate::specs::Reasons::end_text))]
+pub(crate) fn write_end_reason<W: fmt::Write>(
+    f: &mut fmt::Formatter<W>,
+    number: Count<2>,
+) -> fmt::Result
+    ensures { DisplaysOnOk W.write_str_gives f.old result (Some (end_text number)) f.new }
+{
+    write_told(f, number, end_phrase(number))
 }
 
 /// Writes a reason of ESID.

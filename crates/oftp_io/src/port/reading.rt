@@ -8,7 +8,7 @@ use std::io::Read;
 
 impl<R: Read> Port<R> {
     /// Reads the next octets into the beginning of a slice, which must not be empty, and returns how many were read. 0 means the end of the
-    /// input. `None` means that the reader returned an error, and no octet is counted.
+    /// input. `None` means that the reader returned an error. Then no octet is counted, and the error is.
     pub fn read(&mut self, piece: &mut [u8]) -> Option<usize>
         requires { 0 < length piece.old }
         ensures { Reads R.remaining self.old self.new piece.new result }

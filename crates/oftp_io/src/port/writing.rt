@@ -28,7 +28,8 @@ impl<W: Write> Port<W> {
         }
     }
 
-    /// Writes octets, and returns whether the writer took all of them. If it didn't, it returned an error and has a beginning of them.
+    /// Writes octets, and returns whether the writer took all of them. If it didn't, it returned an error, or took no octet, and has a
+    /// beginning of them. Only what it took is counted.
     pub fn send(&mut self, octets: &[u8]) -> bool
         ensures { Sent W.contents self.old self.new octets.now result }
     {

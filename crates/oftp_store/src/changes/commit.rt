@@ -16,8 +16,8 @@ use sqlite::{Alter, Connection};
 /// # Errors
 ///
 /// - [`OfficeFault::Refused`] with the first cause that applies. Only look-ups were made.
-/// - [`OfficeFault::Memory`]: out of memory, or no number is left.
-/// - [`OfficeFault::Store`]: any other error of the database.
+/// - [`OfficeFault::Memory`]: out of memory, or SQLite has no rowid left for a row of a file.
+/// - [`OfficeFault::Store`]: no number is left, or any other error of the database.
 ///
 /// After an error the register is unchanged if the connection is still open.
 pub(crate) fn commit_change<S: Alter>(

@@ -21,10 +21,8 @@ use sqlite::{Alter, Error, Transaction, params};
 fn done(count: Result<usize, Error>) -> Result<(), Error>
     ensures { result ≡ uncounted count }
 {
-    match count {
-        Ok(_) => Ok(()),
-        Err(error) => Err(error),
-    }
+    count?;
+    Ok(())
 }
 
 // The two decimal digits of a reason code.

@@ -53,7 +53,7 @@ fn allocation_after(limits: Limits, last: u64) -> Result<Allocation, OfficeFault
 ///
 /// # Errors
 ///
-/// [`OfficeFault::Memory`] also where no number is left, and the errors of a look-up.
+/// [`OfficeFault::Store`] also where no number is left, and the errors of a look-up.
 pub(crate) fn find_allocation<S: Alter>(
     conn: &mut Connection<S>,
     limits: Limits,
@@ -75,7 +75,7 @@ pub(crate) fn find_allocation<S: Alter>(
 ///
 /// # Errors
 ///
-/// [`OfficeFault::Memory`] also where no number is left, and the errors of a look-up.
+/// [`OfficeFault::Store`] also where no number is left, and the errors of a look-up.
 pub(crate) fn find_incoming_allocation<S: Alter>(
     alloc: Global,
     conn: &mut Connection<S>,

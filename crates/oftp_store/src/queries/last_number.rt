@@ -72,15 +72,15 @@ pub(crate) fn is_full<S: Alter>(
     Ok(last >= most)
 }
 
-/// The number after this one. [`OfficeFault::Memory`] where the database can't store it.
+/// The number after this one. [`OfficeFault::Store`] where the database can't store it.
 pub(crate) fn number_after(last: u64) -> Result<u64, OfficeFault>
     ensures made { last + 1 < 2 ^ 63 → result ≡ Ok (last + 1) }
-    ensures full { 2 ^ 63 ≤ last + 1 → result ≡ Err OfficeFault.Memory }
+    ensures full { 2 ^ 63 ≤ last + 1 → result ≡ Err OfficeFault.Store }
 {
     if last < FIRST_FAR - 1 {
         Ok(last + 1)
     } else {
-        Err(OfficeFault::Memory)
+        Err(OfficeFault::Store)
     }
 }
 
@@ -88,7 +88,7 @@ pub(crate) fn number_after(last: u64) -> Result<u64, OfficeFault>
 ///
 /// # Errors
 ///
-/// [`OfficeFault::Memory`] also where no number is left, and the errors of a look-up.
+/// [`OfficeFault::Store`] also where no number is left, and the errors of a look-up.
 pub(crate) fn new_number<S: Alter>(
     conn: &mut Connection<S>,
     table: Table,

@@ -1,19 +1,19 @@
-//! Lists of all files and of all responses, in order of their numbers. Each entry is read by a query of its own.
+//! Lists of all outgoing files and of all responses, in order of their numbers. Each entry is read by a query of its own.
 
 ghost use Rattle.std.specs.Prelude.{◌≡◌, ◌+◌, ◌<◌, ◌^◌, ◌++◌, List, length, slice_get, OnOk, IfErr};
 ghost use Rattle.sqlite.specs.Held.{state};
 ghost use Rattle.oftp_register.specs.Register.{Register};
-ghost use Rattle.oftp_register.specs.LookUps.{list_in, list_issued, list_out, list_received};
+ghost use Rattle.oftp_register.specs.LookUps.{list_issued, list_out, list_received};
 ghost use Rattle.oftp_register.specs.Offices.{IsFailure};
 ghost use Rattle.oftp_tables.specs.Statements.{Looks};
 ghost use Rattle.oftp_store.specs.Numbers.{entries_in};
 ghost use Rattle.oftp_store.specs.Tells.{Tells, listed};
 
-use super::file_by_number::{find_incoming_file, find_outgoing_file};
+use super::file_by_number::find_outgoing_file;
 use super::issued::find_issued;
 use super::last_number::{Table, last_number};
 use super::received::find_received;
-use oftp_register::{IncomingEntry, IssuedEntry, OfficeFault, OutgoingEntry, ReceivedEntry};
+use oftp_register::{IssuedEntry, OfficeFault, OutgoingEntry, ReceivedEntry};
 use sqlite::{Alter, Connection};
 use std::alloc::Global;
 
@@ -34,22 +34,6 @@ pub(crate) trait Listed: Sized {
         requires { before + 1 < 2 ^ 63 }
         ensures looks { Looks (state S.Store conn.old) (state S.Store conn.new) result }
         ensures answer { Tells (λ r found. found ≡ slice_get (entries r) before) (state S.Store conn.old) (state S.Store conn.new) result };
-}
-
-impl Listed for IncomingEntry {
-    ghost entries = { list_in };
-
-    fn table() -> Table {
-        Table::IncomingFiles
-    }
-
-    fn find_after<S: Alter>(
-        alloc: Global,
-        conn: &mut Connection<S>,
-        before: u64,
-    ) -> Result<Option<IncomingEntry>, OfficeFault> {
-        find_incoming_file(alloc, conn, before + 1)
-    }
 }
 
 impl Listed for OutgoingEntry {

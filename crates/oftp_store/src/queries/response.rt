@@ -1,8 +1,9 @@
 //! The responses to incoming files, as their table stores them.
 
-ghost use Rattle.std.specs.Prelude.{◌≡◌, ◌↔◌, [], IsTrue};
+ghost use Rattle.std.specs.Prelude.{◌≡◌, ◌<◌, ◌↔◌, [], IfErr, IfOk, IsTrue};
+ghost use Rattle.oftp_register.specs.Offices.{IsFailure};
 ghost use Rattle.oftp_register.specs.Soundness.{IsResponse, IsSound};
-ghost use Rattle.oftp_store.specs.Reads.{IsResponseTo, response_in, response_values};
+ghost use Rattle.oftp_store.specs.Reads.{IsResponseTo, TellsResponse, response_from, response_in, response_values};
 
 use super::by_number::ByNumber;
 use oftp_register::{IssuedResponse, Note, OfficeFault, ResponseKind, is_response};
@@ -21,6 +22,34 @@ fn is_fit(kind: ResponseKind, reason: Count<2>, text: &Note) -> bool
     }
 }
 
+/// The response that a row tells in four columns from a place on, which is below 100. Columns that are none of a response are a fault
+/// of the store.
+pub(crate) fn response_at(
+    alloc: Global,
+    row: &Row,
+    at: usize,
+) -> Result<IssuedResponse, OfficeFault>
+    requires { at < 100 }
+    ensures told { IfOk result (λ response. response ≡ response_from at row.now) }
+    ensures fits { IfOk result (λ response. TellsResponse response at row.now) }
+    ensures within { IfOk result (λ response. IsResponse response.kind response.reason [] response.text) }
+    ensures fails { IfErr result IsFailure }
+{
+    let kind = kind_at(row, at).ok_or(OfficeFault::Store)?;
+    let reason = reason_at(row, at + 1, kind).ok_or(OfficeFault::Store)?;
+    let dispatch = dispatch_at(row, at + 3).ok_or(OfficeFault::Store)?;
+    let text = text_at(alloc, row, at + 2)?;
+    if !is_fit(kind, reason, &text) {
+        return Err(OfficeFault::Store);
+    }
+    Ok(IssuedResponse {
+        kind,
+        reason,
+        text,
+        dispatch,
+    })
+}
+
 impl ByNumber for IssuedResponse {
     ghost told = { response_in };
 
@@ -35,18 +64,6 @@ impl ByNumber for IssuedResponse {
     }
 
     fn from_row(alloc: Global, row: &Row) -> Result<IssuedResponse, OfficeFault> {
-        let kind = kind_at(row, 0).ok_or(OfficeFault::Store)?;
-        let reason = reason_at(row, 1, kind).ok_or(OfficeFault::Store)?;
-        let dispatch = dispatch_at(row, 3).ok_or(OfficeFault::Store)?;
-        let text = text_at(alloc, row, 2)?;
-        if !is_fit(kind, reason, &text) {
-            return Err(OfficeFault::Store);
-        }
-        Ok(IssuedResponse {
-            kind,
-            reason,
-            text,
-            dispatch,
-        })
+        response_at(alloc, row, 0)
     }
 }

@@ -17,7 +17,7 @@ use std::alloc::Global;
 #[derive(Drop)]
 pub(crate) struct SettledFile {
     pub no: u64,
-    /// How many of its rows were acknowledged by CDT.
+    /// How many of its rows were wholly sent when CDT last came.
     pub mark: u32,
 }
 
@@ -68,7 +68,7 @@ pub(crate) fn find_settled_file<S: Alter>(
 ///
 /// # Errors
 ///
-/// [`OfficeFault::Memory`] also where no number is left, and the errors of a look-up.
+/// [`OfficeFault::Store`] also where no number is left, and the errors of a look-up.
 pub(crate) fn find_response_match<S: Alter>(
     alloc: Global,
     conn: &mut Connection<S>,

@@ -3,7 +3,7 @@
 ghost use Rattle.std.specs.Prelude.{◌≢◌, OnOk};
 ghost use Rattle.oftp_session.specs.Standings.{Broken};
 
-use super::files::{open, remove_files};
+use super::files::{Trial, over_files, remove_files};
 use oftp_durable::go_on_durable;
 use oftp_engine::{Conversation, End, Port, Role, RunFault, serve};
 use oftp_partners::{Book, read};
@@ -68,19 +68,14 @@ fn take<S: Alter>(
 }
 
 // Gives it the pieces, and reads the register after the second.
-fn converse<S: Alter + Drop>(
-    alloc: Global,
-    office: SqlOffice<S>,
-    book: &Book,
-) -> Result<Talk, Fail> {
-    let mut office = office;
+fn converse<S: Alter>(alloc: Global, office: &mut SqlOffice<S>, book: &Book) -> Result<Talk, Fail> {
     let mut conversation = Conversation::new(alloc, book, Role::Responder);
     let mut writer = Port::new(Vec::new(alloc), 0);
     let [first, second, third] = PIECES;
-    let one = take(&mut conversation, &mut office, &mut writer, first)?;
-    let two = take(&mut conversation, &mut office, &mut writer, second)?;
-    let meanwhile = snapshot(alloc, &mut office)?;
-    let three = take(&mut conversation, &mut office, &mut writer, third)?;
+    let one = take(&mut conversation, office, &mut writer, first)?;
+    let two = take(&mut conversation, office, &mut writer, second)?;
+    let meanwhile = snapshot(alloc, office)?;
+    let three = take(&mut conversation, office, &mut writer, third)?;
     Ok(Talk {
         ends: [one, two, three],
         meanwhile,
@@ -106,7 +101,7 @@ fn left_at_once(alloc: Global, rt: &impl Abort, book: &Book) -> Result<String, F
     let mut writer = Port::new(Vec::new(alloc), 0);
     let role = Role::Responder;
     let end = serve(alloc, &mut office, book, role, &mut reader, &mut writer);
-    assert_eq!(rt; end, Ok(End::Partner(Count::new(0))));
+    assert!(rt; end == Ok(End::Partner(Count::new(0))));
     assert!(rt; writer.inner().as_slice() == SAID);
     Ok(snapshot(alloc, &mut office)?)
 }
@@ -114,10 +109,42 @@ fn left_at_once(alloc: Global, rt: &impl Abort, book: &Book) -> Result<String, F
 // The database's files.
 const FILES: [&str; 2] = ["conversation_test.db", "conversation_test.db-wal"];
 
-// The register of an office, which is closed then.
-fn found<S: Alter + Drop>(alloc: Global, office: SqlOffice<S>) -> Result<String, Fail> {
-    let mut office = office;
-    Ok(snapshot(alloc, &mut office)?)
+// The conversation.
+#[derive(Drop)]
+struct Conversing<'a> {
+    book: &'a Book,
+}
+
+impl Trial for Conversing<'_> {
+    type Found = Talk;
+
+    fn carry_out<S: Alter + Drop>(
+        &self,
+        alloc: Global,
+        _rt: &impl Abort,
+        office: SqlOffice<S>,
+    ) -> Result<Talk, Fail> {
+        let mut office = office;
+        converse(alloc, &mut office, self.book)
+    }
+}
+
+// The register.
+#[derive(Drop)]
+struct Register;
+
+impl Trial for Register {
+    type Found = String;
+
+    fn carry_out<S: Alter + Drop>(
+        &self,
+        alloc: Global,
+        _rt: &impl Abort,
+        office: SqlOffice<S>,
+    ) -> Result<String, Fail> {
+        let mut office = office;
+        Ok(snapshot(alloc, &mut office)?)
+    }
 }
 
 /// The conversation waits after the second piece, and the register can be read. At its end the database has the same register as after a
@@ -127,9 +154,9 @@ fn conversation_over_a_database(rt: HostRuntime) -> Result<(), Fail> {
     let alloc = rt.alloc();
     let book = read(alloc, BOOK)?;
     remove_files(&rt, &FILES);
-    let talk = converse(alloc, open(&rt, &FILES)?, &book)?;
+    let talk = over_files(&rt, &rt, &FILES, &Conversing { book: &book })?;
     assert!(rt; is_heard(&talk));
-    let found = found(alloc, open(&rt, &FILES)?)?;
+    let found = over_files(&rt, &rt, &FILES, &Register)?;
     assert_eq!(rt; found.as_str(), WHOLE);
     let at_once = left_at_once(alloc, &rt, &book)?;
     assert_eq!(rt; found.as_str(), at_once.as_str());

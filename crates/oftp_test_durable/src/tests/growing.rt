@@ -1,6 +1,6 @@
 //! A growing list of jobs over a database. The expected octets are written by hand from RFC 5024.
 
-use super::files::{open, remove_files};
+use super::files::{Trial, over_files, remove_files};
 use super::{AnyJob, READY, call};
 use oftp_durable::do_next_durable;
 use oftp_engine::{End, Job, Operator, Port, Refusal, Role, RunFault, Told};
@@ -44,31 +44,45 @@ fn silence<'a>(alloc: Global) -> AnyJob<'a> {
     )
 }
 
-// A call, a session and a call that is refused are done one by one, and each has its result. It returns how many files there are to send.
-fn grows<S: Alter + Drop>(
-    alloc: Global,
-    rt: &impl Abort,
-    office: SqlOffice<S>,
-) -> Result<usize, Fail> {
-    let mut office = office;
+// A call, a session and a call that is refused are done one by one, and each has its result.
+fn grow<S: Alter>(alloc: Global, rt: &impl Abort, office: &mut SqlOffice<S>) -> Result<(), Fail> {
     let book = read(alloc, BOOK)?;
     let submit = call(alloc, Operator::Submit(FILE));
-    let Ok(Done::Call(told, line)) = carried_out(alloc, &mut office, &book, submit) else {
+    let Ok(Done::Call(told, line)) = carried_out(alloc, office, &book, submit) else {
         return Err("not submitted".into());
     };
-    assert_eq!(rt; told, Some(Ok(Told::Done)));
+    assert!(rt; told == Some(Ok(Told::Done)));
     assert!(rt; line.as_slice() == "done: submit 1\n".as_bytes());
-    let Ok(Done::Session(end, said)) = carried_out(alloc, &mut office, &book, silence(alloc)) else {
+    let Ok(Done::Session(end, said)) = carried_out(alloc, office, &book, silence(alloc)) else {
         return Err("not served".into());
     };
-    assert_eq!(rt; end, Some(Ok(End::Input)));
+    assert!(rt; end == Some(Ok(End::Input)));
     assert!(rt; said.as_slice() == READY);
     let release = call(alloc, Operator::Release { no: 1 });
-    let Ok(Done::Call(told, _)) = carried_out(alloc, &mut office, &book, release) else {
+    let Ok(Done::Call(told, _)) = carried_out(alloc, office, &book, release) else {
         return Err("not carried out".into());
     };
-    assert_eq!(rt; told, Some(Ok(Told::Refused(Refusal::Unknown))));
-    Ok(office.list_out()?.len())
+    assert!(rt; told == Some(Ok(Told::Refused(Refusal::Unknown))));
+    Ok(())
+}
+
+// These jobs, and then how many files there are to send.
+#[derive(Drop)]
+struct Growing;
+
+impl Trial for Growing {
+    type Found = usize;
+
+    fn carry_out<S: Alter + Drop>(
+        &self,
+        alloc: Global,
+        rt: &impl Abort,
+        office: SqlOffice<S>,
+    ) -> Result<usize, Fail> {
+        let mut office = office;
+        grow(alloc, rt, &mut office)?;
+        Ok(office.list_out()?.len())
+    }
 }
 
 // The database's files.
@@ -77,9 +91,8 @@ const FILES: [&str; 2] = ["growing_test.db", "growing_test.db-wal"];
 /// Jobs are done as they are added, over a database's files.
 #[test]
 fn jobs_as_they_come(rt: HostRuntime) -> Result<(), Fail> {
-    let alloc = rt.alloc();
     remove_files(&rt, &FILES);
-    let files = grows(alloc, &rt, open(&rt, &FILES)?)?;
+    let files = over_files(&rt, &rt, &FILES, &Growing)?;
     assert_eq!(rt; files, 1);
     remove_files(&rt, &FILES);
     Ok(())

@@ -1,6 +1,6 @@
 //! Sessions, calls and lists over a database. The expected octets are written by hand from RFC 5024.
 
-use super::files::{open, remove_files};
+use super::files::{Trial, over_files, remove_files};
 use super::{AnyJob, READY, call};
 use oftp_durable::{operate_durable, run_at, run_durable, serve_durable};
 use oftp_engine::{End, Job, Operator, Port, Refusal, Role, RunFault, Told};
@@ -62,31 +62,44 @@ fn submit<S: Alter>(
     told
 }
 
-// One office does a call, a session and a list. The file exists when the office is opened again.
-fn works<S: Alter + Drop>(
-    alloc: Global,
-    rt: &impl Abort,
-    office: SqlOffice<S>,
-) -> Result<(), Fail> {
+// One office does a call, a session and a list.
+fn work<S: Alter>(alloc: Global, rt: &impl Abort, office: &mut SqlOffice<S>) -> Result<(), Fail> {
     let book = read(alloc, BOOK)?;
-    let mut office = office;
     let mut line = Vec::new(alloc);
-    assert_eq!(rt;
-        submit(alloc, &mut office, &book, &mut line),
-        Ok(Told::Done)
-    );
+    let told = submit(alloc, office, &book, &mut line);
+    assert!(rt; told == Ok(Told::Done));
     assert!(rt; line.as_slice() == "done: submit 1\n".as_bytes());
     let mut said = Vec::new(alloc);
-    assert_eq!(rt;
-        silence(alloc, &mut office, &book, &mut said),
-        Ok(End::Input)
-    );
+    let end = silence(alloc, office, &book, &mut said);
+    assert!(rt; end == Ok(End::Input));
     assert!(rt; said.as_slice() == READY);
     let mut jobs = [call(alloc, Operator::Release { no: 1 })];
-    assert_eq!(rt; run_durable(alloc, &mut office, &book, &mut jobs), Ok(()));
-    assert_eq!(rt; answer(&jobs[0]), Some(Ok(Told::Refused(Refusal::Unknown))));
-    assert_eq!(rt; files_again(alloc, office)?, 1);
+    run_durable(alloc, office, &book, &mut jobs)?;
+    assert!(rt; answer(&jobs[0]) == Some(Ok(Told::Refused(Refusal::Unknown))));
     Ok(())
+}
+
+// How many files there are to send once the office is opened again, and before that its work, if it has some.
+#[derive(Drop)]
+struct Again {
+    has_work: bool,
+}
+
+impl Trial for Again {
+    type Found = usize;
+
+    fn carry_out<S: Alter + Drop>(
+        &self,
+        alloc: Global,
+        rt: &impl Abort,
+        office: SqlOffice<S>,
+    ) -> Result<usize, Fail> {
+        let mut office = office;
+        if self.has_work {
+            work(alloc, rt, &mut office)?;
+        }
+        files_again(alloc, office)
+    }
 }
 
 // The database's files.
@@ -102,16 +115,20 @@ fn list(rt: &HostRuntime, book: &Book, jobs: &mut [AnyJob<'_>]) -> Option<Result
 
 /// A list is done over the files at a path, and its file exists when they are opened again. An office works over new files.
 #[test]
-fn over_files(rt: HostRuntime) -> Result<(), Fail> {
+fn list_over_files(rt: HostRuntime) -> Result<(), Fail> {
     let alloc = rt.alloc();
     remove_files(&rt, &FILES);
     let book = read(alloc, BOOK)?;
     let mut jobs = [call(alloc, Operator::Submit(FILE))];
-    assert_eq!(rt; list(&rt, &book, &mut jobs), Some(Ok(())));
-    assert_eq!(rt; answer(&jobs[0]), Some(Ok(Told::Done)));
-    assert_eq!(rt; files_again(alloc, open(&rt, &FILES)?)?, 1);
+    let ran = list(&rt, &book, &mut jobs);
+    assert!(rt; ran == Some(Ok(())));
+    assert!(rt; answer(&jobs[0]) == Some(Ok(Told::Done)));
+    assert_eq!(rt;
+        over_files(&rt, &rt, &FILES, &Again { has_work: false })?,
+        1
+    );
     remove_files(&rt, &FILES);
-    works(alloc, &rt, open(&rt, &FILES)?)?;
+    assert_eq!(rt; over_files(&rt, &rt, &FILES, &Again { has_work: true })?, 1);
     remove_files(&rt, &FILES);
     Ok(())
 }

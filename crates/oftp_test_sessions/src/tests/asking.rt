@@ -35,7 +35,7 @@ fn send(
     let book = read(alloc, BOOK)?;
     let submit = Operator::Submit(file);
     let told = call(alloc, office, &book, &submit, &mut Vec::new(alloc));
-    assert_eq!(rt; told, Ok(Told::Done));
+    assert!(rt; told == Ok(Told::Done));
     let role = caller(&book, b"O0177CARMAKER")?;
     let heard = hear(alloc, office, &book, role, Line::of(PARTNER), 1_000_000);
     assert_eq!(rt; heard.moved, octets);
@@ -49,7 +49,7 @@ fn rows_asked_for(rt: HostRuntime) -> Result<(), Fail> {
     // SSID, SFID, DATA of 127, 127 and 46 records, EFID and CD.
     let octets = 65 + 178 + 132 + 132 + 51 + 39 + 5;
     let end = send(rt.alloc(), &rt, &mut office, RECORDS, octets)?;
-    assert_eq!(rt; end, Ok(End::Partner(Count::new(0))));
+    assert!(rt; end == Ok(End::Partner(Count::new(0))));
     assert_eq!(rt; office.most, 127);
     Ok(())
 }
@@ -60,7 +60,7 @@ fn row_lost_by_the_store(rt: HostRuntime) -> Result<(), Fail> {
     let mut office = Noting::new(rt.alloc(), None);
     office.loses = true;
     let end = send(rt.alloc(), &rt, &mut office, FILE, 65 + 178 + 11)?;
-    assert_eq!(rt; end, Err(RunFault::Office));
+    assert!(rt; end == Err(RunFault::Office));
     Ok(())
 }
 
@@ -115,7 +115,7 @@ fn take(
     let octets = three_files(alloc, digits)?;
     let line = Line::of(octets.as_slice());
     let heard = hear(alloc, office, &book, Role::Responder, line, 1_000_000);
-    assert_eq!(rt; heard.end, Ok(End::Partner(Count::new(0))));
+    assert!(rt; heard.end == Ok(End::Partner(Count::new(0))));
     let mut said = GREETED.to_vec(alloc)?;
     for _ in digits {
         said.extend_from_slice(answer)?;
@@ -139,7 +139,7 @@ fn next_looked_up_once(rt: HostRuntime) -> Result<(), Fail> {
         &release,
         &mut Vec::new(rt.alloc()),
     );
-    assert_eq!(rt; told, Ok(Told::Done));
+    assert!(rt; told == Ok(Told::Done));
     take(rt.alloc(), &rt, &mut office, b"456", TAKEN_AND_ASKED)?;
     assert_eq!(rt; office.next, 2);
     Ok(())

@@ -38,7 +38,7 @@ fn tells(
     for (operator, wanted, told) in rows {
         let mut line = Vec::new(alloc);
         let answer = call(alloc, office, &book, operator, &mut line);
-        assert_eq!(rt; answer, Ok(*told), "{wanted}");
+        assert!(rt; answer == Ok(*told), "{wanted}");
         assert!(rt; line.as_slice() == wanted.as_bytes(), "{wanted}");
     }
     Ok(())
@@ -134,7 +134,7 @@ fn operator_at_a_failing_office(rt: HostRuntime) -> Result<(), Fail> {
         let mut office = Noting::failing(rt.alloc(), true);
         let mut line = Vec::new(rt.alloc());
         let told = call(rt.alloc(), &mut office, &book, &operator, &mut line);
-        assert_eq!(rt; told, Err(RunFault::Office));
+        assert!(rt; told == Err(RunFault::Office));
         assert_eq!(rt; office.faults(), 1);
         assert_eq!(rt; line.len(), 0);
     }

@@ -1,4 +1,5 @@
 use Rattle.std.proofs.Common.{◌≡◌, None, length}
+use Rattle.oftp_engine.specs.declared.conversation.TheConstants.{LONGEST_FRAME}
 use Rattle.oftp_engine.specs.Runs.{Course}
 use Rattle.oftp_engine.specs.Serving.{scene}
 use Rattle.oftp_engine.specs.Progress.{IsAt}
@@ -12,7 +13,7 @@ invariant-frames g l =
     let new = g.O.Office.view l.office in
     let first = scene g.W.Write.contents old l.fn.writer in
     IsUnderway g.W.Write.contents old new l.fn.writer l.writer l.session
-    (new.clean → old.stands → (c : Course) → l.fn.stream.limit ≡ 100003 → l.fn.stream.told ≡ None → IsAt c l.fn.session first
+    (new.clean → old.stands → (c : Course) → l.fn.stream.limit ≡ LONGEST_FRAME → l.fn.stream.told ≡ None → IsAt c l.fn.session first
     → IsPumping c l.fn.stream.rest l.stream l.session first (scene g.W.Write.contents new l.writer))
 
 abbrev pub decreases-frames : goal.decreases-frames
