@@ -84,8 +84,8 @@ pub record Asks (old new : View) : Type 0 where
   pub stays : new.told ≡ old.told → new.clean → old.stands → new.stands
   pub counts : (new.told ≡ old.told) ⊎ (new.told ≡ next_count old.told)
 
--- The office returned no error, and this is the reply. Over any store it shows something, or that there is nothing. If the office was open
--- and its store reads what was written, it is the reply for the register.
+-- The office returned no error, and this is the reply. Whatever the store reads, it shows something, or that there is nothing. If the office
+-- was open and its store reads what was written, it is the reply for the register.
 pub record IsShown (is_get : Bool) (route : Option Route) (old new : View) (text : List ℕ) : Type 0 where
   pub untold : new.told ≡ old.told
   pub shown' : Option Data

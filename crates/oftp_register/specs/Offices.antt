@@ -68,8 +68,8 @@ IsFailure Memory = ⊤
 IsFailure (Refused cause) = ⊥
 
 -- What a look-up does. If the store reads what was written and the office was open, it returns what it looks up in the register. The office
--- stays open unless there was an error. Wherever it is open its register is unchanged, and a crash leaves that register. Over any store it
--- refuses nothing and counts its errors.
+-- stays open unless there was an error. Wherever it is open its register is unchanged, and a crash leaves that register. Whatever the store
+-- reads, it refuses nothing and counts its errors.
 pub record LooksUp {T : Type 0} (Tells : Register → T → Type 0) (old new : View) (result : Result T OfficeFault) : Type 0 where
   pub clean : new.clean → old.clean
   pub answer : new.clean → old.stands → IfOk result (Tells old.register)
@@ -81,7 +81,7 @@ pub record LooksUp {T : Type 0} (Tells : Register → T → Type 0) (old new : V
 
 -- What a change does. If the store reads what was written and the office was open, a fit change is made, and after `Ok` the office is open.
 -- It is refused if the register refuses it, and then the office stays open. After any error an office that is still open has its old
--- register. A crash within a fit change leaves it made or not made. Over any store it counts its errors.
+-- register. A crash within a fit change leaves it made or not made. Whatever the store reads, it counts its errors.
 pub record Commits {T : Type 0} (change : Change) (old new : View) (result : Result T OfficeFault) : Type 0 where
   pub clean : new.clean → old.clean
   pub done : new.clean → old.stands → IsFit old.register change → OnOk result ((apply old.register change ≡ Ok new.register) × new.stands)

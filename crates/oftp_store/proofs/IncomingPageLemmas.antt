@@ -199,7 +199,7 @@ page_rows db behind rows files issued headers a =
     (rising_outs behind 1 files) there a.sorted in
     a.shown ∙ ap (λ (os : List Output). Rattle.sqlite.specs.Query.page page_query (page_params behind) (map (λ (o : Output). o.1) os)) order_is
 
--- ---- what a row tells
+-- ---- what a row has
 
 answer_back : (behind n : ℕ) (f : Incoming) (o : Option Issued) → HasReason o → IsSoundAnswer o → paged_response (page_row behind n f o) ≡ option_map issued_response o
 answer_back behind n f None small right = refl
@@ -219,7 +219,7 @@ row_back r behind n f small right counted =
     ∙ ap (λ count. made n f f.format f.state count response) counted
     ∙ ap (made n f f.format f.state (length f.rows)) (answer_back behind n f f.response small right)
 
--- an entry that is made of what a row tells
+-- an entry that is made of what a row has
 abbrev file_so : ℕ → IncomingHeader → ℕ → Option IssuedResponse → IncomingEntry
 file_so k header count response = record {
   no = k;
@@ -245,7 +245,7 @@ no_answer_told row x is = ap (λ v. if_told v x) is
 pub answer_told : (row : Row) (x : IssuedResponse) (kind : List ℕ) → column row 9 ≡ Text kind → x ≡ response_from 9 row → Some x ≡ paged_response row
 answer_told row x kind is told = ap Some told ∙ sym (ap (λ v. if_told v (response_from 9 row)) is)
 
--- ---- the entries that the rows tell
+-- ---- the entries of the rows
 
 module _ (r : Register) (behind : ℕ) where
   abbrev entries_told : ℕ → List Incoming → List IncomingEntry

@@ -90,7 +90,7 @@ response_from at row = record {
 abbrev pub response_in : Row → IssuedResponse
 response_in row = response_from 0 row
 
--- a row tells a response, in four columns from a place on
+-- a row has a response, in four columns from a place on
 pub record TellsResponse (x : IssuedResponse) (at : ℕ) (row : Row) : Type 0 where
   pub kind : column row at ≡ Text (kind_text x.kind)
   pub reason : column row (at + 1) ≡ Text (reason_text x.kind x.reason)
@@ -160,7 +160,7 @@ paged_response row = if_told (column row 9) (response_from 9 row)
 abbrev pub paged_number : Row → ℕ
 paged_number row = number_in (column row 13)
 
--- the file that a row tells, with so many rows
+-- the file in a row of a page, with so many rows
 abbrev pub paged_file : Row → ℕ → IncomingEntry
 paged_file row count =
     let header = incoming_header_in row in

@@ -38,7 +38,7 @@ fn is_next(no: u64, before: usize) -> bool {
     no.checked_sub(1) == Some(before as u64)
 }
 
-// The number of the file that a row of a page tells.
+// The number of the file in a row of a page.
 fn number_in(row: &Row) -> Result<u64, OfficeFault>
     ensures told { IfOk result (λ no. no ≡ paged_number row.now) }
     ensures small { IfOk result (λ no. no < 2 ^ 63) }
@@ -50,7 +50,7 @@ fn number_in(row: &Row) -> Result<u64, OfficeFault>
     }
 }
 
-// The response that a row of a page tells, if there is one.
+// The response in a row of a page, if there is one.
 fn response_in(alloc: Global, row: &Row) -> Result<Option<IssuedResponse>, OfficeFault>
     ensures told { IfOk result (λ response. response ≡ paged_response row.now) }
     ensures fails { IfErr result IsFailure }
@@ -61,7 +61,7 @@ fn response_in(alloc: Global, row: &Row) -> Result<Option<IssuedResponse>, Offic
     }
 }
 
-// The file that a row of a page tells, with its number and so many rows.
+// The file in a row of a page, with its number and so many rows.
 fn file_in(alloc: Global, row: &Row, no: u64, rows: u32) -> Result<IncomingEntry, OfficeFault>
     ensures told { IfOk result (λ entry. no ≡ paged_number row.now → entry ≡ paged_file row.now rows) }
     ensures fails { IfErr result IsFailure }
@@ -81,7 +81,7 @@ fn file_in(alloc: Global, row: &Row, no: u64, rows: u32) -> Result<IncomingEntry
     })
 }
 
-// One entry more, of the file that a row of a page tells.
+// One entry more, of the file in a row of a page.
 fn add_file(
     alloc: Global,
     row: &Row,

@@ -22,7 +22,7 @@ fn is_fit(kind: ResponseKind, reason: Count<2>, text: &Note) -> bool
     }
 }
 
-/// The response that a row tells in four columns from a place on, which is below 100. Columns that are none of a response are a fault
+/// The response in four columns of a row, from a place below 100 on. Columns that are none of a response are a fault
 /// of the store.
 pub(crate) fn response_at(
     alloc: Global,

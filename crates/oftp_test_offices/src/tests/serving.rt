@@ -212,7 +212,7 @@ fn is_register(changes: usize, found: &[String]) -> bool {
     }
 }
 
-// Whether each change is found that stands before an answer of which one octet is out, and at most one more, which came to a fault.
+// Whether each change is found that comes before an answer of which one octet is out, and at most one more, which ended in an error.
 fn is_kept(out: usize, is_fault: bool, found: &[String]) -> bool {
     let least = BEGINS.iter().filter(|begin| **begin < out).count();
     is_register(least, found) || is_fault && is_register(least.saturating_add(1), found)
@@ -256,7 +256,7 @@ fn stop_at_each(alloc: Global, rt: &impl Abort, stop: Stop) -> Result<u64, Fail>
     Err("no session ended".into())
 }
 
-/// What a stop leaves is compared with the octets that are out, with and without what was written since the last sync.
+/// What is found after a crash is compared with the octets that are out, with and without what was written since the last sync.
 #[test]
 fn stop_within_a_session(rt: HostRuntime) -> Result<(), Fail> {
     let mut stopped = 0_u64;
