@@ -18,10 +18,10 @@ from pathlib import Path
 sys.path.insert(0, str(Path(__file__).resolve().parents[1] / "lib"))
 
 from program import ROOT
+from reasons import words_of
 
 PAGE = ROOT / "crates/oftp_resident/src/page.html"
 COPY = ROOT / "crates/oftp_resident/src/page.rt"
-REASONS = ROOT / "crates/oftp_wire/specs/Reasons.antt"
 NAMES = ROOT / "crates/oftp_listing/specs/Names.antt"
 # What a policy has to have, besides the hashes.
 POLICY = [
@@ -65,13 +65,6 @@ def copy_of(text):
     )
 
 
-def reasons_told(phrase):
-    """The reasons that the definition with this name lists, with their words."""
-    text = REASONS.read_text(encoding="utf-8")
-    table = re.search(rf"^{phrase} n =\n(.*?)^    else \[\]$", text, re.S | re.M)
-    return [(f"{int(number):02}", words) for number, words in re.findall(r'if n == (\d+) then codes "(.*)"$', table.group(1), re.M)]
-
-
 def reasons_shown(text, name):
     """The reasons in this table of the page."""
     found = re.search(rf"const {name} = \{{(.*?)\}};", text, re.S)
@@ -102,10 +95,10 @@ def judged(text):
     for word in FORBIDDEN:
         yield f"it has no {word.strip()}", word not in text
     for name, phrase in (("START_REASONS", "start_phrase"), ("NEGATIVE_REASONS", "negative_phrase")):
-        told, shown = reasons_told(phrase), reasons_shown(text, name)
-        for number, words in told:
+        told, shown = words_of(phrase), reasons_shown(text, name)
+        for number, words in told.items():
             yield f"{name} has the reason {number} {words}", (number, words) in shown
-        yield f"{name} has no other reason", set(shown) == set(told)
+        yield f"{name} has no other reason", set(shown) == set(told.items())
     for side, name in states_told():
         yield f"it knows the {side} state {name}", name in states_shown(text).get({"incoming": "in", "outgoing": "out"}[side], ())
     yield "it has a browser ask for no icon", '<link rel="icon" href="data:,">' in text

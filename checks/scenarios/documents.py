@@ -4,12 +4,15 @@
     checks/scenarios/documents.py
 
 The commands of docs/COMMANDS.md are those of the program, and its line for each names the options in its `--help`. Its reasons are those of
-the page. README.md and the table of docs/ARCHITECTURE.md name all crates. The blocks below README's heading "A day .." and below "The first
-day" of docs/OPERATING.md are typed as they are, each in a folder of its own, with free ports: what follows a `$` prints the lines below it.
-Without stunnel the first day ends before it. README's three lines for a service are typed too, in a folder that takes the place of /usr/local
-and /etc, without systemd. If `rt` is installed, the documents name its logic. The last line is `N passed, M failed`.
+oftp_wire. Its table of the partner book has the keys that a book needs, and its table of reports the columns that are printed. Its keys of the
+JSON objects are those of rows/listing, which `listing.py` compares with the program. README.md and the table of docs/ARCHITECTURE.md name all
+crates. The blocks below README's heading "A day .." and below "The first day" of docs/OPERATING.md are typed as they are, each in a folder of
+its own, with free ports: what follows a `$` prints the lines below it. Without stunnel the first day ends before it. README's three lines for
+a service are typed too, in a folder that takes the place of /usr/local and /etc, without systemd. If `rt` is installed, the documents name its
+logic. The last line is `N passed, M failed`.
 """
 
+import json
 import os
 import re
 import shutil
@@ -18,11 +21,13 @@ import subprocess
 import sys
 import tempfile
 import time
+import tomllib
 from pathlib import Path
 
 sys.path.insert(0, str(Path(__file__).resolve().parents[1] / "lib"))
 
 from program import PROGRAM, ROOT
+from reasons import numbers_of, words_of
 from services import LONG, Wrong, expect, free_port
 
 README = ROOT / "README.md"
@@ -32,10 +37,16 @@ ARCHITECTURE = ROOT / "docs/ARCHITECTURE.md"
 # A command's line of the table: its name, and the rest.
 LINE = re.compile(r"^\| `\./oftp_station ([a-z]+)((?:[^`|]|\\\|)*)` \|", re.M)
 OPTION = re.compile(r"--[a-z][a-z-]*")
-PAGE = ROOT / "crates/oftp_resident/src/page.html"
-# A reason with its words, in a document and in the page.
-REASON = re.compile(r"(?:\| |, )(\d\d) ([a-z][a-z' ]*[a-z])")
-REASON_OF_PAGE = re.compile(r'"(\d\d)": "([^"]+)"')
+# A reason with its words, up to the next one.
+REASON = re.compile(r"\b(\d\d) ([a-z][a-z' ]*?)(?= and \d\d|[,.]|$)", re.M)
+# A key of the partner book, and the book of the example.
+KEY = re.compile(r"^\| `(station|partner)\.(\w+)` \|", re.M)
+BOOK = ROOT / "examples/supplier/book.toml"
+# A report with its columns, and the sentence on further keys of the JSON objects.
+REPORT = re.compile(r"^\| `(\w+)` \| `([\w,]+)` \|$", re.M)
+MORE_KEYS = re.compile(r"Files also have ([^.]*), and responses that were received have (`\w+`)")
+# A request of rows/listing whose reply has content.
+REPLY = re.compile(r"^ask GET /(\w+)[/\d]* HTTP/1\.1\n200 (.*)$", re.M)
 # The ports that the documents name.
 PORT = re.compile(r"\b(?:3305|3306|8080|6619|13305)\b")
 # The end of a text that a command gets in the lines below it.
@@ -71,27 +82,88 @@ def crates_are_told():
     expect(set(re.findall(r"oftp_\w+", layout)), crates, "the crates of README.md")
 
 
+def part_of(path, heading):
+    """What a document has below a heading of the second level."""
+    return path.read_text(encoding="utf-8").partition(f"\n## {heading}")[2].partition("\n## ")[0]
+
+
+def lines_of(text, first):
+    """The lines of the table whose first heading is this one, each as its cells."""
+    table = text.partition(f"\n| {first} |")[2].partition("\n\n")[0]
+    return [[cell.strip() for cell in line.strip("|").split("|")] for line in table.splitlines()[2:]]
+
+
 def reasons_are_told():
-    """The reasons of SFNA and NERP in the documents are those of the page."""
-    page = PAGE.read_text(encoding="utf-8")
-    commands = COMMANDS.read_text(encoding="utf-8")
-    for kind, name in (("SFNA", "START_REASONS"), ("NERP", "NEGATIVE_REASONS")):
-        table = commands.partition(f"\n| {kind} |")[2].partition("\n\n")[0]
-        shown = page.partition(f"const {name} = {{")[2].partition("};")[0]
-        expect(dict(REASON.findall(table)), dict(REASON_OF_PAGE.findall(shown)), f"the reasons of {kind} in docs/COMMANDS.md")
+    """The reasons of docs/COMMANDS.md are those of oftp_wire, with their words, and those that this station gives are told as such."""
+    text = part_of(COMMANDS, "Reasons")
+    for kind, phrase in (("SFNA", "start_phrase"), ("ESID", "session_phrase"), ("NERP", "negative_phrase")):
+        told = "\n".join(line[0] for line in lines_of(text, kind))
+        expect(dict(REASON.findall(told)), words_of(phrase), f"the reasons of {kind} in docs/COMMANDS.md")
+    given = {line[0][:2] for line in lines_of(text, "SFNA") if line[1]}
+    expect(given, numbers_of("start_number"), "the reasons of SFNA that this station gives in docs/COMMANDS.md")
+    ends = next(line[1] for line in lines_of(part_of(COMMANDS, "Lines"), "Line") if line[0] == "`end: own RR`")
+    given = {"00", *re.findall(r"(?<=[:,] )\d\d\b", ends)}
+    expect(given, numbers_of("session_number"), "the reasons of ESID that this station gives in docs/COMMANDS.md")
+    # EFNA has the reasons of SFNA and a few more. The text names these, and those that this station gives.
+    told = " ".join(text.partition("(EFNA, section 5.3.10)")[2].partition("\n\n")[0].split())
+    given = {number: words_of("start_phrase")[number] for number in numbers_of("end_number")}
+    expect(dict(REASON.findall(told)), given | words_of("end_phrase"), "the reasons of EFNA in docs/COMMANDS.md")
 
 
-def blocks_below(path, heading):
-    """The indented blocks of a document below a heading, each as its lines."""
-    text = path.read_text(encoding="utf-8").partition(f"\n## {heading}")[2].partition("\n## ")[0]
-    lines = [line[4:] if line.startswith("    ") else None for line in text.splitlines()]
-    block = []
+def keys_are_told():
+    """The keys of a partner book are those of the example's, and a book without one of them lacks a key."""
+    keys = KEY.findall(part_of(COMMANDS, "The partner book"))
+    text = BOOK.read_text(encoding="utf-8")
+    book = tomllib.loads(text)
+    there = {("station", key) for key in book["station"]} | {("partner", key) for partner in book["partner"] for key in partner}
+    expect(set(keys), there, "the keys of a partner book in docs/COMMANDS.md")
+    with tempfile.TemporaryDirectory() as room:
+        less = Path(room) / "book"
+        for table, key in keys:
+            head, mark, rest = text.partition(f"[{table}]")
+            less.write_text(head + mark + re.sub(rf"^{key} = .*\n", "", rest, count=1, flags=re.M), encoding="utf-8")
+            expect(said("check", "--book", less), "fault: 5 book 2\n", f"a book without {table}.{key}")
+
+
+def columns_are_told():
+    """The columns of each report are its first row, and the keys of the JSON objects are these and those that the text adds."""
+    text = part_of(COMMANDS, "Reports and lists")
+    columns = dict(REPORT.findall(text))
+    expect(set(columns), {"in", "out", "issued", "received"}, "the reports of docs/COMMANDS.md")
+    with tempfile.TemporaryDirectory() as room:
+        for kind, names in columns.items():
+            expect(said("report", "--db", Path(room) / "database", kind), f"{names}\n", f"the columns of report {kind}")
+    files, responses = (re.findall(r"`(\w+)`", names) for names in MORE_KEYS.search(text).groups())
+    more = {"in": files, "out": files, "issued": [], "received": responses}
+    keys = {kind: sorted({*names.split(","), *more[kind]}) for kind, names in columns.items()}
+    shown = [(kind, list(entry)) for path in (ROOT / "rows/listing").glob("*.listing") for kind, entry in entries_of(path)]
+    expect({kind for kind, _ in shown}, set(columns), "the lists of rows/listing")
+    for kind, names in shown:
+        expect(names, keys[kind], f"the keys of an object of {kind}")
+
+
+def entries_of(path):
+    """The JSON objects in the replies of a file of rows/listing, each with the list that it is of."""
+    for target, reply in REPLY.findall(path.read_text(encoding="utf-8")):
+        value = json.loads(reply)
+        lists = value if target == "responses" else {target: value if isinstance(value, list) else [value]}
+        yield from ((kind, entry) for kind, entries in lists.items() for entry in entries)
+
+
+def blocks_below(path, heading, least):
+    """The indented blocks of a document below a heading, each as its lines. If fewer are there than `least`, the heading or its blocks aren't
+    found as they are written now."""
+    lines = [line[4:] if line.startswith("    ") else None for line in part_of(path, heading).splitlines()]
+    blocks, block = [], []
     for line in [*lines, None]:
         if line is not None:
             block.append(line)
         elif block:
-            yield block
+            blocks.append(block)
             block = []
+    if len(blocks) < least:
+        raise Wrong(f"below {heading!r} of {path.name}: wanted {least} blocks or more, got {len(blocks)}")
+    return blocks
 
 
 def typed(block):
@@ -168,7 +240,7 @@ class Typist:
 def day_goes_as_shown():
     """README's day, typed as it is."""
     with Typist() as typist:
-        for block in blocks_below(README, "A day"):
+        for block in blocks_below(README, "A day", 2):
             for command, wanted in typed(block):
                 typist.type(command, wanted)
 
@@ -179,7 +251,7 @@ def example_prints_what_is_shown():
     environment = {**os.environ, "OFTP_STATION": str(PROGRAM)}
     words = [ROOT / "examples/two_stations.sh"]
     printed = subprocess.run(words, env=environment, capture_output=True, text=True, timeout=300, check=True).stdout.splitlines()
-    shown = [line for line in [*blocks_below(README, "Setting up")][1] if not line.startswith("fault:")]
+    shown = [line for line in blocks_below(README, "Setting up", 2)[1] if not line.startswith("fault:")]
     forms = [re.sub(r"\d+", "N", line) for line in printed]
     lost = [line for line in shown if re.sub(r"\d+", "N", line) not in forms]
     expect(lost, [], "what README shows and the example doesn't print")
@@ -192,7 +264,7 @@ def service_is_installed_as_shown():
             (typist.path / folder).mkdir(parents=True)
         (typist.path / "crates/oftp_station/out/oftp_station").symlink_to(PROGRAM)
         (typist.path / "bin/systemctl").symlink_to("/bin/true")
-        for block in blocks_below(README, "As a service"):
+        for block in blocks_below(README, "As a service", 1):
             for command, wanted in typed(block):
                 typist.type(re.sub(r" /(usr|etc)/", r" \1/", command), wanted)
                 for unit in re.findall(r"[\w@-]+\.service", command):
@@ -203,7 +275,7 @@ def first_day_goes_as_shown():
     """The first day of docs/OPERATING.md, typed as it is."""
     has_tunnel = shutil.which("stunnel") and shutil.which("openssl")
     with Typist() as typist:
-        for block in blocks_below(OPERATING, "The first day"):
+        for block in blocks_below(OPERATING, "The first day", 9):
             if block[0].startswith("openssl ") and not has_tunnel:
                 print("NOT TRIED without stunnel: the first day through TLS")
                 return
@@ -224,8 +296,8 @@ def kit_is_told():
 
 
 CASES = [
-    *(commands_are_told, options_are_told, crates_are_told, reasons_are_told, day_goes_as_shown, first_day_goes_as_shown),
-    *(example_prints_what_is_shown, service_is_installed_as_shown, kit_is_told),
+    *(commands_are_told, options_are_told, crates_are_told, reasons_are_told, keys_are_told, columns_are_told),
+    *(day_goes_as_shown, first_day_goes_as_shown, example_prints_what_is_shown, service_is_installed_as_shown, kit_is_told),
 ]
 
 
