@@ -4,9 +4,10 @@
     checks/scenarios/stock_sqlite.py
 
 The tables below are those of a station's database; the SQL that makes them is generated from these lines, and not taken from the station's
-code. The last line is `N passed, M failed`.
+code. What a viewer adds is removed by the commands of docs/OPERATING.md. The last line is `N passed, M failed`.
 """
 
+import re
 import shutil
 import sqlite3
 import subprocess
@@ -21,6 +22,7 @@ from program import PROGRAM, ROOT
 
 BOOK = ROOT / "examples/supplier/book.toml"
 ONE_FILE = ROOT / "examples/one_file.octets"
+OPERATING = ROOT / "docs/OPERATING.md"
 SECONDS = 60
 BLOCK = 1024
 
@@ -95,6 +97,13 @@ WRONG = {
     "schema 7": "UPDATE about SET schema = 7",
     "a text in a number's place": "DROP TABLE about; CREATE TABLE about (id INTEGER NOT NULL PRIMARY KEY, schema ANY NOT NULL) STRICT; INSERT INTO about VALUES (1, '2')",
 }
+
+# What a viewer adds: its type, its name in docs/OPERATING.md, and what makes it. They are in the order of the command that removes them.
+ADDED = [
+    ("view", "name_of_the_view", "CREATE VIEW name_of_the_view AS SELECT no FROM in_file"),
+    ("index", "name_of_the_index", "CREATE INDEX name_of_the_index ON received (date)"),
+    ("table", "sqlite_stat1", "ANALYZE"),
+]
 
 
 class Unlike(Exception):
@@ -304,6 +313,25 @@ def tables_made_in_another_order(room):
             expect_refused(db, [command, "--db", db])
 
 
+def what_a_viewer_added(room):
+    """What a viewer adds is refused. The commands of docs/OPERATING.md show it and remove it, and the database opens again as it was."""
+    text = OPERATING.read_text(encoding="utf-8").partition("\n### Leave the tables alone\n")[2].partition("\n### ")[0]
+    shows, removes = re.findall(r'^    sqlite3 station\.db "(.*)"$', text, re.M)
+    db, own = room / "station.db", {("table", name) for name in TABLES}
+    expect_run(["feed", "--db", db, "--book", BOOK, ONE_FILE, room / "out"], "end: partner 00\n")
+    expect(len(removes.split("; ")), len(ADDED), "how many kinds docs/OPERATING.md removes")
+    for (kind, name, makes), statement in zip(ADDED, removes.split("; ")):
+        expect(set(ask(db, shows)), own, "what is there")
+        write(db, makes)
+        expect_refused(db, ["report", "--db", db, "in"])
+        added = set(ask(db, shows)) - own
+        # Some builds of sqlite3 make the table sqlite_stat4 too.
+        expect(((kind, name) in added, {it for it, _ in added}), (True, {kind}), f"what is there after {makes}")
+        write(db, *(statement.replace(name, it) for _, it in added))
+        expect_run(["init", "--db", db], "done: init\n")
+        expect_file(db)
+
+
 def no_tables_to_bring_to_schema_2(room):
     db = room / "station.db"
     write(db, "VACUUM")
@@ -327,6 +355,7 @@ ROWS_OF_ALL = {
         a_database_that_stock_sqlite3_made,
         a_database_of_schema_1,
         tables_made_in_another_order,
+        what_a_viewer_added,
         no_tables_to_bring_to_schema_2,
         no_database,
     )
