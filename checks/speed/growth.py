@@ -6,8 +6,9 @@
 Stock sqlite3 fills registers of 10 and 100 MiB in two files, and of 1,000 and 10,000 received and sent files; `--large` and `--whole` add one of
 1 GiB and one of 100,000 files. Over each, `run` does what operators and partners ask for, each act several times, and a line has the average: the
 processor seconds of the station, and those of the command that asked it. An act with the same result however large the register is may take
-at most MOST times what it takes over the smallest one; a list may take MOST times the ratio of its numbers of entries. Sending a file may
-take LOOK longer for each file that is there: each look-up of what is next goes past all that is answered, which is more than is wanted.
+at most MOST times what it takes over the smallest one; a list may take MOST times the ratio of its numbers of entries. A session with a file
+that is received may also take WALK for each answered response, because it looks once for what is next, past all of them. So may each file
+that is sent, because each look goes past all of them, which is more than is wanted. A line says what this look took over a larger register.
 With `--whole` a line also has what the same act takes as a program of its own, with its opening, how much memory that has, and what plain C
 over libsqlite3 (`plain_store.c`, `plain_register.c`) takes for it over the same database without opening it. With `--assert` it fails if
 one takes longer. The last line is `N passed, M failed`.
@@ -34,7 +35,10 @@ from program import PROGRAM, ROOT
 # How many times the time over the smallest register an act may take (2 is wanted), and the seconds that may be chance.
 MOST = 3
 NOISE = 0.002
-LOOK = 0.000_000_25
+# The seconds that a session may take to pass an answered response where it looks for what is next: 50 ms for 100,000.
+WALK = 0.050 / 100_000
+# The act that shows what this look takes: the smallest session that has only one.
+LOOKING = "10 KB come in"
 SMALL = 10 * 1024
 # How often each small act is done.
 OFTEN = 20
@@ -43,21 +47,22 @@ STEP = 64
 
 
 class Register(NamedTuple):
-    """A database: its name, its file, how many files were received and sent before those that are added for the acts, and how many times
-    the smallest it is."""
+    """A database: its name, its file, how many files were received and sent before those that are added for the acts, how many of the
+    received ones are answered, and how many times the smallest it is."""
 
     name: str
     database: Path
     came: int
     went: int
+    answered: int
     times: int
 
 
 class Act(NamedTuple):
     """An act: its name, its function, how often it is done, whether its result has all entries, in how many parts one act is done, and
-    whether it looks past all that is answered, each time. `do` gets a station and how often it was done before: a `Held` one, for which it
-    returns the processor seconds of the command, or an `Alone` one, for which it returns what a program of its own took. `plain` has the
-    arguments for plain C."""
+    whether each part looks once for what is next, past all answered responses. `do` gets a station and how often it was done before: a
+    `Held` one, for which it returns the processor seconds of the command, or an `Alone` one, for which it returns what a program of its own
+    took. `plain` has the arguments for plain C."""
 
     name: str
     do: Callable
@@ -65,7 +70,7 @@ class Act(NamedTuple):
     often: int = OFTEN
     is_list: bool = False
     parts: int = 1
-    looks_each_time: bool = False
+    walks: bool = False
 
 
 class Room:
@@ -88,12 +93,12 @@ class Room:
     def by_size(self):
         for mebis in (10, 100, 1024) if self.is_large else (10, 100):
             database = fill_large(self.empty, self.path / "register", mebis)
-            yield with_small(Register(f"{mebis:,} MiB", database, 2, 0, 1))
+            yield with_small(Register(f"{mebis:,} MiB", database, 2, 0, 0, 1))
 
     def by_count(self):
         for count in (1_000, 10_000, 100_000) if self.is_large else (1_000, 10_000):
             database = fill_many(self.empty, self.path / "register", count)
-            yield with_small(Register(f"{count:,} files", database, count, count, count // 1000))
+            yield with_small(Register(f"{count:,} files", database, count, count, count, count // 1000))
 
 
 def with_small(register):
@@ -208,7 +213,7 @@ def listed(kind):
 ACTS = [
     Act("submit of 10 KB", submit, lambda it: ["plain_register", "submit", it.room.content, "NEW"]),
     # Before responses are due, because these would be sent first.
-    Act("10 KB go out", lambda it, at: it.session(*taken_answers(it.files, 1)), lambda it: it.send(), 1, parts=OFTEN, looks_each_time=True),
+    Act("10 KB go out", lambda it, at: it.session(*taken_answers(it.files, 1)), lambda it: it.send(), 1, parts=OFTEN, walks=True),
     Act(
         "release",
         lambda it, at: it.command("release", "--book", it.room.book, str(released(it, at))),
@@ -226,7 +231,7 @@ ACTS = [
     ),
     Act("GET /in/NO", lambda it, at: it.request(f"/in/{released(it, at)}"), lambda it: ["plain_register", "show", "in", released(it, 0)]),
     Act("GET /out/NO", lambda it, at: it.request(f"/out/{it.register.went + 1}"), lambda it: ["plain_register", "show", "out", it.register.went + 1]),
-    Act("10 KB come in", lambda it, at: it.session(*file_of(f"CAME.{at}", SMALL)), lambda it: it.receive(*file_of("CAME", SMALL))),
+    Act(LOOKING, lambda it, at: it.session(*file_of(f"CAME.{at}", SMALL)), lambda it: it.receive(*file_of("CAME", SMALL)), walks=True),
     Act("report in", lambda it, at: it.command("report", "in"), listed("in"), 3, True),
     Act("report out", lambda it, at: it.command("report", "out"), listed("out"), 3, True),
     Act("report issued", lambda it, at: it.command("report", "issued"), listed("issued"), 3, True),
@@ -235,7 +240,13 @@ ACTS = [
     Act("GET /out", lambda it, at: it.request("/out"), listed("out"), 3, True),
     Act("GET /responses", lambda it, at: it.request("/responses"), listed("received"), 3, True),
     # After the others, because an opening takes longer then.
-    Act("8 MiB come in", lambda it, at: it.session(*file_of(f"LARGE.{3 + at}", 8 * MEBI)), lambda it: it.receive(*file_of("LARGE.3", 8 * MEBI)), 2),
+    Act(
+        "8 MiB come in",
+        lambda it, at: it.session(*file_of(f"LARGE.{3 + at}", 8 * MEBI)),
+        lambda it: it.receive(*file_of("LARGE.3", 8 * MEBI)),
+        2,
+        walks=True,
+    ),
 ]
 
 
@@ -256,8 +267,15 @@ def cost_of(station, act):
 def may_take(act, least, register):
     """How long an act may take that takes this long over the smallest register of its kind."""
     times = register.times if act.is_list else 1
-    look = LOOK * (register.came + register.went) if act.looks_each_time else 0
-    return MOST * times * least + look + NOISE
+    walk = WALK * register.answered if act.walks else 0
+    return MOST * times * least + walk + NOISE
+
+
+def told_of_walk(cost, least, register):
+    """The line on the walk past all answered responses, which is what a small session takes longer than over the smallest register."""
+    longer = cost.station - least.station
+    each = longer / register.answered * 1e6
+    return f"  a look past {register.answered:,} answered responses took {longer * 1000:.1f} ms, {each:.2f} microseconds for each"
 
 
 def told_beside(act, cost, alone, plain):
@@ -283,6 +301,8 @@ def measure(room, registers):
                 line = f"  {act.name:<16} station {cost.station * 1000:9.2f} ms, command {cost.command * 1000:7.2f} ms"
                 line += told_beside(act, cost, *beside) if beside else ""
                 print(line if is_well else f"{line}: TOO MUCH", flush=True)
+                if act.name == LOOKING and register.answered and cost is not first:
+                    print(told_of_walk(cost, first, register), flush=True)
             print(f"  the station had {station.memory() / 1024:.0f} MiB at most", flush=True)
     return passed, failed
 
