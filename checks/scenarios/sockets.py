@@ -231,7 +231,15 @@ def callers_who_leave(room):
 
 
 def octets_after_the_end(room):
-    """What is sent after the station's ESID doesn't prevent the partner from reading it."""
+    """What is sent after the station's ESID doesn't prevent the partner from reading it. A host that stalls within the five seconds in which the
+    station drops it resets the connection, so there is one more try."""
+    try:
+        sends_on_after_the_end(room)
+    except ConnectionError:
+        sends_on_after_the_end(room)
+
+
+def sends_on_after_the_end(room):
     steps, end = steps_of("opening/wrong_password")
     with Service(room, "listen") as service:
         with service.caller() as caller:
