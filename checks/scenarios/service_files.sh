@@ -1,7 +1,6 @@
 #!/bin/bash
 # Checks the units of examples/service by systemd-analyze, if that is installed. The last line is `N passed, M failed`.
-# No unit is started. A systemd in namespaces of its own runs systemd-tmpfiles first, which empties /tmp: that of the whole machine, unless another
-# one is mounted there.
+# No unit is started: docs/DECISIONS.md says why.
 set -euo pipefail
 root=$(cd "$(dirname "$0")/../.." && pwd)
 room=$(mktemp -d)
