@@ -101,8 +101,8 @@ def reasons_are_told():
         expect(dict(REASON.findall(told)), words_of(phrase), f"the reasons of {kind} in docs/COMMANDS.md")
     given = {line[0][:2] for line in lines_of(text, "SFNA") if line[1]}
     expect(given, numbers_of("start_number"), "the reasons of SFNA that this station gives in docs/COMMANDS.md")
-    ends = next(line[1] for line in lines_of(part_of(COMMANDS, "Lines"), "Line") if line[0] == "`end: own RR`")
-    given = {"00", *re.findall(r"(?<=[:,] )\d\d\b", ends)}
+    ends = [line[1] for line in lines_of(part_of(COMMANDS, "Lines"), "Line") if line[0] == "`end: own RR`"]
+    given = {"00", *re.findall(r"(?<=[:,] )\d\d\b", "".join(ends))}
     expect(given, numbers_of("session_number"), "the reasons of ESID that this station gives in docs/COMMANDS.md")
     # EFNA has the reasons of SFNA and a few more. The text names these, and those that this station gives.
     told = " ".join(text.partition("(EFNA, section 5.3.10)")[2].partition("\n\n")[0].split())
@@ -133,7 +133,9 @@ def columns_are_told():
     with tempfile.TemporaryDirectory() as room:
         for kind, names in columns.items():
             expect(said("report", "--db", Path(room) / "database", kind), f"{names}\n", f"the columns of report {kind}")
-    files, responses = (re.findall(r"`(\w+)`", names) for names in MORE_KEYS.search(text).groups())
+    told = MORE_KEYS.search(text)
+    expect(bool(told), True, "docs/COMMANDS.md says which keys the JSON objects have more")
+    files, responses = (re.findall(r"`(\w+)`", names) for names in told.groups())
     more = {"in": files, "out": files, "issued": [], "received": responses}
     keys = {kind: sorted({*names.split(","), *more[kind]}) for kind, names in columns.items()}
     shown = [(kind, list(entry)) for path in (ROOT / "rows/listing").glob("*.listing") for kind, entry in entries_of(path)]
