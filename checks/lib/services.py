@@ -1,5 +1,6 @@
 """`run`, `listen` and `http` as processes, each over a database and at a port of its own, with those who connect to them."""
 
+import collections
 import itertools
 import os
 import select
@@ -21,24 +22,43 @@ class Wrong(Exception):
     """A case that failed."""
 
 
+class NotTried(Exception):
+    """What this machine lacks, and what isn't tried for that reason."""
+
+
 def expect(found, wanted, what):
     if found != wanted:
         raise Wrong(f"{what}: {found!r}, not {wanted!r}")
 
 
-# These are below the ephemeral ports, so that no connection takes one before a service binds it, and differ from those of a script that
-# runs in parallel.
+# These are below the ephemeral ports, so that no connection takes one before a service binds it. A script that runs in parallel begins at
+# another one, and takes none of the last ones that this script has taken: it holds a name for each of them.
 PORTS = itertools.count(20000 + os.getpid() * 101 % 10000)
+TAKEN = collections.deque(maxlen=200)
 
 
 def free_port(host="127.0.0.1"):
     for port in PORTS:
-        with socket.socket(socket.AF_INET6 if ":" in host else socket.AF_INET) as probe:
-            try:
+        name = socket.socket(socket.AF_UNIX)
+        try:
+            name.bind(f"\0port {port} of a check of oftp_station")
+            with socket.socket(socket.AF_INET6 if ":" in host else socket.AF_INET) as probe:
                 probe.bind((host, port))
-            except OSError:
-                continue
-            return port
+        except OSError:
+            name.close()
+            continue
+        TAKEN.append(name)
+        return port
+
+
+def port_of_ipv6(what):
+    """A free port of this machine's own address of IPv6, for what can't be tried without one."""
+    try:
+        with socket.socket(socket.AF_INET6) as probe:
+            probe.bind(("::1", 0))
+    except OSError as why:
+        raise NotTried(f"IPv6: {what}") from why
+    return free_port("::1")
 
 
 class Service:

@@ -29,7 +29,7 @@ import oftp
 import row_files
 import tables
 from program import PROGRAM, ROOT
-from services import BOOK, CARMAKER, LONG, Service, Wrong, expect, free_port, rest_of
+from services import BOOK, CARMAKER, LONG, NotTried, Service, Wrong, expect, free_port, port_of_ipv6, rest_of
 
 # Where SQLite's locks on a database file are: the pending, the reserved and the shared ones.
 LOCKS = (1 << 30, 512)
@@ -38,10 +38,6 @@ LOCKS = (1 << 30, 512)
 SOON = 25
 PATIENT = "12"
 GREATEST = {"buffer": "16384", "credit": "99"}
-
-
-class NotTried(Exception):
-    """What this machine lacks, and what isn't tried for that reason."""
 
 
 def row_of(name):
@@ -391,12 +387,7 @@ def other_address(room):
 
 
 def address_of_ipv6(room):
-    try:
-        with socket.socket(socket.AF_INET6) as probe:
-            probe.bind(("::1", 0))
-    except OSError as why:
-        raise NotTried("IPv6: a service at an address of it") from why
-    port = free_port("::1")
+    port = port_of_ipv6("a service at an address of it")
     with Service(room, "listen", "--address", "::1", port=port) as service:
         play(service, "opening/wrong_password", "::1")
         service.ends()
