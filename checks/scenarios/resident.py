@@ -30,10 +30,13 @@ import staying
 import tables
 from passage import Passage
 from program import PROGRAM
-from services import BOOK, CARMAKER, LONG, Resident, Wrong, expect, free_port, rest_of
+from services import BOOK, CARMAKER, LONG, NotTried, Resident, Wrong, expect, free_port, rest_of
 
 # What may be added to any time on a machine with other work.
 SOON = 25
+# The seconds of a patience or an admission, where what is done within it takes no time: a machine with other work has stopped all of this
+# for nine seconds.
+PATIENT = 12
 READY = b"1"
 IDENTITY = ["--dataset", "INV.1", "--date", "20240201", "--time", "0800000001", "--to", CARMAKER, "--format", "U"]
 
@@ -46,10 +49,12 @@ ONE_OCTET = session_of("receiving/one_octet")
 NOTHING_WAITING = session_of("listening/nothing_waiting")
 WRONG = session_of("opening/wrong_password")
 GREETING, SSID = (octets for _, octets in NOTHING_WAITING.steps[:2])
+# What the station sends to a partner who is let in, up to its own SSID.
+OPENED = b"".join(octets for side, octets in NOTHING_WAITING.steps[:3] if side == "out")
 
 
-def told(program):
-    out, err = program.communicate(timeout=LONG)
+def told(program, limit=LONG):
+    out, err = program.communicate(timeout=limit)
     return program.returncode, out, err
 
 
@@ -112,8 +117,9 @@ def largest_file(room):
     file.write_bytes(bytes(1 << 26))
     larger.write_bytes(bytes((1 << 26) + 1))
     with Resident(room) as service:
-        expect(given(service, "submit", *IDENTITY, larger), (1, b"refused: 4 limit\n", b""), "submit of too much")
-        expect(given(service, "submit", *IDENTITY, file), (0, b"done: submit 1\n", b""), "submit")
+        # On a machine with other work this takes a minute.
+        expect(told(started(service, "submit", *IDENTITY, larger), LONG * 10), (1, b"refused: 4 limit\n", b""), "submit of too much")
+        expect(told(started(service, "submit", *IDENTITY, file), LONG * 10), (0, b"done: submit 1\n", b""), "submit")
 
 
 def many_at_once(room):
@@ -237,7 +243,7 @@ def commands_that_come_while_it_opens(room):
         asked.append(call(service, BOOK))
         for program in asked:
             stack.enter_context(program)
-        time.sleep(2)
+        time.sleep(1)
         expect([program.poll() for program in asked], [None] * 6, "whether they wait")
         hidden.rename(service.socket)
         init, report, submit, fetch, backup, called = (told(program) for program in asked)
@@ -308,7 +314,7 @@ def half_requests(room):
 
 def silent_clients(room):
     """As many silent clients as there are places, on either socket, delay neither a command nor a partner."""
-    with Resident(room) as service, contextlib.ExitStack() as stack:
+    with Resident(room, "--admission", "600") as service, contextlib.ExitStack() as stack:
         for _ in range(100):
             stack.enter_context(service.client())
             stack.enter_context(service.caller())
@@ -343,8 +349,8 @@ def clients_that_read_nothing(room):
 
 
 def strangers(room):
-    """Who isn't let in in time is sent away, and keeps nobody waiting."""
-    with Resident(room, "--admission", "2") as service:
+    """Who isn't let in in time is sent away, keeps nobody waiting, and changes nothing."""
+    with Resident(room, "--admission", str(PATIENT)) as service:
         begin = time.monotonic()
         with service.caller() as silent, service.caller() as slow:
             slow.sendall(SSID[:10])
@@ -353,13 +359,15 @@ def strangers(room):
             for _ in range(2):
                 expect(service.line(), "session - in: fault: 1 read", "the line of a stranger")
             expect((rest_of(silent), rest_of(slow)), (GREETING, GREETING), "they read")
-        if not 1.5 <= time.monotonic() - begin <= 2 + SOON:
-            raise Wrong(f"they were waited for {time.monotonic() - begin:.1f} s")
+        expect(PATIENT <= time.monotonic() - begin, True, "whether they had their time")
+        within(begin, PATIENT, "the strangers")
+    left = tables.read(service.database)
+    expect([*left["in_file"], *left["out_file"], *left["issued"], *left["received"]], [], "what they changed")
 
 
 def silent_partner(room):
     """A partner who is let in and then sends nothing is waited for until its timeout (`--patience`), and the service goes on."""
-    with Resident(room, "--patience", "2") as service:
+    with Resident(room, "--patience", str(PATIENT)) as service:
         with service.caller() as caller:
             caller.sendall(SSID)
             expect(service.line(), f"session {CARMAKER} in: fault: 1 read", "the line")
@@ -436,9 +444,9 @@ def callers_in_their_order(room):
     those behind him waiting."""
     octets = ONE_OCTET.joined("in")
     names = [b"ASN.%04d" % number for number in range(1, 9)]
-    with Resident(room) as service, contextlib.ExitStack() as stack, service.caller() as first:
+    with Resident(room, "--admission", "600") as service, contextlib.ExitStack() as stack, service.caller() as first:
         first.sendall(SSID)
-        heard(first, NOTHING_WAITING.joined("out")[: len(GREETING) + len(SSID)])
+        heard(first, OPENED)
         stack.enter_context(service.caller()).sendall(SSID[:10])
         callers = [stack.enter_context(service.caller()) for _ in names]
         # The last one says all first.
@@ -454,7 +462,7 @@ def callers_in_their_order(room):
 
 def partners_who_keep_open(room):
     """Partners who don't close behind the station's last word keep nobody waiting, and can read it."""
-    with Resident(room) as service, contextlib.ExitStack() as stack:
+    with Resident(room, "--admission", "600") as service, contextlib.ExitStack() as stack:
         begin = time.monotonic()
         callers = [stack.enter_context(service.caller()) for _ in range(10)]
         for caller in callers:
@@ -479,13 +487,14 @@ def callers_of(service, port):
     return {"a partner": service.caller, "a command": service.client, "a request": request}
 
 
-def everybody_is_served(service, port):
-    """A session, a command and a request go at once."""
+def everybody_is_served(service, port, most=0):
+    """A session, a command and a request go within so many seconds. It returns what they took."""
     begin = time.monotonic()
     play(service, NOTHING_WAITING)
     expect(given(service, "report", "in")[0], 0, "a report")
     expect(get(port, "/in")[0], 200, "a list")
-    within(begin, 0, "a session, a report and a list")
+    within(begin, most, "a session, a report and a list")
+    return time.monotonic() - begin
 
 
 def say_and_leave(connect, octets, is_reset):
@@ -502,54 +511,57 @@ def say_and_leave(connect, octets, is_reset):
 def false_octets_at_each_socket(room):
     """What isn't meant for a socket, zeros, anything at all, half of what is right, and resets end nothing at any of the three."""
     port = free_port()
-    with Resident(room, "--http-port", str(port), "--admission", "1") as service:
+    with Resident(room, "--http-port", str(port)) as service:
         for who, connect in callers_of(service, port).items():
             others = [octets for other, octets in RIGHT.items() if other != who]
             for octets in [*others, bytes(20_000), os.urandom(20_000), RIGHT[who][:9], b""]:
                 for is_reset in (False, True):
                     say_and_leave(connect, octets, is_reset)
-        time.sleep(2)
-        with service.caller() as caller:
-            caller.sendall(NOTHING_WAITING.joined("in"))
-            caller.shutdown(socket.SHUT_WR)
-            expect(rest_of(caller), NOTHING_WAITING.joined("out"), "the station sent")
-        strange = list(iter(service.line, f"session {CARMAKER} in: {NOTHING_WAITING.end[1].strip()}"))
-        expect(len(strange) >= 6, True, f"whether {strange} are lines of strangers")
+        # Each of the twelve who called where partners call has a line.
+        strange = [service.line() for _ in range(12)]
         expect([line for line in strange if not line.startswith(("session - in: end: ", "session - in: fault: "))], [], "the lines of strangers")
         everybody_is_served(service, port)
     expect(tables.read(service.database)["in_file"], [], "the files")
 
 
 def slow_callers_at_each_socket(room):
-    """Callers who drip what is right, an octet at a time, delay nobody, at each of the three sockets; and the last of them is heard."""
+    """Callers who drip what is right, an octet at a time, delay nobody, at each of the three sockets; and each is heard in the end, a request
+    where it comes within its ten seconds."""
     port = free_port()
-    with Resident(room, "--http-port", str(port), "--admission", "60") as service, contextlib.ExitStack() as stack:
-        slow = [(stack.enter_context(connect()), RIGHT[who]) for who, connect in callers_of(service, port).items() for _ in range(20)]
+    with Resident(room, "--http-port", str(port), "--admission", "600") as service, contextlib.ExitStack() as stack:
+        begin = time.monotonic()
+        callers = {who: [stack.enter_context(connect()) for _ in range(20)] for who, connect in callers_of(service, port).items()}
         took = []
         for at in range(8):
-            for caller, octets in slow:
-                caller.sendall(octets[at : at + 1])
-            begin = time.monotonic()
-            everybody_is_served(service, port)
-            took.append(time.monotonic() - begin)
-        if min(took) > 1:
+            drip(callers, at, at + 1)
+            took.append(everybody_is_served(service, port))
+        if min(took) > 5:
             raise Wrong(f"beside slow callers a session, a report and a list took {min(took):.1f} s at least")
-        for caller, octets in slow[20:]:
-            caller.sendall(octets[8:])
-            expect(rest_of(caller)[:1] in (READY, b"H"), True, "what one who dripped is answered")
+        drip(callers, 8, None)
+        answers = {"a partner": OPENED, "a command": READY, "a request": b"HTTP/1.1 200"}
+        if time.monotonic() - begin >= 10:
+            del answers["a request"]
+        for who, answer in answers.items():
+            expect({rest_of(caller)[: len(answer)] for caller in callers[who]}, {answer}, f"what {who} that dripped is answered")
+
+
+def drip(callers, at, end):
+    """Each of these callers says these of his octets. A request may be closed by now, on a slow machine."""
+    for who, connected in callers.items():
+        for caller in connected:
+            with contextlib.suppress(ConnectionError):
+                caller.sendall(RIGHT[who][at:end])
 
 
 def silent_callers_at_each_socket(room):
     """Eighty callers who say nothing at each of the three sockets, more than there are places for commands and for requests: whoever comes
     behind them is served, a request once the others' ten seconds are over."""
     port = free_port()
-    with Resident(room, "--http-port", str(port), "--admission", "60") as service, contextlib.ExitStack() as stack:
-        begin = time.monotonic()
+    with Resident(room, "--http-port", str(port), "--admission", "600") as service, contextlib.ExitStack() as stack:
         for connect in callers_of(service, port).values():
             for _ in range(80):
                 stack.enter_context(connect())
-        everybody_is_served(service, port)
-        within(begin, 12, "who came behind them")
+        everybody_is_served(service, port, 12)
 
 
 def partner_who_reads_nothing(room):
@@ -558,10 +570,10 @@ def partner_who_reads_nothing(room):
     book, file = room / "book", room / "file"
     book.write_text(one_file.BOOK.format(buffer=16384, credit=99))
     file.write_bytes(bytes(one_file.MEBI * 2))
-    with Resident(room, "--http-port", str(port), "--patience", "2", book=book) as service:
+    opening = one_file.frame_of("SSID", code=CARMAKER, password="CARPW", buffer="16384", credit="99", mode="B")
+    with Resident(room, "--http-port", str(port), "--patience", str(PATIENT // 2), book=book) as service:
         expect(given(service, "submit", *IDENTITY, file)[0], 0, "submit")
         with service.caller(is_narrow=True) as partner:
-            opening = one_file.frame_of("SSID", code=CARMAKER, password="CARPW", buffer="16384", credit="99", mode="B")
             partner.sendall(opening + one_file.frame_of("CD") + one_file.frame_of("SFPA", count="0"))
             expect(service.line(), f"session {CARMAKER} in: fault: 2 write", "the line")
         expect(get(port, "/out")[0], 200, "a list")
@@ -627,11 +639,11 @@ def backup_of_who_is_gone(room):
 def backup_that_takes_too_long(room):
     """A command that copies for longer than half a minute is ended with an error, and keeps nobody waiting any longer."""
     with Resident(room) as service, service.client() as client:
-        begin_backup(client)
         begin = time.monotonic()
+        begin_backup(client)
         expect(given(service, "report", "in")[0], 0, "a report")
+        expect(time.monotonic() - begin >= 30, True, "whether the report waits")
         within(begin, 30, "the report")
-        expect(time.monotonic() - begin > 28, True, "whether the report waits")
         expect(answer_of(client), ({2: b"fault: 7 file\n"}, 1), "the answer")
 
 
@@ -713,14 +725,14 @@ def partner_who_does_not_answer(room):
         other.connect(partner.getsockname())
         book = book_with(room, f"127.0.0.1:{partner.getsockname()[1]}")
         begin = time.monotonic()
-        with call(service, book, "--patience", "4") as program:
+        with call(service, book, "--patience", str(PATIENT)) as program:
             time.sleep(0.5)
             expect(given(service, "report", "out")[0], 0, "a report while it connects")
             play(service, NOTHING_WAITING)
             expect(program.poll(), None, "whether it still connects")
             expect(told(program), (1, b"", b"fault: 8 socket\n"), "the call")
-        if not 3.5 <= time.monotonic() - begin <= 4 + SOON:
-            raise Wrong(f"the call took {time.monotonic() - begin:.1f} s")
+        expect(time.monotonic() - begin >= PATIENT, True, "whether it connects for as long as the patience")
+        within(begin, PATIENT, "the call")
 
 
 # Codes in their order, and those who call the one behind them, the last one the first: two are each other's partner, three stand in a circle.
@@ -823,6 +835,9 @@ class Meeting:
         expect(file.exists() and file.read_bytes(), octets, "the file")
 
     def expect_no_fault(self):
+        # None sees that another one ends.
+        for station in self.stations:
+            station.program.send_signal(signal.SIGSTOP)
         for station in self.stations:
             station.program.kill()
         for station in self.stations:
@@ -880,8 +895,11 @@ def callers_who_stop_no_call(room):
         called = partner.accept()[0]
         for said in (b"", WRONG.joined("in"), SSID[:10]):
             stack.enter_context(service.caller()).sendall(said)
+        # It sees at once that this one has spoken and left.
+        service.program.send_signal(signal.SIGSTOP)
         with service.caller() as caller:
             caller.sendall(SSID)
+        service.program.send_signal(signal.SIGCONT)
         called.settimeout(6)
         with contextlib.suppress(TimeoutError):
             raise Wrong(f"the call says {called.recv(100)!r}")
@@ -900,17 +918,20 @@ def calls_while_it_is_called(room, own, least):
         book = book_with(room, f"127.0.0.1:{partner.getsockname()[1]}")
         book.write_bytes(of_station(book.read_bytes()))
         with Resident(room, book=book) as service, call(service, book) as program, partner.accept()[0] as called, service.caller() as caller:
+            called.settimeout(LONG)
+            # A greeting is no answer. It shows that the session of the call has begun.
+            called.sendall(GREETING)
+            heard(called, of_station(session.steps[1][1]))
             begin = time.monotonic()
             caller.sendall(SSID)
-            heard(caller, answer[: len(GREETING) + len(SSID)])
+            heard(caller, answer[: len(OPENED)])
             within(begin, least, "the answer")
             if time.monotonic() - begin < least - 0.1:
                 raise Wrong(f"it gave way after {time.monotonic() - begin:.1f} s")
-            called.settimeout(LONG)
             expect(called.recv(100), b"", "the call said")
             caller.sendall(NOTHING_WAITING.joined("in")[len(SSID) :])
             caller.shutdown(socket.SHUT_WR)
-            expect(rest_of(caller), answer[len(GREETING) + len(SSID) :], "the station sent")
+            expect(rest_of(caller), answer[len(OPENED) :], "the station sent")
             expect(service.line() + "\n", f"session {CARMAKER} in: {NOTHING_WAITING.end[1]}", "the line")
             with partner.accept()[0] as again:
                 again.sendall(session.joined("in"))
@@ -944,16 +965,22 @@ def clock(room):
             partner.settimeout(LONG)
             expect(given(service, "submit", *IDENTITY, file)[0], 0, "submit")
             with partner.accept()[0] as connection:
-                connection.sendall(GREETING)
-                connection.shutdown(socket.SHUT_WR)
-                rest_of(connection)
+                # It is gone before the next turn, which comes after this session.
+                partner.close()
+                begin = time.monotonic()
+                greet_and_leave(connection)
             expect(service.line(), f"session {CARMAKER} out: end: input", "the line")
-            partner.close()
-            begin = time.monotonic()
-            for _ in range(2):
+            for _ in range(3):
                 expect(service.line(), f"session {CARMAKER} out: fault: 8 socket", "the line")
-            if time.monotonic() - begin < 1:
-                raise Wrong("it called twice within a second")
+            if time.monotonic() - begin < 2:
+                raise Wrong("it called three times within two seconds")
+
+
+def greet_and_leave(connection, *frames):
+    """Speaks for a partner who is called: greets, says these frames, and ends."""
+    connection.sendall(b"".join([GREETING, *frames]))
+    connection.shutdown(socket.SHUT_WR)
+    rest_of(connection)
 
 
 def clock_of_who_only_calls(room):
@@ -1104,6 +1131,7 @@ def office_that_fails(room):
         expect(said[-7:-4], b"F08", "the end that the station sent")
         expect(service.line(), f"session {CARMAKER} in: fault: 3 office", "the line")
         service.ends(1, b"fault: 3 office\n")
+        expect(service.socket.exists(), False, "whether the socket is left")
     with Resident(room) as service:
         expect(given(service, "release", "1"), (1, b"refused: 3 state\n", b""), "the release again")
         expect(given(service, "submit", *IDENTITY, file), (0, b"done: submit 1\n", b""), "submit")
@@ -1392,23 +1420,24 @@ CASES = [
 
 
 def tried(case):
-    """Runs a case, and answers why it came out otherwise, or None."""
+    """Runs a case. It returns its result: `as it must be`, why it isn't tried, or why it failed, and whether it failed."""
     with tempfile.TemporaryDirectory() as room:
         try:
             case(Path(room))
-        except (Wrong, OSError, subprocess.SubprocessError) as why:
-            return f"{type(why).__name__}: {why}"
-    return None
+        except NotTried as why:
+            return f"NOT TRIED without {why}", False
+        except (Wrong, OSError, subprocess.SubprocessError, ValueError, LookupError, struct.error) as why:
+            return f"{case.__name__.replace('_', ' ')}: {type(why).__name__}: {why}", True
+    return f"{case.__name__.replace('_', ' ')}: as it must be", False
 
 
 def main():
     cases = [case for case in CASES if not sys.argv[1:] or any(word in case.__name__ for word in sys.argv[1:])]
     with ThreadPoolExecutor(max_workers=len(CASES)) as runners:
-        whys = list(runners.map(tried, cases))
-    for case, why in zip(cases, whys):
-        print(f"{case.__name__.replace('_', ' ')}: {why or 'as it must be'}")
-    failed = sum(why is not None for why in whys)
-    print(f"{len(cases) - failed} passed, {failed} failed")
+        tries = list(runners.map(tried, cases))
+    print("".join(f"{told_of}\n" for told_of, _ in tries), end="")
+    failed = sum(has_failed for _, has_failed in tries)
+    print(f"{sum(told_of.endswith('as it must be') for told_of, _ in tries)} passed, {failed} failed")
     return 1 if failed or not cases else 0
 
 
