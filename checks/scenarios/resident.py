@@ -24,13 +24,14 @@ from pathlib import Path
 
 sys.path.insert(0, str(Path(__file__).resolve().parents[1] / "lib"))
 
+import filled
 import one_file
 import row_files
 import staying
 import tables
 from passage import Passage
 from program import PROGRAM
-from services import BOOK, CARMAKER, LONG, NotTried, Resident, Wrong, expect, free_port, rest_of
+from services import BOOK, CARMAKER, LONG, NotTried, Resident, Wrong, expect, free_port, port_of_ipv6, rest_of
 
 # What may be added to any time on a machine with other work.
 SOON = 25
@@ -177,6 +178,7 @@ def faults_in_order(room):
         Resident(room / "folder", "--trace", room / "none/trace", port=port).ends(1, b"fault: 6 store 1\n")
         Resident(room, "--trace", room / "none/trace", port=port).ends(1, b"fault: 7 file\n")
         Resident(room, port=port).ends(1, b"fault: 8 socket\n")
+        Resident(room, "--http-port", str(port)).ends(1, b"fault: 8 socket\n")
     expect((room / "database-station").exists(), False, "whether a socket is there")
 
 
@@ -312,6 +314,17 @@ def half_requests(room):
             expect(answer_of(client), ({1: b"done: submit 1\n"}, 0), "the answer to a request that drips")
 
 
+def octets_of_a_fetch(room):
+    """A fetch is answered by the file's octets, and the station makes no file under the name in the request."""
+    with Resident(room, cwd=room) as service:
+        play(service, ONE_OCTET)
+        with service.client() as client:
+            expect(client.recv(1), READY, "the first octet")
+            client.sendall(request_of(b"", b"", b"fetch", b"--db=d", b"1", b"f"))
+            expect(answer_of(client), ({3: b"A", 1: b"done: fetch 1\n"}, 0), "the answer")
+    expect(sorted(path.name for path in room.iterdir()), ["database", "database-station", "database-wal"], "the files")
+
+
 def silent_clients(room):
     """As many silent clients as there are places, on either socket, delay neither a command nor a partner."""
     with Resident(room, "--admission", "600") as service, contextlib.ExitStack() as stack:
@@ -372,6 +385,61 @@ def silent_partner(room):
             caller.sendall(SSID)
             expect(service.line(), f"session {CARMAKER} in: fault: 1 read", "the line")
         play(service, ONE_OCTET)
+
+
+def patience_of_each_wait(room):
+    """Each wait has the patience: a partner whose pauses are shorter may take longer in all."""
+    with Resident(room, "--patience", str(PATIENT)) as service, service.caller() as caller:
+        begin = time.monotonic()
+        for octets in [octets for side, octets in ONE_OCTET.steps if side == "in"]:
+            for piece in (octets[:3], octets[3:]):
+                time.sleep(2)
+                caller.sendall(piece)
+        expect(time.monotonic() - begin > PATIENT + 2, True, "whether all of it took longer than the patience")
+        expect(rest_of(caller), ONE_OCTET.joined("out"), "the station sent")
+        expect(service.line() + "\n", f"session {CARMAKER} in: {ONE_OCTET.end[1]}", "the line")
+
+
+def time_of_another_session(room):
+    """The time of another's session isn't counted: one who was greeted before it, and sends his SSID after it, is let in."""
+    with Resident(room, "--admission", str(PATIENT)) as service, service.caller() as late, service.caller() as first:
+        heard(late, GREETING)
+        first.sendall(SSID)
+        heard(first, OPENED)
+        time.sleep(PATIENT + 2)
+        first.sendall(NOTHING_WAITING.joined("in")[len(SSID) :])
+        expect(service.line() + "\n", f"session {CARMAKER} in: {NOTHING_WAITING.end[1]}", "the line of the first")
+        late.sendall(NOTHING_WAITING.joined("in"))
+        expect(GREETING + rest_of(late), NOTHING_WAITING.joined("out"), "the station sent to the late one")
+        expect(service.line() + "\n", f"session {CARMAKER} in: {NOTHING_WAITING.end[1]}", "his line")
+
+
+def longest_frame_of_a_stranger(room):
+    """One who begins the longest of frames in the place of an SSID holds the station for his admission, and no longer."""
+    port = free_port()
+    with Resident(room, "--http-port", str(port), "--admission", str(PATIENT)) as service, service.caller() as caller:
+        caller.sendall(bytes([0x10, 0x01, 0x86, 0xA3]) + bytes(1000))
+        begin = time.monotonic()
+        expect(given(service, "report", "in")[0], 0, "a report")
+        expect(get(port, "/in")[0], 200, "a list")
+        expect(service.line(), "session - in: fault: 1 read", "the line of the stranger")
+        within(begin, PATIENT, "a report, a list and the stranger")
+        play(service, NOTHING_WAITING)
+
+
+def more_callers_than_places(room):
+    """A partner behind more silent callers than there are places is served once the first of them are gone."""
+    with Resident(room, "--admission", str(PATIENT)) as service, contextlib.ExitStack() as stack:
+        for _ in range(140):
+            stack.enter_context(service.caller())
+        begin = time.monotonic()
+        with service.caller() as caller:
+            caller.sendall(NOTHING_WAITING.joined("in"))
+            caller.shutdown(socket.SHUT_WR)
+            expect(rest_of(caller), NOTHING_WAITING.joined("out"), "the station sent")
+        within(begin, PATIENT, "a partner behind them")
+        before = {*iter(service.line, f"session {CARMAKER} in: {NOTHING_WAITING.end[1].strip()}")}
+        expect(before, {"session - in: fault: 1 read"}, "the lines of those before him")
 
 
 def started(service, command, *words):
@@ -437,6 +505,28 @@ def look_ups_within_a_session(room):
         next_caller.shutdown(socket.SHUT_WR)
         expect(b"ASN.0001" in rest_of(next_caller), True, "whether the next session has the end response")
         expect(service.line(), f"session {CARMAKER} in: end: input", "the line")
+
+
+def what_waits_for_the_end(room):
+    """What refuses a file, copies the database or calls waits for the end of a session too."""
+    copy = room / "copy"
+    with socket.create_server(("127.0.0.1", 0)) as partner, Resident(room) as service, service.caller() as caller:
+        partner.settimeout(LONG)
+        book = book_with(room, f"127.0.0.1:{partner.getsockname()[1]}")
+        play(service, ONE_OCTET)
+        caller.sendall(SSID)
+        heard(caller, OPENED)
+        with started(service, "refuse", "1", "12", "no") as refuse, started(service, "backup", copy) as backup, call(service, book) as called:
+            time.sleep(3)
+            expect([program.poll() for program in (refuse, backup, called)], [None] * 3, "whether they wait")
+            expect((copy.exists(), select.select([partner], [], [], 0)[0]), (False, []), "whether there is a copy, or a call")
+            caller.sendall(NOTHING_WAITING.joined("in")[len(SSID) :])
+            expect(service.line() + "\n", f"session {CARMAKER} in: {NOTHING_WAITING.end[1]}", "the line")
+            expect(told(refuse), (0, b"done: refuse 1\n", b""), "refuse")
+            expect(told(backup), (0, b"done: backup\n", b""), "the backup")
+            partner.accept()[0].close()
+            expect(told(called), (0, b"end: input\n", b""), "the call")
+            expect(service.line(), f"session {CARMAKER} out: end: input", "the line of the call")
 
 
 def callers_in_their_order(room):
@@ -699,6 +789,24 @@ def calls(room):
         words = [PROGRAM, "call", "--db", service.database, "--book", BOOK, "--partner", "O0099OTHER"]
         done = subprocess.run(words, capture_output=True, timeout=LONG, check=False)
         expect((done.returncode, done.stdout, done.stderr), (1, b"refused: 2 unknown\n", b""), "the call of a stranger")
+
+
+def traced(room):
+    """The trace has each session with its end: of a partner, of one who isn't let in, and of one who is called. It has no password."""
+    trace, session = room / "trace", session_of("calling/initiator_alone")
+    with socket.create_server(("127.0.0.1", 0)) as partner, Resident(room, "--trace", trace) as service:
+        partner.settimeout(LONG)
+        book = book_with(room, f"127.0.0.1:{partner.getsockname()[1]}")
+        play(service, ONE_OCTET)
+        play(service, WRONG, "-")
+        with call(service, book) as program:
+            converse(partner.accept()[0], session)
+            expect(told(program), (0, session.end[1].encode(), b""), "the call")
+    text = trace.read_text()
+    lines = [line.split(" ", 1)[1] for line in text.splitlines()]
+    ends = [it.end[1].strip() for it in (ONE_OCTET, WRONG, session)]
+    expect([line for line in lines if line[0] not in "<>"], ends, "the ends of the sessions")
+    expect([word for word in ("CARPW", "SUPPW", "WRONG") if word in text], [], "passwords in the trace")
 
 
 def call_that_is_a_job(room):
@@ -983,6 +1091,56 @@ def greet_and_leave(connection, *frames):
     rest_of(connection)
 
 
+def clock_of_who_has_not_confirmed(room):
+    """By its clock the station calls a partner to whom it has sent all of a file, and who hasn't said that he has it."""
+    file = room / "file"
+    file.write_bytes(b"ABC")
+    opening = one_file.frame_of("SSID", code=CARMAKER, password="CARPW", buffer="128", credit="2", mode="B")
+    with socket.create_server(("127.0.0.1", 0)) as partner:
+        partner.settimeout(LONG)
+        book = book_with(room, f"127.0.0.1:{partner.getsockname()[1]}")
+        with Resident(room, "--call-every", "1", book=book) as service:
+            expect(given(service, "submit", *IDENTITY, file)[0], 0, "submit")
+            with partner.accept()[0] as connection:
+                greet_and_leave(connection, opening, one_file.frame_of("SFPA", count="0"))
+            expect(service.line(), f"session {CARMAKER} out: end: input", "the line")
+            expect(b",closing," in given(service, "report", "out")[1], True, "whether the file is closing")
+            partner.accept()[0].close()
+
+
+def book_of_many(room, codes, posts):
+    """A book with a partner of each of these codes, who is called at the post at its place."""
+    book = room / "book"
+    station, one = BOOK.read_text().split("[[partner]]")
+    addresses = [f"127.0.0.1:{post.getsockname()[1]}" for post in posts]
+    partners = [one.replace(CARMAKER, code).replace("127.0.0.1:3305", address) for code, address in zip(codes, addresses)]
+    book.write_text("[[partner]]".join([station, *partners]))
+    return book
+
+
+def clock_of_several_partners(room):
+    """At its turn the station calls each partner for whom something waits, in the order of the book, and no other one."""
+    codes = [CARMAKER, "O0042IDLE", "O0001TRUCKS"]
+    file = room / "file"
+    file.write_bytes(b"ABC")
+    with contextlib.ExitStack() as stack:
+        posts = [stack.enter_context(socket.create_server(("127.0.0.1", 0))) for _ in codes]
+        book = book_of_many(room, codes, posts)
+        with Resident(room, book=book) as service:
+            for number, code in enumerate((codes[2], codes[0]), 1):
+                words = [code if word == CARMAKER else word for word in IDENTITY]
+                done = told(begun(service, "submit", "--book", book, *words, file))
+                expect(done, (0, f"done: submit {number}\n".encode(), b""), "submit")
+        service = stack.enter_context(Resident(room, "--call-every", "1", book=book))
+        for post in (posts[0], posts[2]):
+            post.settimeout(LONG)
+            with post.accept()[0] as connection:
+                greet_and_leave(connection)
+        lines = [service.line() for _ in range(2)]
+        expect(lines, [f"session {code} out: end: input" for code in (codes[0], codes[2])], "the lines")
+        expect(select.select([posts[1]], [], [], 2)[0], [], "whether it calls one for whom nothing waits")
+
+
 def clock_of_who_only_calls(room):
     """By its clock the station never calls a partner from whom it only receives, though a response is due to him, and calls him once his mode is
     another one."""
@@ -1048,6 +1206,27 @@ def requests(room):
         expect(ask(port, b"GET /in HTTP/1.1\r\nX: " + b"a" * 9000).split()[1], b"400", "a head that is too long")
 
 
+def expect_hosts(room, address, own, *hosts):
+    """At an address, with this port for partners, a request may name these hosts, and no other address."""
+    port = free_port(address)
+    with Resident(room, "--address", address, "--http-port", str(port), port=own):
+        wanted = {host: b"200" for host in hosts} | {host: b"400" for host in ("127.0.0.1", "127.0.0.3", "[::2]", "0.0.0.0", "[::]")}
+        for host, status in wanted.items():
+            with socket.create_connection((address, port), timeout=LONG) as caller:
+                caller.sendall(f"GET /in HTTP/1.1\r\nHost: {host}\r\n\r\n".encode())
+                expect(rest_of(caller).split()[1], status, f"the host {host} at {address}")
+
+
+def host_of_another_address(room):
+    """A request may name the address that was called, where it isn't the usual one, and no other one."""
+    expect_hosts(room, "127.0.0.2", free_port("127.0.0.2"), "127.0.0.2", "127.0.0.2:80", "localhost")
+
+
+def host_of_ipv6(room):
+    """The same where the address is one of IPv6."""
+    expect_hosts(room, "::1", port_of_ipv6("the hosts that a request may name"), "[::1]", "[::1]:80", "localhost")
+
+
 def slow_requests(room):
     """Sixty who send half a head delay nobody, and each has ten seconds."""
     port = free_port()
@@ -1069,17 +1248,68 @@ def slow_requests(room):
         expect(get(port, "/in")[0], 200, "a list")
 
 
+def narrow_visitor(service, port):
+    """A connection to the station's port for requests that buffers few octets."""
+    own, service.port = service.port, port
+    try:
+        return service.caller(is_narrow=True)
+    finally:
+        service.port = own
+
+
 def request_that_is_not_read(room):
-    """Who doesn't read a long reply delays nobody."""
+    """Who doesn't read a reply that is longer than what the system buffers delays nobody, and has ten seconds."""
+    port = free_port()
+    subprocess.run([PROGRAM, "init", "--db", room / "empty"], capture_output=True, timeout=LONG, check=True)
+    filled.settle(room / "empty")
+    filled.fill_many(room / "empty", room / "database", 2000)
+    with Resident(room, "--http-port", str(port)) as service, contextlib.ExitStack() as stack:
+        before = held_by(service)
+        whole = len(get(port, "/in")[1])
+        begin = time.monotonic()
+        slow = [stack.enter_context(narrow_visitor(service, port)) for _ in range(6)]
+        for caller in slow:
+            caller.sendall(b"GET /in HTTP/1.1\r\n\r\n")
+        expect(given(service, "report", "issued")[0], 0, "a report")
+        expect(get(port, "/")[0], 200, "the page")
+        play(service, NOTHING_WAITING)
+        within(begin, 2, "what is read")
+        while held_by(service) > before:
+            within(begin, 12, "the time of those who don't read")
+            time.sleep(0.1)
+        expect(time.monotonic() - begin >= 10, True, "whether they had ten seconds")
+        expect(max(len(rest_of(caller)) for caller in slow) < whole, True, "whether none has the whole reply")
+
+
+def held_by(service):
+    """How many descriptors the station has open."""
+    return len(staying.descriptors_of(service.program.pid))
+
+
+def most_requests_at_once(room):
+    """Of ninety who ask 64 are kept at once, and the others are answered once some of these are gone."""
     port = free_port()
     with Resident(room, "--http-port", str(port)) as service, contextlib.ExitStack() as stack:
-        for _ in range(60):
-            caller = stack.enter_context(socket.create_connection(("127.0.0.1", port), timeout=LONG))
-            caller.sendall(b"GET / HTTP/1.1\r\n\r\n")
+        before = held_by(service)
+        # All have come when it next looks.
+        service.program.send_signal(signal.SIGSTOP)
+        callers = [stack.enter_context(socket.create_connection(("127.0.0.1", port), timeout=LONG)) for _ in range(90)]
+        for place, caller in enumerate(callers):
+            caller.sendall(b"GET /in HT" if place < 64 else b"GET /in HTTP/1.1\r\n\r\n")
         begin = time.monotonic()
-        expect(given(service, "report", "in")[0], 0, "a report")
-        expect(get(port, "/")[0], 200, "the page")
-        within(begin, 0, "what is read")
+        service.program.send_signal(signal.SIGCONT)
+        while held_by(service) < before + 64:
+            within(begin, 0, "the time until 64 are kept")
+            time.sleep(0.02)
+        answered = select.select(callers[64:], [], [], 3)[0]
+        # Each of the 64 has ten seconds.
+        if answered and time.monotonic() - begin < 10:
+            raise Wrong(f"{len(answered)} are answered beside 64")
+        expect(held_by(service) <= before + 64, True, "whether no more are kept")
+        for caller in callers[:26]:
+            caller.close()
+        for caller in callers[64:]:
+            expect(rest_of(caller)[:12], b"HTTP/1.1 200", "what the others are answered")
 
 
 def session_without_memory(room):
@@ -1121,6 +1351,7 @@ def office_that_fails(room):
         let_no_file_be_written(service)
         expect(given(service, "submit", *IDENTITY, file), (1, b"", b"fault: 3 office\n"), "submit")
         service.ends(1, b"fault: 3 office\n")
+        expect(service.socket.exists(), False, "whether the socket is left")
     with Resident(room, restore_signals=False) as service:
         expect(given(service, "release", "1"), (0, b"done: release 1\n", b""), "a release")
         let_no_file_be_written(service)
@@ -1378,11 +1609,17 @@ CASES = [
     long_path,
     false_clients,
     half_requests,
+    octets_of_a_fetch,
     silent_clients,
     clients_that_read_nothing,
     strangers,
     silent_partner,
+    patience_of_each_wait,
+    time_of_another_session,
+    longest_frame_of_a_stranger,
+    more_callers_than_places,
     look_ups_within_a_session,
+    what_waits_for_the_end,
     callers_in_their_order,
     partners_who_keep_open,
     backups,
@@ -1390,6 +1627,7 @@ CASES = [
     backup_of_who_is_gone,
     backup_that_takes_too_long,
     calls,
+    traced,
     call_that_is_a_job,
     partner_who_does_not_answer,
     two_that_call_each_other,
@@ -1399,10 +1637,15 @@ CASES = [
     partner_who_calls_while_it_is_called,
     partner_of_a_lesser_code_who_calls,
     clock,
+    clock_of_who_has_not_confirmed,
+    clock_of_several_partners,
     clock_of_who_only_calls,
     requests,
+    host_of_another_address,
+    host_of_ipv6,
     slow_requests,
     request_that_is_not_read,
+    most_requests_at_once,
     false_octets_at_each_socket,
     slow_callers_at_each_socket,
     silent_callers_at_each_socket,
