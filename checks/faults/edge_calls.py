@@ -4,8 +4,8 @@
     checks/faults/edge_calls.py
 
 Out of memory is reported as such, wherever the machine has none, and any other error as before. A caller that is gone before it is
-accepted, or that can't be accepted for the moment, ends no service. A fetched file is synced before it gets its name, and the name before
-the line is printed. It needs a C compiler. The last line is `N passed, M failed`.
+accepted, or that can't be accepted for the moment, ends no service. A fetched file and a backup are synced before they get their names,
+and the names before the line is printed. It needs a C compiler. The last line is `N passed, M failed`.
 """
 
 import bisect
@@ -148,14 +148,26 @@ def name_is_kept(room, library):
     given = room / "given"
     given.write_bytes(Row(ROWS / "receiving/one_octet.row").sessions()[0].joined("in"))
     expect(run(room, {}, "feed", "--db", "db", "--book", BOOK, "given", "/dev/null")[0], 0, "the session")
+    (room / "folder").mkdir()
     for name in ("fetched", "fetched", "folder/fetched"):
-        (room / "folder").mkdir(exist_ok=True)
-        calls = room / "calls"
-        told = run(room, {"LD_PRELOAD": str(library), "CALLS": str(calls)}, "fetch", "--db", "db", "1", name)
-        expect(told, (0, "done: fetch 1\n", ""), "fetch")
-        lines = calls.read_text().splitlines()
-        expect(lines[lines.index("rename") - 1 :], ["sync of a file", "rename", "sync of a folder"], "its last calls")
-        calls.unlink()
+        expect_kept(room, library, "done: fetch 1\n", "fetch", "--db", "db", "1", name)
+
+
+def expect_kept(room, library, line, *words):
+    """A command that prints this line has synced what it made, then named it, and then synced the name."""
+    calls = room / "calls"
+    calls.unlink(missing_ok=True)
+    expect(run(room, {"LD_PRELOAD": str(library), "CALLS": str(calls)}, *words), (0, line, ""), words[0])
+    lines = calls.read_text().splitlines()
+    expect(lines[lines.index("rename") - 1 :], ["sync of a file", "rename", "sync of a folder"], f"the last calls of {words[0]}")
+
+
+def name_of_a_backup_is_kept(room, library):
+    expect(run(room, {}, "init", "--db", "db")[0], 0, "init")
+    for name in ("copy", "copy"):
+        expect_kept(room, library, "done: backup\n", "backup", "--db", "db", name)
+    with Resident(room) as service:
+        expect_kept(room, library, "done: backup\n", "backup", "--db", service.database, "copy")
 
 
 CASES = [
@@ -166,6 +178,7 @@ CASES = [
     requests_that_pass,
     callers_of_a_station_that_pass,
     name_is_kept,
+    name_of_a_backup_is_kept,
 ]
 
 
