@@ -16,7 +16,7 @@ import tempfile
 import threading
 import time
 import urllib.request
-from datetime import datetime
+from datetime import datetime, timedelta
 from http.server import BaseHTTPRequestHandler, ThreadingHTTPServer
 from pathlib import Path
 
@@ -551,8 +551,25 @@ def renewed(tab):
     tab.until("renewedAt !== window.before")
 
 
+def closing_for_long(browser, _picture):
+    """A file that is younger than an hour stands out once the page has seen it closing for ten minutes, and not before."""
+    now = datetime.now()
+    file = page_lists.outgoing(1, now - timedelta(minutes=2), "closing")
+    with Server(Lists(outgoing=[file])) as server, opened(browser, server, 1024) as tab:
+        choose(tab, "out")
+        tab.value("void (window.real = Date.now)")
+        for minutes, state, todo in ((0, "closing", []), (8, "closing", []), (10, "stuck", ["1 not confirmed for long"])):
+            tab.value(f"void (Date.now = () => window.real() + {minutes * 60_000})")
+            renewed(tab)
+            rows, pills = rows_of(tab)
+            told = tab.value('[...document.querySelectorAll("#todo a")].map((it) => it.textContent)')
+            found = [(row.words, row.look) for row in rows], pills, told
+            expect(found, ([page_lists.OUTGOING[state]], [bool(todo)], todo), f"a file that it has seen closing for {minutes} minutes")
+        expect_quiet(tab, server)
+
+
 CASES = [
-    *(no_file, every_state, hostile_texts, many_files, filter_is_kept, renews_itself, says_when_it_cannot, by_keyboard),
+    *(no_file, every_state, closing_for_long, hostile_texts, many_files, filter_is_kept, renews_itself, says_when_it_cannot, by_keyboard),
     *(of_the_program, served_by_run),
 ]
 
