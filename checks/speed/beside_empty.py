@@ -17,7 +17,7 @@ import sys
 import tempfile
 import time
 from pathlib import Path
-from typing import Callable, NamedTuple
+from typing import Callable, NamedTuple, Optional
 
 sys.path.insert(0, str(Path(__file__).resolve().parents[1] / "lib"))
 
@@ -41,7 +41,8 @@ CAME = 20
 class Pace(NamedTuple):
     """An act that should take as long over a large register as over an empty one: its name, its function, how often it is done, how many
     times as long it may take, and the milliseconds that are wanted, if any. `do` gets a station and how often it was done before, and
-    returns the elapsed seconds. If it is judged by processor time, that is the station's."""
+    returns the elapsed seconds. If it is judged by processor time, that is the station's. `first`, if any, is done before it, and isn't
+    measured."""
 
     name: str
     do: Callable
@@ -49,6 +50,7 @@ class Pace(NamedTuple):
     most: float
     wanted: int = 0
     is_by_processor: bool = False
+    first: Optional[Callable] = None
 
 
 class Station(Holding):
@@ -128,8 +130,11 @@ def come_in(station, at):
     return clocked(station.session, *file_of(f"IN.{at}", LARGE))
 
 
-def go_out(station, at):
+def hand_in(station, at):
     station.submit(f"OUT.{at}", THEIRS, station.room.large)
+
+
+def go_out(station, _at):
     return clocked(station.session, *taken_answers(1, len(content_of(LARGE))))
 
 
@@ -138,7 +143,7 @@ PACES = [
     Pace("GET /in/NO", ask_for_one, 40, 2),
     Pace("SSRM after connect", be_greeted, 40, 2, 20),
     Pace("8 MiB come in", come_in, 9, 1.2, is_by_processor=True),
-    Pace("8 MiB go out", go_out, 9, 1.2, is_by_processor=True),
+    Pace("8 MiB go out", go_out, 9, 1.2, is_by_processor=True, first=hand_in),
 ]
 
 
@@ -150,6 +155,8 @@ class Took(NamedTuple):
 
 
 def taken_for(pace, station, at):
+    if pace.first:
+        pace.first(station, at)
     before = station.taken()
     return Took(pace.do(station, at), station.taken() - before)
 
