@@ -1206,13 +1206,13 @@ def requests(room):
         expect(ask(port, b"GET /in HTTP/1.1\r\nX: " + b"a" * 9000).split()[1], b"400", "a head that is too long")
 
 
-def expect_hosts(room, address, own, *hosts):
-    """At an address, with this port for partners, a request may name these hosts, and no other address."""
+def expect_hosts(room, address, own, *hosts, called=None):
+    """At an address, with this port for partners, a request to the one that is called may name these hosts, and no other address."""
     port = free_port(address)
     with Resident(room, "--address", address, "--http-port", str(port), port=own):
-        wanted = {host: b"200" for host in hosts} | {host: b"400" for host in ("127.0.0.1", "127.0.0.3", "[::2]", "0.0.0.0", "[::]")}
-        for host, status in wanted.items():
-            with socket.create_connection((address, port), timeout=LONG) as caller:
+        others = ("127.0.0.1", "127.0.0.3", "[::2]", "0.0.0.0", "[::]")
+        for host, status in ({host: b"400" for host in others} | {host: b"200" for host in hosts}).items():
+            with socket.create_connection((called or address, port), timeout=LONG) as caller:
                 caller.sendall(f"GET /in HTTP/1.1\r\nHost: {host}\r\n\r\n".encode())
                 expect(rest_of(caller).split()[1], status, f"the host {host} at {address}")
 
@@ -1246,6 +1246,12 @@ def slow_requests(room):
         if time.monotonic() - begin < 9:
             raise Wrong("they had less than ten seconds")
         expect(get(port, "/in")[0], 200, "a list")
+
+
+def host_of_all_addresses(room):
+    """Where all addresses are bound, a request may name the one that it came to, also one of IPv4 that came to a socket of IPv6."""
+    own = port_of_ipv6("the hosts that a request to any address may name")
+    expect_hosts(room, "::", own, "127.0.0.1", "127.0.0.1:80", "[::ffff:127.0.0.1]", "localhost", called="127.0.0.1")
 
 
 def narrow_visitor(service, port):
@@ -1643,6 +1649,7 @@ CASES = [
     requests,
     host_of_another_address,
     host_of_ipv6,
+    host_of_all_addresses,
     slow_requests,
     request_that_is_not_read,
     most_requests_at_once,
