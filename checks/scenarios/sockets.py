@@ -595,12 +595,12 @@ def listing_of_a_held_database(room):
 def requests_that_ask_no_database(room):
     """Octets that aren't a request, a target without a route and another method on a list are answered while another process locks the
     database, and so without it."""
-    with Service(room, "http", "--requests", "8") as service:
+    with Service(room, "http", "--requests", "11") as service:
         expect_reply(ask(service, b"GET /out/1 HTTP/1.1\r\n\r\n"), b"404", None)
         with held(service.database):
             expect_reply(ask(service, b"GET /in HTTP/2.0\r\n\r\n"), b"400", None)
             expect_reply(ask(service, b"GET /in HTTP/1.1\r\nX: " + b"a" * 9000), b"400", None)
-            for target in (b"/", b"/inn", b"/in/01"):
+            for target in (b"/", b"/inn", b"/in/01", b"/in/1x", b"/out/12345678", b"/in/1?all"):
                 expect_reply(ask(service, b"GET " + target + b" HTTP/1.1\r\n\r\n"), b"404", None)
             expect_reply(ask(service, b"POST /responses HTTP/1.1\r\n\r\n"), b"405", None)
         expect_reply(ask(service, b"POST /in/1 HTTP/1.1\r\n\r\n"), b"404", None)

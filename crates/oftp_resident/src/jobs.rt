@@ -12,7 +12,7 @@ use oftp_files::Trace;
 use oftp_held::HeldOffice;
 use oftp_outcomes::Fault;
 use oftp_sockets::{
-    Caller, Connection, Station, Trouble, part, serve_called, serve_caller, tell_end,
+    Caller, Connection, Station, Trouble, part, serve_called, serve_caller, trace_end,
 };
 use std::io::Write;
 use std::net::TcpStream;
@@ -65,10 +65,10 @@ impl Resident<'_> {
                 part(self.rt, &connection, station, served);
             }
             Ok(End::Own(_)) => {
-                tell_end(station, served);
+                trace_end(station, served);
                 self.leaving.take_in(connection);
             }
-            _ => tell_end(station, served),
+            _ => trace_end(station, served),
         }
     }
 

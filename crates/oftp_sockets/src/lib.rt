@@ -23,6 +23,6 @@ pub use place::SocketPlace;
 pub use ports::ports_of;
 pub use requests::{MOST_REQUEST_OCTETS, REQUEST_SECONDS, Replies, http_on, is_whole};
 pub use sessions::{
-    Desk, Reception, Station, Wire, dial, listen_on, part, serve_called, serve_caller, tell_end,
+    Desk, Reception, Station, Wire, dial, listen_on, part, serve_called, serve_caller, trace_end,
 };
 pub use waiting::{Arrival, Caller, Waiting};

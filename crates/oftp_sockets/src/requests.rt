@@ -21,6 +21,9 @@ pub const MOST_REQUEST_OCTETS: usize = 8_193;
 /// How many seconds a request may take to arrive, and its reply to be sent.
 pub const REQUEST_SECONDS: u64 = 10;
 
+/// How many digits the number of an entry has at most.
+const MOST_DIGITS: usize = 7;
+
 /// The source of replies.
 pub trait Replies {
     /// The reply to a request that depends on the register.
@@ -141,14 +144,16 @@ fn may_name_entry(request: &[u8]) -> bool {
     false
 }
 
-/// Whether a text is this beginning and then the first digit of a number.
+/// Whether a text is this beginning, a number that an entry may have, and a space: 1 to 7 digits, of which the first is no zero.
 fn is_of_number(text: &[u8], beginning: &[u8]) -> bool {
     let Some(rest) = text.strip_prefix(beginning) else {
         return false;
     };
-    match rest.first() {
-        Some(octet) => *octet != b'0' && octet.is_ascii_digit(),
-        None => false,
+    match rest.iter().position(|octet| !octet.is_ascii_digit()) {
+        Some(digits) if 0 < digits && digits <= MOST_DIGITS => {
+            rest[0] != b'0' && rest[digits] == b' '
+        }
+        _ => false,
     }
 }
 

@@ -141,14 +141,14 @@ pub fn part(
     station: &Station<'_>,
     served: &Result<End, Trouble>,
 ) {
-    tell_end(station, served);
+    trace_end(station, served);
     if let Ok(End::Own(_)) | Err(Trouble::OfService(Fault::Run(RunFault::Office))) = served {
         let _ = connection.part(rt);
     }
 }
 
 /// Appends the end of a session to its trace, if it has one.
-pub fn tell_end(station: &Station<'_>, served: &Result<End, Trouble>) {
+pub fn trace_end(station: &Station<'_>, served: &Result<End, Trouble>) {
     if let Some(trace) = station.trace {
         let served = *served;
         trace.tell_end(&served.map_err(Trouble::fault));
