@@ -116,7 +116,7 @@ fn host_of(value: &str) -> &str {
     }
 }
 
-/// Whether a host is this one.
+/// Whether a host is this one. An IPv4 address that a socket of IPv6 has got is the same address.
 fn is_host(hosts: Hosts<'_>, host: &str) -> bool {
     if host.as_bytes().eq_ignore_ascii_case(b"localhost") {
         return true;
@@ -127,7 +127,7 @@ fn is_host(hosts: Hosts<'_>, host: &str) -> bool {
         return true;
     }
     match (host.parse::<IpAddr>(), hosts.address) {
-        (Ok(asked), Some(address)) => asked == address,
+        (Ok(asked), Some(address)) => asked.to_canonical() == address.to_canonical(),
         _ => false,
     }
 }
