@@ -468,7 +468,14 @@ def try_and_write(named, jobs, is_recording):
     return tried
 
 
+# The words that begin with two dashes. Any other prints what is above.
+OPTIONS = {"--jobs", "--record", "--fits", "--ledger", "--of-the-day"}
+
+
 def main(words):
+    if {it for it in words if it.startswith("-")} - OPTIONS:
+        print(__doc__, file=sys.stderr)
+        return 2
     jobs = int(words.pop(words.index("--jobs") + 1)) if "--jobs" in words else 1
     named = [it for it in words if not it.startswith("--")]
     if "--fits" in words or "--ledger" in words:
