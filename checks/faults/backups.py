@@ -81,8 +81,17 @@ class Trials:
         self.count = self.done = self.commands_killed = self.stations_killed = 0
 
     def started(self):
-        station = Resident(self.room)
-        return station.__enter__()
+        """A station that is ready. Those who submit may lock the database in turn for the ten seconds that one waits for it, on a busy machine: then it
+        is started again, as a supervisor does."""
+        until = time.monotonic() + LONG
+        while True:
+            station = Resident(self.room)
+            line = station.either()
+            if line == "ready":
+                return station
+            station.program.wait(LONG)
+            if line != "fault: 6 store 1" or time.monotonic() > until:
+                raise Wrong(f"the station's first line: {line!r}")
 
     def names(self, which):
         return {name for other in self.others for name in getattr(other, which)}
