@@ -89,11 +89,13 @@ class Station:
             told, _, _ = select.select([program.stdout], [], [], self.chance.uniform(0, 1.05 * usual))
             self.usual_time[name] = (usual + 2 * (time.monotonic() - begin)) / 3 if told else usual * 1.1
             if told and self.chance.random() < 0.5:
-                program.wait(60)
-            elif told:
-                time.sleep(self.chance.uniform(0, 0.003))
-            program.kill()
-            out, err = program.communicate()
+                # Its output is read meanwhile: a report may be larger than a pipe.
+                out, err = program.communicate(timeout=60)
+            else:
+                if told:
+                    time.sleep(self.chance.uniform(0, 0.003))
+                program.kill()
+                out, err = program.communicate()
         return program.returncode, out, err
 
     def session(self, name, octets, *role):
