@@ -2,5 +2,7 @@
 #![tactic(auto)]
 
 mod outcome;
+mod statuses;
 
 pub use outcome::{Carried, Fault, Outcome, write_line};
+pub use statuses::{DONE, FAILED, status_of, status_where, tell};

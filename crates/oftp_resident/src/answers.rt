@@ -1,9 +1,8 @@
 //! The answers to commands: pieces of their output and of files, and then the exit status.
 
-use crate::statuses::{DONE, FAILED};
 use oftp_channel::{LONGEST_PIECE, Outlet, write_end, write_piece};
 use oftp_engine::{End, Port};
-use oftp_outcomes::{Fault, Outcome, write_line};
+use oftp_outcomes::{DONE, FAILED, Fault, Outcome, write_line};
 use std::alloc::Global;
 
 /// The octets of an answer.

@@ -2,15 +2,14 @@
 
 use crate::answers::Answer;
 use crate::calls::Wanted;
-use crate::statuses::{DONE, status_of, tell};
 use oftp_channel::Outlet;
 use oftp_command_line::{Call, Line, Submit, line_of};
 use oftp_engine::{CallJob, Job, Operator, Port, RunFault, Submission, write_content};
 use oftp_files::book_of;
-use oftp_held::{Errand, HeldOffice, report_to};
+use oftp_held::{Errand, HeldOffice, entry_to_fetch, report_to};
 use oftp_listing::ReportKind;
-use oftp_outcomes::{Fault, Outcome};
-use oftp_register::{IncomingEntry, IncomingState, Office};
+use oftp_outcomes::{DONE, Fault, Outcome, status_of, tell};
+use oftp_register::Office;
 use oftp_sockets::patience_of;
 use std::alloc::Global;
 use std::io;
@@ -217,23 +216,6 @@ fn tell_in(alloc: Global, outcome: Outcome, answer: &mut Answer) -> Result<u8, F
     let status = tell(outcome, &mut line)?;
     answer.add(Outlet::Output, line.as_slice())?;
     Ok(status)
-}
-
-/// Looks up the whole incoming file with this number, or the refusal if there is none: [`Outcome::Unknown`], or [`Outcome::WrongState`] for
-/// a file that isn't whole.
-///
-/// # Errors
-/// [`Fault::Run`] with [`RunFault::Office`]: the office failed.
-pub fn entry_to_fetch<O: Office>(
-    office: &mut O,
-    no: u64,
-) -> Result<Result<IncomingEntry, Outcome>, Fault> {
-    match office.in_by_no(no) {
-        Ok(Some(entry)) if entry.state == IncomingState::Whole => Ok(Ok(entry)),
-        Ok(Some(_)) => Ok(Err(Outcome::WrongState)),
-        Ok(None) => Ok(Err(Outcome::Unknown)),
-        Err(_) => Err(Fault::Run(RunFault::Office)),
-    }
 }
 
 /// The request for the content of an incoming file.

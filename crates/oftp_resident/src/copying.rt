@@ -1,9 +1,8 @@
 //! Backups: while a command copies the database's files, no job runs that could change them.
 
 use crate::answers::Answer;
-use crate::statuses::DONE;
 use crate::turns::Resident;
-use oftp_outcomes::Fault;
+use oftp_outcomes::{DONE, Fault};
 use std::time::{Duration, Instant};
 
 /// For how many seconds a command may copy, at most.

@@ -15,13 +15,10 @@ mod listing;
 mod page;
 mod replies;
 mod session_lines;
-mod statuses;
 mod turns;
 mod visitors;
 mod watch;
 mod yielding;
 
-pub use asked::entry_to_fetch;
 pub use clock::codes_of;
-pub use statuses::{DONE, FAILED, status_of, status_where, tell};
 pub use turns::{Bench, reside};

@@ -1,21 +1,11 @@
 //! The commands.
 
-mod asking;
-mod backups;
-mod clerks;
-mod collecting;
-mod fetching;
-mod offering;
-mod operators;
-mod registers;
-mod services;
-mod sessions;
+mod residence;
 
-use asking::{Asking, reached};
 use oftp_command_line::{Line, LineFault, line_of};
+use oftp_commands::{self as commands, Asking, reached};
 use oftp_files::{read_book, show};
-use oftp_outcomes::{Fault, Outcome, write_line};
-use oftp_resident::{DONE, FAILED, status_of, tell};
+use oftp_outcomes::{DONE, FAILED, Fault, Outcome, status_of, tell};
 use oftp_store::StoreFault;
 use std::io::{self, ErrorKind, Write};
 use std::os::unix::net::UnixStream;
@@ -112,8 +102,8 @@ fn carry_out_beside(
     err: &mut impl Write,
 ) -> Result<u8, Fault> {
     match line {
-        Line::Collect(collect) => collecting::collect_beside(rt, collect, out),
-        Line::Offer(offer) => offering::offer_beside(rt, offer, out),
+        Line::Collect(collect) => commands::collect_beside(rt, collect, out),
+        Line::Offer(offer) => commands::offer_beside(rt, offer, out),
         _ => ask(Asking::new(rt, words, stream), line, out, err),
     }
 }
@@ -146,33 +136,33 @@ fn carry_out_alone(
     err: &mut impl Write,
 ) -> Result<u8, Fault> {
     match line {
-        Line::Submit(submit) => operators::submit(rt, submit, out).map(status_of),
-        Line::Offer(offer) => offering::offer(rt, offer, out),
-        Line::Collect(collect) => collecting::collect(rt, collect, out),
-        Line::Release(release) => operators::release(rt, release, out).map(status_of),
-        Line::Refuse(refuse) => operators::refuse(rt, refuse, out).map(status_of),
+        Line::Submit(submit) => commands::submit(rt, submit, out).map(status_of),
+        Line::Offer(offer) => commands::offer(rt, offer, out),
+        Line::Collect(collect) => commands::collect(rt, collect, out),
+        Line::Release(release) => commands::release(rt, release, out).map(status_of),
+        Line::Refuse(refuse) => commands::refuse(rt, refuse, out).map(status_of),
         Line::Report(what) => {
-            registers::write_report(rt, what, out)?;
+            commands::write_report(rt, what, out)?;
             Ok(DONE)
         }
-        Line::Init { database } => tell(registers::initiate(rt, database)?, out),
-        Line::Migrate { database } => tell(registers::migrate(rt, database)?, out),
+        Line::Init { database } => tell(commands::initiate(rt, database)?, out),
+        Line::Migrate { database } => tell(commands::migrate(rt, database)?, out),
         Line::Check { book } => tell(check(rt, book)?, out),
-        Line::Fetch(fetch) => tell(fetching::fetch(rt, fetch)?, out),
-        Line::Backup(backup) => tell(backups::back_up(rt, backup)?, out),
-        Line::Feed(feed) => tell(sessions::feed(rt, feed)?, out),
+        Line::Fetch(fetch) => tell(commands::fetch(rt, fetch)?, out),
+        Line::Backup(backup) => tell(commands::back_up(rt, backup)?, out),
+        Line::Feed(feed) => tell(commands::feed(rt, feed)?, out),
         Line::Show { input } => Ok(if show(rt, input, out)? { DONE } else { FAILED }),
-        Line::Call(call) => tell(services::call(rt, call)?, out),
+        Line::Call(call) => tell(commands::call(rt, call)?, out),
         Line::Run(run) => {
-            services::run(rt, run, out)?;
+            residence::run(rt, run, out)?;
             Ok(DONE)
         }
         Line::Listen(listen) => {
-            services::listen(rt, listen, out, err)?;
+            commands::listen(rt, listen, out, err)?;
             Ok(DONE)
         }
         Line::Http(http) => {
-            services::http(rt, http, err)?;
+            commands::http(rt, http, err)?;
             Ok(DONE)
         }
     }

@@ -4,22 +4,25 @@ use oftp_command_line::Fetch;
 use oftp_database::{self as database, DatabaseOffice};
 use oftp_engine::{Port, RunFault, write_content};
 use oftp_files::{Place, draft_of, file_fault, place_of, settle};
-use oftp_held::{Errand, HeldOffice};
-use oftp_outcomes::{Fault, Outcome};
+use oftp_held::{Errand, HeldOffice, entry_to_fetch};
+use oftp_outcomes::{Fault, Outcome, tell};
 use oftp_register::{IncomingEntry, Office};
-use oftp_resident::{entry_to_fetch, tell};
 use std::alloc::Global;
 use std::fs::File;
 use std::io::Write;
 
 /// Writes a whole incoming file of a database to a file.
-pub(super) fn fetch(rt: &HostRuntime, line: &Fetch<'_>) -> Result<Outcome, Fault> {
+///
+/// # Errors
+/// [`Fault::Store`] if the database can't be opened; [`Fault::Run`] if the office failed; [`Fault::File`] if the file can't be written;
+/// [`Fault::MEMORY`]. The file is as it was then.
+pub fn fetch(rt: &HostRuntime, line: &Fetch<'_>) -> Result<Outcome, Fault> {
     let mut office = database::open_shared(rt, line.database)?;
     fetch_over(rt, &mut office, line)
 }
 
 /// Writes a whole incoming file of the office over a database to a file, and the line that reports it to `told`. It returns the exit status.
-pub(super) fn fetch_and_tell(
+pub(crate) fn fetch_and_tell(
     rt: &HostRuntime,
     office: &mut DatabaseOffice,
     line: &Fetch<'_>,
@@ -68,7 +71,7 @@ fn fetch_from<O: Office>(
 }
 
 /// Writes these octets to the file that a command line names.
-pub(super) fn make_file_of(rt: &HostRuntime, line: &Fetch<'_>, octets: &[u8]) -> Result<(), Fault> {
+pub(crate) fn make_file_of(rt: &HostRuntime, line: &Fetch<'_>, octets: &[u8]) -> Result<(), Fault> {
     match place_of(rt, line.file, line.database)? {
         Place::Device(mut device) => put(&mut device, octets),
         Place::Name(name) => {

@@ -1,7 +1,7 @@
 //! The exit statuses of commands.
 
+use crate::outcome::{Fault, Outcome, write_line};
 use oftp_engine::Told;
-use oftp_outcomes::{Fault, Outcome, write_line};
 use std::io::Write;
 
 /// The exit status of a command that is done.

@@ -17,7 +17,10 @@ const PIECE: usize = 16_384;
 const READ_WITH_IT: [&str; 2] = ["-wal", "-journal"];
 
 /// Copies a database to a file. No other process changes it meanwhile, since it is open and locked here.
-pub(super) fn back_up(rt: &HostRuntime, line: &Backup<'_>) -> Result<Outcome, Fault> {
+///
+/// # Errors
+/// [`Fault::Store`] if the database can't be opened; [`Fault::File`] if the copy can't be made; [`Fault::MEMORY`]. Nothing is copied then.
+pub fn back_up(rt: &HostRuntime, line: &Backup<'_>) -> Result<Outcome, Fault> {
     let office = database::open_shared(rt, line.database)?;
     let copy = DatabaseCopy::begun(rt, line)?;
     let written = copy.write(rt, line.database);
@@ -27,21 +30,21 @@ pub(super) fn back_up(rt: &HostRuntime, line: &Backup<'_>) -> Result<Outcome, Fa
 
 /// A copy of a database, which is a draft until it is whole.
 #[derive(Drop)]
-pub(super) struct DatabaseCopy {
+pub(crate) struct DatabaseCopy {
     name: Name,
     draft: Draft,
 }
 
 impl DatabaseCopy {
     /// Begins a copy to the file that a command line names.
-    pub(super) fn begun(rt: &HostRuntime, line: &Backup<'_>) -> Result<DatabaseCopy, Fault> {
+    pub(crate) fn begun(rt: &HostRuntime, line: &Backup<'_>) -> Result<DatabaseCopy, Fault> {
         let name = name_of(rt, line)?;
         let draft = draft_of(rt, &name)?;
         Ok(DatabaseCopy { name, draft })
     }
 
     /// Copies the files of a database. Nothing may change them meanwhile. The copy is then what a crash would leave.
-    pub(super) fn write(&self, rt: &HostRuntime, database: &str) -> Result<(), Fault> {
+    pub(crate) fn write(&self, rt: &HostRuntime, database: &str) -> Result<(), Fault> {
         let real = fs::canonicalize(rt, database).map_err(|error| file_fault(&error))?;
         pour(rt, real.as_str(), &self.draft.file)?;
         let log = log_of(rt, real.as_str())?;
@@ -54,7 +57,7 @@ impl DatabaseCopy {
     }
 
     /// Gives the copy its name, after it was opened as a station opens it. If writing or opening it failed, it is removed.
-    pub(super) fn finish(
+    pub(crate) fn finish(
         self,
         rt: &HostRuntime,
         written: Result<(), Fault>,
@@ -67,7 +70,7 @@ impl DatabaseCopy {
     }
 
     /// Removes the copy.
-    pub(super) fn give_up(self, rt: &HostRuntime) {
+    pub(crate) fn give_up(self, rt: &HostRuntime) {
         let _ = self.finish(rt, Err(Fault::File));
     }
 }

@@ -1,20 +1,23 @@
 //! The command `offer`, which submits the files of a folder, to be sent to a partner.
 
-use crate::perform::clerks::{OwnClerk, StationClerk};
+use crate::clerks::{OwnClerk, StationClerk};
 use oftp_command_line::Offer;
 use oftp_database as database;
 use oftp_files::{read_book, read_book_octets};
 use oftp_folders::{self as folders, Folder};
-use oftp_outcomes::{Fault, Outcome, write_line};
+use oftp_outcomes::{FAILED, Fault, Outcome, status_where, tell, write_line};
 use oftp_partners::Book;
-use oftp_resident::{FAILED, status_where, tell};
 use std::io::Write;
 
 /// The line for a record length that the format doesn't allow.
 const NO_LENGTH: &str = "refused: 5 field";
 
-/// Offers files over the database, which is locked meanwhile.
-pub(super) fn offer(rt: &HostRuntime, line: &Offer<'_>, out: &mut impl Write) -> Result<u8, Fault> {
+/// Offers files over the database, which is locked meanwhile. Returns the exit status.
+///
+/// # Errors
+/// [`Fault::Book`], [`Fault::File`] or [`Fault::Store`] if the book, the folder or the database can't be opened; those of
+/// [`folders::offer`].
+pub fn offer(rt: &HostRuntime, line: &Offer<'_>, out: &mut impl Write) -> Result<u8, Fault> {
     let book = read_book(rt, line.files.book)?;
     if let Some(status) = refused(&book, line, out)? {
         return Ok(status);
@@ -29,12 +32,11 @@ pub(super) fn offer(rt: &HostRuntime, line: &Offer<'_>, out: &mut impl Write) ->
     folders::offer(rt, line, &folder, clerk, out).map(status_where)
 }
 
-/// Offers files by the station that has the database locked.
-pub(super) fn offer_beside(
-    rt: &HostRuntime,
-    line: &Offer<'_>,
-    out: &mut impl Write,
-) -> Result<u8, Fault> {
+/// Offers files by the station that has the database locked. Returns the exit status.
+///
+/// # Errors
+/// [`Fault::Book`] or [`Fault::File`] if the book or the folder can't be opened; those of [`folders::offer`].
+pub fn offer_beside(rt: &HostRuntime, line: &Offer<'_>, out: &mut impl Write) -> Result<u8, Fault> {
     let (octets, book) = read_book_octets(rt, line.files.book)?;
     if let Some(status) = refused(&book, line, out)? {
         return Ok(status);

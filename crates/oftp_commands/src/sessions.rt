@@ -16,7 +16,11 @@ use std::io::ErrorKind;
 use std::rt::Files;
 
 /// Runs one session with the octets of one file as input and another file as output. Without a database the register is in memory.
-pub(super) fn feed(rt: &HostRuntime, line: &Feed<'_>) -> Result<Outcome, Fault> {
+///
+/// # Errors
+/// [`Fault::Book`], [`Fault::Store`] or [`Fault::File`] if the book, the database or a file can't be opened; [`Fault::Run`] if the session
+/// failed.
+pub fn feed(rt: &HostRuntime, line: &Feed<'_>) -> Result<Outcome, Fault> {
     let book = read_book(rt, line.book)?;
     let Some(role) = role_of(&book, line) else {
         return Ok(Outcome::Unknown);

@@ -8,19 +8,28 @@ use oftp_outcomes::{Fault, Outcome};
 use std::io::Write;
 
 /// Opens a database and creates its tables, unless it has them.
-pub(super) fn initiate(rt: &HostRuntime, database: &str) -> Result<Outcome, Fault> {
+///
+/// # Errors
+/// Those of [`database::open_shared`].
+pub fn initiate(rt: &HostRuntime, database: &str) -> Result<Outcome, Fault> {
     database::open_shared(rt, database)?;
     Ok(Outcome::Initiated)
 }
 
 /// Migrates a database of schema 1 to schema 2.
-pub(super) fn migrate(rt: &HostRuntime, database: &str) -> Result<Outcome, Fault> {
+///
+/// # Errors
+/// Those of [`database::migrate`].
+pub fn migrate(rt: &HostRuntime, database: &str) -> Result<Outcome, Fault> {
     database::migrate(rt, database, PATIENCE)?;
     Ok(Outcome::Migrated)
 }
 
 /// Writes a report of a database.
-pub(super) fn write_report(
+///
+/// # Errors
+/// Those of [`database::open_shared`] and [`report_to`].
+pub fn write_report(
     rt: &HostRuntime,
     what: &Report<'_>,
     out: &mut impl Write,

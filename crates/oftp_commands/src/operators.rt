@@ -40,12 +40,12 @@ fn operate(
     call(rt, office, &book, operator, out)
 }
 
-/// Registers a file to be sent to a partner.
-pub(super) fn submit(
-    rt: &HostRuntime,
-    submit: &Submit<'_>,
-    out: &mut impl Write,
-) -> Result<Told, Fault> {
+/// Registers a file to be sent to a partner, and writes the line that says so.
+///
+/// # Errors
+/// [`Fault::Book`], [`Fault::File`] or [`Fault::Store`] if the book, the file or the database can't be opened; those of
+/// [`DatabaseOffice::operate`].
+pub fn submit(rt: &HostRuntime, submit: &Submit<'_>, out: &mut impl Write) -> Result<Told, Fault> {
     let (book, office) = opened(rt, &submit.files)?;
     let content = read_content(rt, submit)?;
     let operator = Operator::Submit(Submission {
@@ -61,8 +61,11 @@ pub(super) fn submit(
     call(rt, office, &book, &operator, out)
 }
 
-/// Issues the End-to-End Response of an incoming file.
-pub(super) fn release(
+/// Issues the End-to-End Response of an incoming file, and writes the line that says so.
+///
+/// # Errors
+/// [`Fault::Book`], [`Fault::File`] or [`Fault::Store`] if the book or the database can't be opened; those of [`DatabaseOffice::operate`].
+pub fn release(
     rt: &HostRuntime,
     release: &Release<'_>,
     out: &mut impl Write,
@@ -71,12 +74,11 @@ pub(super) fn release(
     operate(rt, &release.files, &operator, out)
 }
 
-/// Issues the Negative End Response of an incoming file.
-pub(super) fn refuse(
-    rt: &HostRuntime,
-    refuse: &Refuse<'_>,
-    out: &mut impl Write,
-) -> Result<Told, Fault> {
+/// Issues the Negative End Response of an incoming file, and writes the line that says so.
+///
+/// # Errors
+/// Those of [`release`].
+pub fn refuse(rt: &HostRuntime, refuse: &Refuse<'_>, out: &mut impl Write) -> Result<Told, Fault> {
     let operator = Operator::Refuse {
         no: refuse.no,
         reason: refuse.reason,

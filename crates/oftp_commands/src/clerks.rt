@@ -1,16 +1,15 @@
 //! Access to a register for the commands over a folder: over the database that they open, or by the station that has it locked.
 
-use crate::perform::asking::{Asking, reached};
-use crate::perform::fetching::{fetch_and_tell, make_file_of};
+use crate::asking::{Asking, reached};
+use crate::fetching::{fetch_and_tell, make_file_of};
 use oftp_command_line::{Fetch, Submit};
 use oftp_database::DatabaseOffice;
 use oftp_engine::{Operator, Port, RunFault, Submission, Told};
 use oftp_folders::{Clerk, Completion};
 use oftp_held::{HeldOffice, report_to};
 use oftp_listing::ReportKind;
-use oftp_outcomes::Fault;
+use oftp_outcomes::{DONE, Fault};
 use oftp_partners::Book;
-use oftp_resident::DONE;
 use oftp_vfile::Format;
 use std::alloc::{AllocError, Global};
 use std::io::{self, Write};
@@ -42,11 +41,11 @@ fn completion_of(alloc: Global, is_done: bool, line: Vec<u8>) -> Result<Completi
 
 /// Access over the database, which the command has opened itself.
 #[derive(Drop)]
-pub(super) struct OwnClerk<'a> {
-    pub(super) rt: &'a HostRuntime,
-    pub(super) database: &'a str,
-    pub(super) book: &'a Book,
-    pub(super) office: DatabaseOffice,
+pub(crate) struct OwnClerk<'a> {
+    pub(crate) rt: &'a HostRuntime,
+    pub(crate) database: &'a str,
+    pub(crate) book: &'a Book,
+    pub(crate) office: DatabaseOffice,
 }
 
 impl OwnClerk<'_> {
@@ -102,11 +101,11 @@ impl Clerk for OwnClerk<'_> {
 
 /// Access by the station that has the database locked. Each request has its own connection.
 #[derive(Clone, Copy)]
-pub(super) struct StationClerk<'a> {
-    pub(super) rt: &'a HostRuntime,
-    pub(super) database: &'a str,
+pub(crate) struct StationClerk<'a> {
+    pub(crate) rt: &'a HostRuntime,
+    pub(crate) database: &'a str,
     /// The octets of the book.
-    pub(super) book: &'a [u8],
+    pub(crate) book: &'a [u8],
 }
 
 impl StationClerk<'_> {

@@ -1,14 +1,13 @@
 //! Commands that ask the station over their database to carry them out. They read and write the files themselves.
 
-use crate::perform::backups::DatabaseCopy;
-use crate::perform::fetching::make_file_of;
-use crate::perform::services::trace_of;
+use crate::backups::DatabaseCopy;
+use crate::fetching::make_file_of;
+use crate::services::trace_of;
 use oftp_channel::{AnswerPart, HearFault, Outlet, fits, read_part, read_ready, write_request};
 use oftp_command_line::{Backup, Call, Fetch, Files, Submit};
 use oftp_engine::{Port, RunFault};
 use oftp_files::{Trace, read_book_octets, read_content};
-use oftp_outcomes::{Fault, Outcome};
-use oftp_resident::{DONE, tell};
+use oftp_outcomes::{DONE, Fault, Outcome, tell};
 use oftp_sockets::SocketPlace;
 use std::alloc::Global;
 use std::io::{self, Write};
@@ -20,29 +19,28 @@ const GONE: Fault = Fault::Run(RunFault::Office);
 
 /// A command whose database a station has locked.
 #[derive(Clone, Copy)]
-pub(super) struct Asking<'a> {
+pub struct Asking<'a> {
     rt: &'a HostRuntime,
     words: &'a [String],
     stream: &'a UnixStream,
 }
 
 /// Connects to the station that runs over a database, if one does.
-pub(super) fn reached(rt: &HostRuntime, database: &str) -> Option<UnixStream> {
+pub fn reached(rt: &HostRuntime, database: &str) -> Option<UnixStream> {
     SocketPlace::beside(rt, database).ok()?.connect(rt).ok()
 }
 
 impl<'a> Asking<'a> {
     /// The command with these words, whose station is connected over this stream.
-    pub(super) fn new(
-        rt: &'a HostRuntime,
-        words: &'a [String],
-        stream: &'a UnixStream,
-    ) -> Asking<'a> {
+    pub fn new(rt: &'a HostRuntime, words: &'a [String], stream: &'a UnixStream) -> Asking<'a> {
         Asking { rt, words, stream }
     }
 
-    /// Submits a file.
-    pub(super) fn submit(
+    /// Submits a file. Returns the exit status.
+    ///
+    /// # Errors
+    /// [`Fault::Book`] or [`Fault::File`] if the book or the file can't be read; those of [`Asking::ask_alone`].
+    pub fn submit(
         self,
         submit: &Submit<'_>,
         out: &mut impl Write,
@@ -53,8 +51,11 @@ impl<'a> Asking<'a> {
         self.ask_line(book.as_slice(), content.as_slice(), out, err)
     }
 
-    /// Releases or refuses a file.
-    pub(super) fn respond(
+    /// Releases or refuses a file. Returns the exit status.
+    ///
+    /// # Errors
+    /// [`Fault::Book`] or [`Fault::File`] if the book can't be read; those of [`Asking::ask_alone`].
+    pub fn respond(
         self,
         files: &Files<'_>,
         out: &mut impl Write,
@@ -64,20 +65,29 @@ impl<'a> Asking<'a> {
         self.ask_line(book.as_slice(), &[], out, err)
     }
 
-    /// Sends a request that needs no file.
-    pub(super) fn ask_alone(self, out: &mut impl Write, err: &mut impl Write) -> Result<u8, Fault> {
+    /// Sends a request that needs no file. Returns the exit status.
+    ///
+    /// # Errors
+    /// [`Fault::Run`] if the station is gone or `out` returned an error; [`Fault::MEMORY`]. The request may have been carried out then.
+    pub fn ask_alone(self, out: &mut impl Write, err: &mut impl Write) -> Result<u8, Fault> {
         self.ask_line(&[], &[], out, err)
     }
 
-    /// Requests a report, which is written as it arrives.
-    pub(super) fn report(self, out: &mut impl Write, err: &mut impl Write) -> Result<u8, Fault> {
+    /// Requests a report, which is written as it arrives. Returns the exit status.
+    ///
+    /// # Errors
+    /// Those of [`Asking::ask_alone`].
+    pub fn report(self, out: &mut impl Write, err: &mut impl Write) -> Result<u8, Fault> {
         let status = self.ask(&[], &[], out, err, &mut io::sink())?;
         flush(out)?;
         Ok(status)
     }
 
-    /// Fetches a file, which is written once all of it has arrived.
-    pub(super) fn fetch(
+    /// Fetches a file, which is written once all of it has arrived. Returns the exit status.
+    ///
+    /// # Errors
+    /// Those of [`Asking::ask_alone`], and [`Fault::File`] if the file can't be written. It is as it was then.
+    pub fn fetch(
         self,
         fetch: &Fetch<'_>,
         out: &mut impl Write,
@@ -94,8 +104,12 @@ impl<'a> Asking<'a> {
         Ok(status)
     }
 
-    /// Makes a backup. The station does no job while the database's files are copied. The copy is finished after that.
-    pub(super) fn back_up(
+    /// Makes a backup. The station does no job while the database's files are copied. The copy is finished after that. Returns the exit
+    /// status.
+    ///
+    /// # Errors
+    /// Those of [`Asking::ask_alone`] and [`back_up`](crate::back_up). Nothing is copied then.
+    pub fn back_up(
         self,
         backup: &Backup<'_>,
         out: &mut impl Write,
@@ -123,8 +137,11 @@ impl<'a> Asking<'a> {
         }
     }
 
-    /// Requests a call of a partner.
-    pub(super) fn call(
+    /// Requests a call of a partner. Returns the exit status.
+    ///
+    /// # Errors
+    /// [`Fault::Book`] or [`Fault::File`] if the book or the trace can't be opened; those of [`Asking::ask_alone`].
+    pub fn call(
         self,
         call: &Call<'_>,
         out: &mut impl Write,
@@ -159,7 +176,7 @@ impl<'a> Asking<'a> {
     }
 
     /// Sends a request, and writes the pieces of the answer to their outputs. Returns the exit status.
-    pub(super) fn ask(
+    pub(crate) fn ask(
         self,
         book: &[u8],
         content: &[u8],

@@ -1,20 +1,19 @@
 //! The command `collect`, which writes the incoming files that are whole and have no response to a folder.
 
-use crate::perform::clerks::{OwnClerk, StationClerk};
+use crate::clerks::{OwnClerk, StationClerk};
 use oftp_command_line::Collect;
 use oftp_database as database;
 use oftp_files::{read_book, read_book_octets};
 use oftp_folders::{self as folders, Folder};
-use oftp_outcomes::Fault;
-use oftp_resident::status_where;
+use oftp_outcomes::{Fault, status_where};
 use std::io::Write;
 
-/// Collects files over the database, which is locked meanwhile.
-pub(super) fn collect(
-    rt: &HostRuntime,
-    line: &Collect<'_>,
-    out: &mut impl Write,
-) -> Result<u8, Fault> {
+/// Collects files over the database, which is locked meanwhile. Returns the exit status.
+///
+/// # Errors
+/// [`Fault::Book`], [`Fault::File`] or [`Fault::Store`] if the book, the folder or the database can't be opened; those of
+/// [`folders::collect`].
+pub fn collect(rt: &HostRuntime, line: &Collect<'_>, out: &mut impl Write) -> Result<u8, Fault> {
     let book = read_book(rt, line.files.book)?;
     let folder = Folder::held(rt, line.folder)?;
     let clerk = OwnClerk {
@@ -26,8 +25,11 @@ pub(super) fn collect(
     folders::collect(rt, line, &folder, clerk, out).map(status_where)
 }
 
-/// Collects files by the station that has the database locked.
-pub(super) fn collect_beside(
+/// Collects files by the station that has the database locked. Returns the exit status.
+///
+/// # Errors
+/// [`Fault::Book`] or [`Fault::File`] if the book or the folder can't be opened; those of [`folders::collect`].
+pub fn collect_beside(
     rt: &HostRuntime,
     line: &Collect<'_>,
     out: &mut impl Write,

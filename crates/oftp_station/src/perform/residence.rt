@@ -1,0 +1,67 @@
+//! The command `run`, over sockets.
+
+use oftp_command_line::Run;
+use oftp_commands::{admission_of, station_of, trace_of};
+use oftp_database::{self as database, DatabaseOffice, PATIENCE};
+use oftp_files::read_book_octets;
+use oftp_outcomes::Fault;
+use oftp_resident::{Bench, codes_of, reside};
+use oftp_sockets::{SocketPlace, Station, bound, socket_fault};
+use std::alloc::Global;
+use std::io::Write;
+use std::time::Duration;
+
+/// Serves partners and commands over the database, which stays open. Writes a line to `out` when it is ready, and one for each session.
+pub(super) fn run(rt: &HostRuntime, line: &Run<'_>, out: &mut impl Write) -> Result<(), Fault> {
+    let (octets, book) = read_book_octets(rt, line.files.book)?;
+    let mut office = database::open(rt, line.files.database, PATIENCE)?;
+    let trace = trace_of(rt, &line.files, &line.terms)?;
+    let station = station_of(&book, &line.terms, trace.as_ref());
+    run_over(rt, line, &station, octets.as_slice(), &mut office, out)
+}
+
+/// A copy of a name, if there is one.
+fn name_of(alloc: Global, name: Option<&str>) -> Result<Option<String>, Fault> {
+    match name {
+        Some(name) => match String::from_str(alloc, name) {
+            Ok(name) => Ok(Some(name)),
+            Err(_) => Err(Fault::MEMORY),
+        },
+        None => Ok(None),
+    }
+}
+
+/// Serves them over an open office. `octets` are the book's.
+fn run_over(
+    rt: &HostRuntime,
+    line: &Run<'_>,
+    station: &Station<'_>,
+    octets: &[u8],
+    office: &mut DatabaseOffice,
+    out: &mut impl Write,
+) -> Result<(), Fault> {
+    let codes = codes_of(rt.alloc(), octets)?;
+    let host = name_of(rt.alloc(), line.host)?;
+    let partners = bound(rt, line.entrance.address, line.entrance.port)?;
+    let requests = match line.http_port {
+        0 => None,
+        port => Some(bound(rt, line.entrance.address, port)?),
+    };
+    let place = SocketPlace::beside(rt, line.files.database).map_err(|error| socket_fault(&error))?;
+    let commands = place.listen(rt).map_err(|error| socket_fault(&error))?;
+    let requests = requests.as_ref();
+    let host = host.as_ref();
+    let bench = Bench {
+        partners: &partners,
+        commands: &commands,
+        requests,
+        host,
+        admission: admission_of(&line.entrance, &line.terms),
+        codes: codes.as_slice(),
+        interval: Duration::from_secs(line.interval),
+        jobs: line.jobs,
+    };
+    let ended = reside(rt, &bench, station, office, out);
+    let _ = place.remove(rt);
+    ended
+}
