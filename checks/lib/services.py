@@ -117,9 +117,14 @@ class Service:
     def next_of(self, streams):
         """The next line of one of these outputs."""
         until = time.monotonic() + self.patience
+        streams = list(streams)
         while not any(b"\n" in self.texts[stream] for stream in streams):
             ready, _, _ = select.select(streams, [], [], max(until - time.monotonic(), 0))
             piece = os.read(ready[0].fileno(), 4096) if ready else b""
+            if ready and not piece and len(streams) > 1:
+                # What ended may have told why on the other one.
+                streams.remove(ready[0])
+                continue
             if not piece:
                 self.program.kill()
                 raise Wrong(f"{'it ended' if ready else f'no line comes for {self.patience} s'}, and it told {self.rest()}")

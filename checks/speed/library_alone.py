@@ -282,6 +282,24 @@ def told_steps(room, case, runs):
         print(f"  {said:<40} {taken / case.rows * 1e6:7.1f}", flush=True)
 
 
+def told_counts(room, files, rows, runs):
+    """What the library would take if one statement counted the rows of all files of a list."""
+    database = copied(room.empty, room.path / "full")
+    connection = sqlite3.connect(database)
+    with connection:
+        names = ("20240131", "1015300001", THEIRS, OURS, "U", 0, "", "whole")
+        headers = ((no, f"ASN.{no}", *names) for no in range(1, files + 1))
+        connection.executemany(f"INSERT INTO in_file VALUES ({', '.join('?' * (len(names) + 2))})", headers)
+        bodies = ((no, at, b"A" * BLOCK) for no in range(1, files + 1) for at in range(rows))
+        connection.executemany("INSERT INTO in_row VALUES (?, ?, ?)", bodies)
+    connection.close()
+    settle(database)
+    print(f"the rows of {files} files of {rows} blocks are counted, by the library alone, microseconds a file:")
+    for how, said in (("each", "a statement for each file, as the store does"), ("together", "one statement for all, which reads each row")):
+        taken = least(spent_by(room.library, "count", room.copy_of(database), files, how) for _ in range(runs))
+        print(f"  {said:<50} {taken / files * 1e6:7.1f}", flush=True)
+
+
 def told_opening(told, room, mebis, runs):
     """The opening of a register, compared with plain C that reads each row of it, and with plain C that checks it."""
     database = fill_large(room.empty, room.path / "large", mebis)
@@ -311,6 +329,7 @@ def measure(room, runs, short):
             told_many(room, case, runs)
         if case.way == "fetch" and case.form == "U":
             told_steps(room, case, runs)
+    told_counts(room, 1000, 20, runs)
     told_opening(told, room, 25, runs)
     return told
 
