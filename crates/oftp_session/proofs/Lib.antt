@@ -26,3 +26,4 @@ pub mod Proceeding
 pub mod Outputs
 pub mod Resources
 pub mod Recalling
+pub mod Looking

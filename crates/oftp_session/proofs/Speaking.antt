@@ -1,8 +1,9 @@
 -- What the session does at its turn as a speaker, as a step.
-use Rattle.std.proofs.Common.{◌≡◌, ℕ, zero, suc, ◌≤◌, nat_lt, false, cond, List, [], slice_get, None, Some, Result, Ok, Err, refl, sym, ap, ◌∙◌, subst, arith}
+use Rattle.std.proofs.Common.{◌≡◌, ℕ, zero, suc, ◌≤◌, nat_lt, false, cond, List, [], slice_get, Option, None, Some, Result, Ok, Err, refl, sym, ap, ◌∙◌, subst, arith}
 use Rattle.std.proofs.lemmas.Bool.{false≢true}
 use Rattle.oftp_wire.specs.declared.command.Command.{Command}
 use Rattle.oftp_vfile.specs.VirtualFile.{units_in}
+use Rattle.oftp_register.specs.declared.entries.Item.{Item}
 use Rattle.oftp_register.specs.declared.entries.Item.TheVariants as item
 use Rattle.oftp_register.specs.declared.entries.OutgoingEntry.{OutgoingEntry}
 use Rattle.oftp_register.specs.declared.entries.Side.TheVariants as side
@@ -60,19 +61,25 @@ then_takes step old mid new frame (Ok to) was h = (then_made step.change step.ou
 then_takes step old mid new frame (Err told) was h = then_fails step.change told old mid new was h
 
 -- the file that is next is offered
-pub speak_file : (setting : Setting) (contact : Contact) (done : WhenDone) (e : OutgoingEntry) (old mid new : View) (frame : List ℕ) (result : Result State SessionFault)
-    → IsSound mid.register → next_item old.register contact.code contact.tried contact.link.sends ≡ Some (item.File e) → IsMade None None old mid []
-    → ((d : WhenDone) (file : Outgoing) → e ≡ outgoing_entry e.no file → entry_at e.no mid.register.outgoing ≡ Some file
-    → Takes (offers contact d e.no (Some file)) mid new frame result) → Takes (speaks setting contact done old.register) old new frame result
+pub file_takes : (setting : Setting) (contact : Contact) (done : WhenDone) (e : OutgoingEntry) (old new : View) (frame : List ℕ) (result : Result State SessionFault)
+    → IsSound old.register → Some (item.File e) ≡ next_item old.register contact.code contact.tried contact.link.sends
+    → ((d : WhenDone) (file : Outgoing) → e ≡ outgoing_entry e.no file → entry_at e.no old.register.outgoing ≡ Some file
+    → Takes (offers contact d e.no (Some file)) old new frame result) → Takes (on_item setting contact done old.register (Some (item.File e))) old new frame result
+file_takes setting contact done e old new frame result sound next does =
+    let found = item_goes old.register contact contact.code contact.tried contact.link.sends e sound (sym next) in
+    subst (λ (o : Option Outgoing). Takes (offers contact done e.no o) old new frame result) (sym found.2.entry) (does done found.0 found.1 found.2.entry)
+
+-- what is next is sent after the look
+pub speaks_takes : (setting : Setting) (contact : Contact) (done : WhenDone) (found : Option Item) (old mid new : View) (frame : List ℕ) (result : Result State SessionFault)
+    → found ≡ next_item old.register contact.code contact.tried contact.link.sends → IsMade None None old mid []
+    → (found ≡ next_item mid.register contact.code contact.tried contact.link.sends → Takes (on_item setting contact done mid.register found) mid new frame result)
+    → Takes (speaks setting contact done old.register) old new frame result
 unfolding speaks
-speak_file setting contact done e old mid new frame result sound next was does =
-    let again = subst (λ (r : Register). next_item r contact.code contact.tried contact.link.sends ≡ Some (item.File e)) (sym was.register) next in
-    let found = item_goes mid.register contact contact.code contact.tried contact.link.sends e sound again in
-    let there : entry_at e.no old.register.outgoing ≡ Some found.0 =
-    ap (λ (r : Register). entry_at e.no r.outgoing) (sym was.register) ∙ found.2.entry in
-    let step : on_item setting contact done old.register (next_item old.register contact.code contact.tried contact.link.sends) ≡ offers contact done e.no (Some found.0) =
-    ap (on_item setting contact done old.register) next ∙ ap (offers contact done e.no) there in
-    subst (λ (x : Step). Takes x old new frame result) (sym step) (then_takes (offers contact done e.no (Some found.0)) old mid new frame result was (does done found.0 found.1 found.2.entry))
+speaks_takes setting contact done found old mid new frame result next was takes =
+    let again = next ∙ ap (λ (r : Register). next_item r contact.code contact.tried contact.link.sends) (sym was.register) in
+    let step : on_item setting contact done mid.register found ≡ speaks setting contact done old.register =
+    ap (λ (r : Register). on_item setting contact done r found) was.register ∙ ap (on_item setting contact done old.register) next in
+    subst (λ (x : Step). Takes x old new frame result) step (then_takes (on_item setting contact done mid.register found) old mid new frame result was (takes again))
 
 -- no command is due: nothing is sent
 

@@ -1,5 +1,5 @@
 -- What a call leaves of a session, once the borrow of its frame ends.
-use Rattle.std.specs.Prelude.{◌≡◌, ◌≢◌, ◌<◌, [], true, false, None, Result, OnErr, OnOk}
+use Rattle.std.specs.Prelude.{◌≡◌, ◌≢◌, ◌<◌, [], true, false, Result, OnErr, OnOk}
 use Rattle.std.specs.Borrow.{Fml, MutBor}
 use Rattle.std.specs.Io.BufRead.{Rests}
 use mir.Syntax.{named}
@@ -39,11 +39,10 @@ pub record AfterStep (step : Phase → Register → Step) (before after : View) 
   pub made : AfterCall step before after result old new
   pub recalls : InPhase before after old (λ p r. OnOk result (Recalls new after.register))
 
--- The same for a turn. One that was due leaves fewer turns, and the session forgets what it looked up. If none was due, nothing is sent and
--- the session is unchanged.
+-- The same for a turn. One that was due leaves fewer turns. If none was due, nothing is sent and the session is unchanged.
 pub record AfterTurn (step : Phase → Register → Step) (before after : View) (result : Result Out SessionFault) (old new : Seen) : Type 0 where
   pub made : AfterCall step before after result old new
-  pub forgets : is_due old.standing ≡ true → new.asks ≡ None
+  pub recalls : InPhase before after old (λ p r. OnOk result (Recalls new after.register))
   pub fewer : is_due old.standing ≡ true → OnOk result (turns_left new.standing < turns_left old.standing)
   pub idle : is_due old.standing ≡ false → is_closed old.standing ≡ false → new ≡ record old { spoken = [] }
 

@@ -1,7 +1,9 @@
 -- The contracts of private functions. No contract of a public call needs them.
-use Rattle.std.specs.Prelude.{◌≡◌, ℕ, ◌-◌, ◌%◌, ◌<◌, true, List, [], length, max, Option, None, Some, Result, Ok, Err, is_ok}
+use Rattle.std.specs.Prelude.{◌≡◌, ℕ, ◌-◌, ◌%◌, ◌<◌, Bool, true, false, List, [], length, max, Option, None, Some, Result, Ok, Err, is_ok}
 use Rattle.oftp_wire.specs.declared.reason.SessionReason.{SessionReason}
 use Rattle.oftp_register.specs.declared.change.Change.{Change}
+use Rattle.oftp_register.specs.declared.entries.Item.{Item}
+use Rattle.oftp_register.specs.declared.entries.Item.TheVariants as item
 use Rattle.oftp_register.specs.Register.{Register}
 use Rattle.oftp_register.specs.Changes.{apply}
 use Rattle.oftp_register.specs.Soundness.{IsFit}
@@ -48,6 +50,12 @@ pub record Goes (step : Step) (state : State) (frame : List ℕ) : Type 0 where
 abbrev pub Refuses : TakeFault → Result State SessionFault → List ℕ → Type 0
 Refuses cause (Ok state) frame = (reason : SessionReason) × (reason_of cause ≡ Some reason) × Goes (fails reason) state frame
 Refuses cause (Err told) frame = (reason_of cause ≡ None) × (told ≡ fault.Memory)
+
+-- what a speaker remembers after it found this: nothing after a response, and else that no response is next
+abbrev pub asks_after : Option Item → Option Bool
+asks_after (Some (item.Response e)) = None
+asks_after (Some (item.File e)) = Some false
+asks_after None = Some false
 
 -- a function that looks up a value of the register, and changes nothing
 abbrev pub Finds : {T : Type 0} → (Register → T) → View → View → Result T SessionFault → Type 0

@@ -145,20 +145,6 @@ is_sending (Sends contact shipment) = true
 is_sending (Awaits contact number) = false
 is_sending Broken = false
 
--- the partner to which a session listens, in a phase and in a state
-abbrev pub heard_in : Phase → Option Contact
-heard_in (ListenerIdle contact) = Some contact
-heard_in (Receiving contact f) = Some contact
-heard_in other = None
-
-abbrev pub listens_to : Standing → Option Contact
-listens_to (At p) = heard_in p
-listens_to (Receives contact reception) = Some contact
-listens_to (Offers contact offering) = None
-listens_to (Sends contact shipment) = None
-listens_to (Awaits contact number) = None
-listens_to Broken = None
-
 -- how many turns may follow one another, and whether one is due
 abbrev pub turns_left : Standing → ℕ
 turns_left (At p) = turns_due p

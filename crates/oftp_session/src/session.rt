@@ -58,7 +58,7 @@ pub struct Session<'b> {
     setting: Setting<'b>,
     // `None` after an error.
     state: Option<State>,
-    // Whether the station asks to speak, once this was looked up while the partner speaks.
+    // Whether a response is next, once this was looked up. While RTR is missing, it isn't known.
     asks: Option<bool>,
     frame: Frame,
 }
@@ -103,7 +103,7 @@ fn came<O: Office>(
     ensures spared { is_receiving (standing_of state) ≡ false → IfErr result (λ fault. fault ≢ SessionFault.Memory) }
     ensures light { takes_memory command.now ≡ false → IfErr result (λ fault. fault ≢ SessionFault.Memory) }
 {
-    *asks = state.while_listening(*asks);
+    *asks = state.recalled(*asks);
     match state {
         State::ResponderOpening | State::SpeakerIdle(_, _) | State::GivingWay(_) => {
             Ok(State::unexpected(command, frame))
@@ -133,6 +133,7 @@ fn came<O: Office>(
 fn turned<O: Office>(
     setting: Setting<'_>,
     state: State,
+    asks: &mut Option<bool>,
     office: &mut O,
     frame: &mut Frame,
 ) -> Result<State, SessionFault>
@@ -140,21 +141,26 @@ fn turned<O: Office>(
     ensures clean { (O.view office.new).clean → (O.view office.old).clean }
     ensures takes { (O.view office.new).clean → (O.view office.old).stands
         → (p : Phase) → Holds p (O.view office.old).register → StandsIn p (standing_of state)
+        → IsSoAt asks.old (standing_of state) (O.view office.old).register
         → Takes (turned (setting_of setting.entry) p (O.view office.old).register)
         (O.view office.old) (O.view office.new) frame.new result }
+    ensures recalls { (O.view office.new).clean → (O.view office.old).stands
+        → (p : Phase) → Holds p (O.view office.old).register → StandsIn p (standing_of state)
+        → IsSoAt asks.old (standing_of state) (O.view office.old).register
+        → IfOk result (λ next. IsSoAt asks.new (standing_of next) (O.view office.new).register) }
     ensures err { IfErr result IsFailure }
     ensures spared { is_sending (standing_of state) ≡ false → IfErr result (λ fault. fault ≢ SessionFault.Memory) }
     ensures fewer { is_due (standing_of state) ≡ true
         → IfOk result (λ next. turns_left (standing_of next) < turns_left (standing_of state)) }
     ensures idle { is_due (standing_of state) ≡ false
-        → (result ≡ Ok state) × (frame.new ≡ []) × (office.new ≡ office.old) }
+        → (result ≡ Ok state) × (frame.new ≡ []) × (office.new ≡ office.old) × (asks.new ≡ asks.old) }
 {
     match state {
         State::ResponderOpening => {
             frame.say(&Command::Ssrm);
             Ok(State::AwaitingSsid)
         }
-        State::SpeakerIdle(contact, done) => speak(setting, contact, done, office, frame),
+        State::SpeakerIdle(contact, done) => speak(setting, contact, done, asks, office, frame),
         State::GivingWay(contact) => Ok(give_way(contact, frame)),
         State::Sending(contact, shipment) => {
             if shipment.credit > 0 {
@@ -312,10 +318,7 @@ impl<'b> Session<'b> {
             self.state = Some(state);
             return Err(SessionFault::Ended);
         }
-        if state.is_due() {
-            self.asks = None;
-        }
-        self.state = Some(turned(self.setting, state, office, &mut self.frame)?);
+        self.state = Some(turned(self.setting, state, &mut self.asks, office, &mut self.frame)?);
         Ok(self.frame.out())
     }
 

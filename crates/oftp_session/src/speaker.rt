@@ -1,15 +1,16 @@
 //! The station as a speaker, between files (RFC 5024, sections 5.3.3 and 5.3.11 to 5.3.15).
 
-ghost use Rattle.std.specs.Prelude.{◌≡◌, ◌≤◌, true, false, if◌then◌else◌, Some, IfErr, IfOk, IfSome};
+ghost use Rattle.std.specs.Prelude.{◌≡◌, ◌≢◌, ◌≤◌, true, false, if◌then◌else◌, Some, IfErr, IfOk, IfSome};
 ghost use Rattle.oftp_register.specs.declared.fit.TheConstants.{MOST_UNITS};
 ghost use Rattle.oftp_register.specs.Changes.{is_closing};
 ghost use Rattle.oftp_register.specs.LookUps.{IsItemWithin, IsOutgoingWithin, entry_at, next_item, outgoing_entry, units_of};
 ghost use Rattle.oftp_register.specs.Register.{Outgoing};
 ghost use Rattle.oftp_session.specs.Settings.{setting_of};
-ghost use Rattle.oftp_session.specs.Speaker.{came_awaiting_rtr, nothing_next, offers, responds, speaks};
+ghost use Rattle.oftp_session.specs.Speaker.{came_awaiting_rtr, nothing_next, offers, on_item, responds, speaks};
 ghost use Rattle.oftp_session.specs.Steps.{IsResponding};
 ghost use Rattle.oftp_session.specs.Standings.{standing_of, turns_left};
-ghost use Rattle.oftp_session.specs.Inside.{Finds, Goes, Takes};
+ghost use Rattle.oftp_session.specs.Recalling.{IsSoAt, IsSoOf};
+ghost use Rattle.oftp_session.specs.Inside.{Finds, Goes, Takes, asks_after};
 
 use crate::change::make;
 use crate::commands::{response, sfid};
@@ -19,17 +20,26 @@ use crate::opening::Setting;
 use crate::sending::Offering;
 use crate::session::SessionFault;
 use crate::state::{Contact, State};
-use oftp_register::{Change, IssuedEntry, Item, Office, OutgoingEntry, OutgoingState, Side};
+use oftp_register::{
+    Change, Cursor, IssuedEntry, Item, Office, OutgoingEntry, OutgoingState, Side,
+};
 use oftp_wire::{Command, Count, SessionReason};
 
 /// What a speaker needs of an office. Every error of the office is [`SessionFault::Office`].
 pub(crate) trait SpeakerPart: Office {
-    /// The next response or file that wasn't tried. A file is next only where the station sends files.
-    fn next(&mut self, contact: &Contact) -> Result<Option<Item>, SessionFault>
+    /// The next response or file that wasn't tried. A file is next only where the station sends files. A response is looked for until
+    /// none was found, because no change of a speaker makes one due.
+    fn next(
+        &mut self,
+        contact: &Contact,
+        asks: &mut Option<bool>,
+    ) -> Result<Option<Item>, SessionFault>
         ensures clean { (Self.view self.new).clean → (Self.view self.old).clean }
-        ensures finds { (Self.view self.new).clean → (Self.view self.old).stands
+        ensures finds { (Self.view self.new).clean → (Self.view self.old).stands → IsSoOf asks.old contact.now (Self.view self.old).register
             → Finds (λ r. next_item r contact.now.code contact.now.tried contact.now.link.sends)
             (Self.view self.old) (Self.view self.new) result }
+        ensures recalls { (Self.view self.new).clean → (Self.view self.old).stands → IsSoOf asks.old contact.now (Self.view self.old).register
+            → IsSoOf asks.new contact.now (Self.view self.old).register }
         // This needs no clean disk.
         ensures within { IfOk result (λ found. IfSome found IsItemWithin) }
         ensures err { IfErr result (λ fault. fault ≡ SessionFault.Office) };
@@ -45,9 +55,17 @@ pub(crate) trait SpeakerPart: Office {
 }
 
 impl<O: Office> SpeakerPart for O {
-    fn next(&mut self, contact: &Contact) -> Result<Option<Item>, SessionFault> {
-        match self.next_item(&contact.code, contact.tried, contact.link.sends) {
-            Ok(item) => Ok(item),
+    fn next(
+        &mut self,
+        contact: &Contact,
+        asks: &mut Option<bool>,
+    ) -> Result<Option<Item>, SessionFault> {
+        let cursor = untried(contact.tried, *asks);
+        match self.next_item(&contact.code, cursor, contact.link.sends) {
+            Ok(item) => {
+                *asks = asks_after(&item);
+                Ok(item)
+            }
             Err(_) => Err(SessionFault::Office),
         }
     }
@@ -57,6 +75,32 @@ impl<O: Office> SpeakerPart for O {
             Ok(units) => Ok(units),
             Err(_) => Err(SessionFault::Office),
         }
+    }
+}
+
+/// The numbers above which a speaker looks for what is next. If no response is next, it looks above the greatest number, so that the store
+/// visits none.
+fn untried(tried: Cursor, asks: Option<bool>) -> Cursor
+    ensures file { result.file ≡ tried.file }
+    ensures response { tried.response ≤ result.response }
+    ensures all { asks ≢ Some false → result ≡ tried }
+{
+    match asks {
+        Some(false) => Cursor {
+            response: u64::MAX,
+            ..tried
+        },
+        Some(true) | None => tried,
+    }
+}
+
+/// What a speaker remembers after it found this: nothing after a response, and else that no response is next.
+fn asks_after(item: &Option<Item>) -> Option<bool>
+    ensures { result ≡ asks_after item.now }
+{
+    match item {
+        Some(Item::Response(_)) => None,
+        Some(Item::File(_)) | None => Some(false),
     }
 }
 
@@ -164,28 +208,54 @@ fn offer<O: Office>(
     Ok(State::AwaitingStart(contact, offering(entry, units, from)))
 }
 
+/// Sends the item that is next, or CD or ESID if there is none.
+fn on_item<O: Office>(
+    setting: Setting<'_>,
+    contact: Contact,
+    done: WhenDone,
+    item: Option<Item>,
+    office: &mut O,
+    frame: &mut Frame,
+) -> Result<State, SessionFault>
+    requires { IfSome item IsItemWithin }
+    ensures clean { (O.view office.new).clean → (O.view office.old).clean }
+    ensures takes { (O.view office.new).clean → (O.view office.old).stands
+        → item ≡ next_item (O.view office.old).register contact.code contact.tried contact.link.sends
+        → Takes (on_item (setting_of setting.entry) contact done (O.view office.old).register item)
+        (O.view office.old) (O.view office.new) frame.new result }
+    ensures err { IfErr result (λ fault. fault ≡ SessionFault.Office) }
+    // This needs no clean disk.
+    ensures still { IfOk result (λ state. turns_left (standing_of state) ≡ 0) }
+{
+    match item {
+        Some(Item::Response(entry)) => Ok(respond(setting, contact, &entry, frame)),
+        Some(Item::File(entry)) => offer(contact, office, &entry, frame),
+        None => Ok(nothing_next(contact, done, frame)),
+    }
+}
+
 /// Sends what is next: a response that is due, or else a file, or else CD or ESID.
 #[tactic(auto, unfolding(crate::specs::Speaker::speaks))]
 pub(crate) fn speak<O: Office>(
     setting: Setting<'_>,
     contact: Contact,
     done: WhenDone,
+    asks: &mut Option<bool>,
     office: &mut O,
     frame: &mut Frame,
 ) -> Result<State, SessionFault>
     ensures clean { (O.view office.new).clean → (O.view office.old).clean }
-    ensures takes { (O.view office.new).clean → (O.view office.old).stands
+    ensures takes { (O.view office.new).clean → (O.view office.old).stands → IsSoOf asks.old contact (O.view office.old).register
         → Takes (speaks (setting_of setting.entry) contact done (O.view office.old).register)
         (O.view office.old) (O.view office.new) frame.new result }
+    ensures recalls { (O.view office.new).clean → (O.view office.old).stands → IsSoOf asks.old contact (O.view office.old).register
+        → IfOk result (λ state. IsSoAt asks.new (standing_of state) (O.view office.new).register) }
     ensures err { IfErr result (λ fault. fault ≡ SessionFault.Office) }
     // This needs no clean disk.
     ensures still { IfOk result (λ state. turns_left (standing_of state) ≡ 0) }
 {
-    match office.next(&contact)? {
-        Some(Item::Response(entry)) => Ok(respond(setting, contact, &entry, frame)),
-        Some(Item::File(entry)) => offer(contact, office, &entry, frame),
-        None => Ok(nothing_next(contact, done, frame)),
-    }
+    let item = office.next(&contact, asks)?;
+    on_item(setting, contact, done, item, office, frame)
 }
 
 /// Executes a command that arrives while RTR is missing.

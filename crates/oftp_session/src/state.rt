@@ -2,7 +2,8 @@
 
 ghost use Rattle.std.specs.Prelude.{◌≡◌, if◌then◌else◌, None, is_some};
 ghost use Rattle.oftp_session.specs.Phases.{fails, leaves, unexpected};
-ghost use Rattle.oftp_session.specs.Standings.{ended_as, is_closed, is_due, listens_to, standing_of};
+ghost use Rattle.oftp_session.specs.Standings.{ended_as, is_closed, is_due, standing_of};
+ghost use Rattle.oftp_session.specs.Recalling.{recalled_of};
 ghost use Rattle.oftp_session.specs.Inside.{Goes};
 
 use crate::commands::esid;
@@ -110,21 +111,22 @@ impl State {
         self.ended().is_some()
     }
 
-    /// What was looked up while the partner speaks; it is dropped when the partner no longer speaks.
-    pub(crate) fn while_listening(&self, asks: Option<bool>) -> Option<bool>
-        ensures { result ≡ (if is_some (listens_to (standing_of self.now)) then asks else None) }
+    /// What was looked up, in a state that remembers it: each of an open session, but for the one in which RTR is missing.
+    pub(crate) fn recalled(&self, asks: Option<bool>) -> Option<bool>
+        ensures { result ≡ (if is_some (recalled_of (standing_of self.now)) then asks else None) }
     {
         match self {
-            State::ListenerIdle(_) | State::Receiving(_, _) => asks,
+            State::ListenerIdle(_)
+            | State::Receiving(_, _)
+            | State::SpeakerIdle(_, _)
+            | State::GivingWay(_)
+            | State::AwaitingStart(_, _)
+            | State::Sending(_, _)
+            | State::AwaitingEnd(_, _) => asks,
             State::ResponderOpening
             | State::InitiatorOpening
             | State::AwaitingSsid
-            | State::SpeakerIdle(_, _)
-            | State::GivingWay(_)
             | State::AwaitingRtr(_, _)
-            | State::AwaitingStart(_, _)
-            | State::Sending(_, _)
-            | State::AwaitingEnd(_, _)
             | State::EndedHere(_)
             | State::EndedThere(_) => None,
         }

@@ -7,7 +7,6 @@ use Rattle.oftp_session.proofs.Phases.{turn_live}
 use Rattle.oftp_session.proofs.Proceeding.{turned_proceeds}
 use Rattle.oftp_session.specs.Calls.{Stands}
 use Rattle.oftp_session.specs.Recalling.{Recalls}
-use Rattle.oftp_session.proofs.Recalling.{nothing_recalled}
 use Rattle.oftp_engine.specs.declared.serving.RunFault.{RunFault}
 use Rattle.oftp_engine.specs.Serving.{scene}
 use Rattle.oftp_engine.specs.InsideServing.{StepFails}
@@ -21,13 +20,13 @@ returns-in-Ok-clause-steps g c = λ clean stood k turn at.
     let so = subst (Recalls c.args.session.now) (sym at.register) at.recalls in
     let live = turn_live k.phase turn in
     let after = (g.O.Office.view c.turn.new.office).register in
-    let left = c.turn.follows.lender-at-none in
-    let done = c.turn.follows.holds-at-none.made in
-    let recalls = nothing_recalled left.asks left.standing after (c.turn.follows.holds-at-none.forgets c.requires) in
+    let done = c.turn.follows.holds-at-none in
     let stands = subst (λ (x : Result Out SessionFault). OnOk x (Stands (turned c.args.session.now.setting k.phase r).phase c.turn.follows.lender-at-none)) c.in-Ok.is
-    (done.phase clean stood k.phase held live at.stands so) in
+    (done.made.phase clean stood k.phase held live at.stands so) in
+    let recalls = subst (λ (x : Result Out SessionFault). OnOk x (Recalls c.turn.follows.lender-at-none after)) c.in-Ok.is
+    (done.recalls clean stood k.phase held live at.stands so) in
     called_ok g.W.Write.contents c.args.writer.now c.write_out.new.port _ _ k c.args.session.now (λ setting r. turned setting k.phase r) at _ c.in-Ok.out c.write_out.result
-    done.setting (c.in-Ok.ensures.does clean stood k.phase held live at.stands so) (turned_proceeds k.setting k.phase k.register at.suits).suits stands recalls c.write_out.ensures.sent
+    done.made.setting (c.in-Ok.ensures.does clean stood k.phase held live at.stands so) (turned_proceeds k.setting k.phase k.register at.suits).suits stands recalls c.write_out.ensures.sent
     c.write_out.ensures.err
 
 pub returns-in-Err-clause-steps : goal.returns-in-Err-clause-steps
