@@ -6,9 +6,9 @@
 Stock sqlite3 fills registers of 10 and 100 MiB in two files, and of 1,000 and 10,000 received and sent files; `--large` and `--whole` add one of
 1 GiB and one of 100,000 files. Over each, `run` does what operators and partners ask for, each act several times, and a line has the average: the
 processor seconds of the station, and those of the command that asked it. An act with the same result however large the register is may take
-at most MOST times what it takes over the smallest one; a list may take MOST times the ratio of its numbers of entries. A session with a file
-that is received may also take WALK for each answered response, because it looks once for what is next, past all of them. So may each file
-that is sent, because each look goes past all of them, which is more than is wanted. A line says what this look took over a larger register.
+at most MOST times what it takes over the smallest one; a list may take MOST times the ratio of its numbers of entries. A session with files may
+also take WALK for each answered response, because it looks once for the responses that are due, past all of them: once for all its files,
+whether it receives or sends them. A line says what this look took over a larger register.
 With `--whole` a line also has what the same act takes as a program of its own, with its opening, how much memory that has, and what plain C
 over libsqlite3 (`plain_store.c`, `plain_register.c`) takes for it over the same database without opening it. With `--assert` it fails if
 one takes longer. The last line is `N passed, M failed`.
@@ -35,7 +35,7 @@ from program import PROGRAM, ROOT
 # How many times the time over the smallest register an act may take (2 is wanted), and the seconds that may be chance.
 MOST = 3
 NOISE = 0.002
-# The seconds that a session may take to pass an answered response where it looks for what is next: 50 ms for 100,000.
+# The seconds that a session may take to pass an answered response where it looks for those that are due: 50 ms for 100,000.
 WALK = 0.050 / 100_000
 # The act that shows what this look takes: the smallest session that has only one.
 LOOKING = "10 KB come in"
@@ -60,9 +60,9 @@ class Register(NamedTuple):
 
 class Act(NamedTuple):
     """An act: its name, its function, how often it is done, whether its result has all entries, in how many parts one act is done, and
-    whether each part looks once for what is next, past all answered responses. `do` gets a station and how often it was done before: a
-    `Held` one, for which it returns the processor seconds of the command, or an `Alone` one, for which it returns what a program of its own
-    took. `plain` has the arguments for plain C."""
+    whether it looks once in all its parts for the responses that are due, past all answered ones. `do` gets a station and how often it was
+    done before: a `Held` one, for which it returns the processor seconds of the command, or an `Alone` one, for which it returns what a
+    program of its own took. `plain` has the arguments for plain C."""
 
     name: str
     do: Callable
@@ -265,9 +265,9 @@ def cost_of(station, act):
 
 
 def may_take(act, least, register):
-    """How long an act may take that takes this long over the smallest register of its kind."""
+    """How long a part of an act may take that takes this long over the smallest register of its kind."""
     times = register.times if act.is_list else 1
-    walk = WALK * register.answered if act.walks else 0
+    walk = WALK * register.answered / act.parts if act.walks else 0
     return MOST * times * least + walk + NOISE
 
 
