@@ -1,5 +1,5 @@
 -- Edits in order, in one transaction.
-use Rattle.std.proofs.Common.{◌≡◌, ◌↔◌, ◌⊎◌, ◌+◌, ◌<◌, ℕ, List, [], ◌∷◌, ◌++◌, length, take, get_or, false, true, Result, Ok, Err, OnOk, IfErr, IsTrue, inl, inr, refl, sym, ap, subst, ◌∙◌, arith}
+use Rattle.std.proofs.Common.{◌≡◌, ◌↔◌, ◌+◌, ◌<◌, ℕ, List, [], ◌∷◌, ◌++◌, length, take, get_or, false, true, Result, Ok, Err, OnOk, IfErr, IsTrue, inl, inr, refl, sym, ap, subst, ◌∙◌, arith}
 use Rattle.std.proofs.lemmas.List.{take_more}
 use Rattle.sqlite_trees.specs.declared.store.Store.{Ghosts}
 use Rattle.sqlite.specs.Held.{Held, state}
@@ -8,7 +8,7 @@ use Rattle.sqlite.specs.State.{HasCleanDisk, IsRolledBack, KeepsCounts, Shows, S
 use Rattle.sqlite.specs.Steps.{FailsToCommit}
 use Rattle.sqlite.specs.declared.error.Error.{Error}
 use Rattle.sqlite.specs.declared.error.Error.TheVariants.{SqliteFailure}
-use Rattle.sqlite.specs.declared.error.ErrorCode.TheVariants.{NoRowid, OutOfMemory}
+use Rattle.sqlite.specs.declared.error.ErrorCode.TheVariants.{OutOfMemory}
 use Rattle.oftp_tables.specs.Transactions.{IsTransactionError, Transacts}
 use Rattle.oftp_register.specs.declared.office.OfficeFault.{OfficeFault}
 use Rattle.oftp_register.specs.declared.office.OfficeFault.TheVariants.{Memory}
@@ -51,7 +51,7 @@ module _ {S : Type 0} (edits : List Edit) (g : Ghosts S) (old begin last end new
     (over : end.in_transaction ≡ false) where
   -- for an error that is returned as an error of the office
   given_up : (e : Error) (fault : OfficeFault) → Transacts {T = Unit {0}} IsOffice (Moves (MakesAll edits)) (state g old) (state g end) (Err e)
-      → (HasCleanDisk (state g end) → IsTransactionError g end e) → IsFailure fault → (fault ≡ Memory) ↔ ((e ≡ SqliteFailure OutOfMemory) ⊎ (e ≡ SqliteFailure NoRowid))
+      → (HasCleanDisk (state g end) → IsTransactionError g end e) → IsFailure fault → (fault ≡ Memory) ↔ (e ≡ SqliteFailure OutOfMemory)
       → MakesEdits edits g old new (Err fault)
   given_up e fault did told failure memory = subst (λ h. MakesEdits edits g old h (Err fault)) same (record {
     made = inl (record {
@@ -90,13 +90,13 @@ module _ {S : Type 0} (edits : List Edit) (g : Ghosts S) (old begin last end new
   pub edits_uncommitted : (e : Error) (fault : OfficeFault) → Performs {T = Unit {0}} (MakesAll edits) g begin last (Ok tt)
       → (HasCleanDisk (state g end) → FailsToCommit (state g last) (state g end) e)
       → Survives (state g last) (state g end) (λ db. db ≡ (state g last).now.trees) → IsFailure fault
-      → (fault ≡ Memory) ↔ ((e ≡ SqliteFailure OutOfMemory) ⊎ (e ≡ SqliteFailure NoRowid)) → MakesEdits edits g old new (Err fault)
+      → (fault ≡ Memory) ↔ (e ≡ SqliteFailure OutOfMemory) → MakesEdits edits g old new (Err fault)
   edits_uncommitted e fault made err survives = given_up e fault (ends (Err e) made (λ clean. tt) err survives) (λ clean. (last, inr (err clean)))
 
   -- an edit failed after others, and the transaction was rolled back
   pub edits_rolled_back : (before : Trees → Trees → Type 0) (edit : Edit) (mid : Held S) (e : Error) (fault : OfficeFault) → Performs {T = Unit {0}} before g begin mid (Ok tt)
       → Performs {T = Unit {0}} (Makes edit.no edit.deed) g mid last (Err e) → (HasCleanDisk (state g end) → IsRolledBack (state g last) (state g end))
-      → Survives (state g last) (state g end) (λ _. ⊥) → IsFailure fault → (fault ≡ Memory) ↔ ((e ≡ SqliteFailure OutOfMemory) ⊎ (e ≡ SqliteFailure NoRowid))
+      → Survives (state g last) (state g end) (λ _. ⊥) → IsFailure fault → (fault ≡ Memory) ↔ (e ≡ SqliteFailure OutOfMemory)
       → MakesEdits edits g old new (Err fault)
   edits_rolled_back before edit mid e fault made failed back survives =
       let both = performs_then g begin mid last before (Makes edit.no edit.deed) (λ a b. Unit {0}) tt (Err e) (λ a b c one two. tt) made failed in

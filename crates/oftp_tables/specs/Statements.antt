@@ -1,9 +1,9 @@
 -- What the statements do to a connection over the office's tables.
-use Rattle.std.specs.Prelude.{◌≡◌, ◌≢◌, ◌≤◌, ◌↔◌, ◌⊎◌, ℕ, Result, Ok, Err, OnOk, OnErr, IfErr, false}
+use Rattle.std.specs.Prelude.{◌≡◌, ◌≢◌, ◌≤◌, ◌↔◌, ℕ, Result, Ok, Err, OnOk, OnErr, IfErr, false}
 use Rattle.std.specs.List.{AllByRecursion}
 use Rattle.sqlite.specs.declared.error.Error.{Error}
 use Rattle.sqlite.specs.declared.error.Error.TheVariants.{SqliteFailure}
-use Rattle.sqlite.specs.declared.error.ErrorCode.TheVariants as code
+use Rattle.sqlite.specs.declared.error.ErrorCode.TheVariants.{OutOfMemory}
 use Rattle.sqlite.specs.Table.{Table}
 use Rattle.sqlite.specs.View.{doubt}
 use Rattle.sqlite.specs.Tree.{Trees}
@@ -53,5 +53,4 @@ pub record Looks {T : Type 0} (old new : State) (result : Result T OfficeFault) 
 
 -- the office's error for an error of which this holds
 abbrev pub IsFaultOf : (Error → Type 0) → OfficeFault → Type 0
-IsFaultOf Was fault =
-    (e : Error) × Was e × IsFailure fault × ((fault ≡ Memory) ↔ ((e ≡ SqliteFailure code.OutOfMemory) ⊎ (e ≡ SqliteFailure code.NoRowid)))
+IsFaultOf Was fault = (e : Error) × Was e × IsFailure fault × ((fault ≡ Memory) ↔ (e ≡ SqliteFailure OutOfMemory))

@@ -1,6 +1,6 @@
 //! Queries over the office's tables.
 
-ghost use Rattle.std.specs.Prelude.{◌≡◌, ◌↔◌, ◌⊎◌, ◌<◌, ◌^◌, pos, IfErr, IfOk};
+ghost use Rattle.std.specs.Prelude.{◌≡◌, ◌↔◌, ◌<◌, ◌^◌, pos, IfErr, IfOk};
 ghost use Rattle.sqlite.specs.Held.{state};
 ghost use Rattle.sqlite.specs.Given.{IsPlain};
 ghost use Rattle.sqlite.specs.Listing.{understood};
@@ -22,16 +22,13 @@ pub fn number(no: u64) -> i64
     no as i64
 }
 
-/// The office's error for an error of the store. It is [`OfficeFault::Memory`] where memory ran out or no rowid is left, and
-/// [`OfficeFault::Store`] for all others.
+/// The office's error for an error of the store: [`OfficeFault::Memory`] where memory ran out, and [`OfficeFault::Store`] for all others.
 pub fn office_fault_of(error: Error) -> OfficeFault
     ensures fails { IsFailure result }
-    ensures memory { (result ≡ OfficeFault.Memory) ↔ ((error ≡ Error.SqliteFailure ErrorCode.OutOfMemory) ⊎ (error ≡ Error.SqliteFailure ErrorCode.NoRowid)) }
+    ensures memory { (result ≡ OfficeFault.Memory) ↔ (error ≡ Error.SqliteFailure ErrorCode.OutOfMemory) }
 {
     match error {
-        Error::SqliteFailure(ErrorCode::OutOfMemory) | Error::SqliteFailure(ErrorCode::NoRowid) => {
-            OfficeFault::Memory
-        }
+        Error::SqliteFailure(ErrorCode::OutOfMemory) => OfficeFault::Memory,
         _ => OfficeFault::Store,
     }
 }

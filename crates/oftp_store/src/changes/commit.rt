@@ -16,7 +16,7 @@ use sqlite::{Alter, Connection};
 /// # Errors
 ///
 /// - [`OfficeFault::Refused`] with the first cause that applies. Only look-ups were made.
-/// - [`OfficeFault::Memory`]: out of memory, or SQLite has no rowid left for a row of a file.
+/// - [`OfficeFault::Memory`]: out of memory.
 /// - [`OfficeFault::Store`]: no number is left, or any other error of the database.
 ///
 /// After an error the register is unchanged if the connection is still open.
