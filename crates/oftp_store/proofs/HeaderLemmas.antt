@@ -73,7 +73,7 @@ out_header_read : IsRead out_header_text out_select
 unfolding understood everything
 out_header_read = record { is = refl; unlisted = refl; plain = (refl, refl) }
 
-out_back : (k : ℕ) (f : Outgoing) → HasRefusal f.state → outgoing_header_in (eval_all out_project ((number_value k ∷ []) ∷ out_file_row k f ∷ [])) ≡ outgoing_header_of f
+pub out_back : (k : ℕ) (f : Outgoing) → HasRefusal f.state → outgoing_header_in (eval_all out_project ((number_value k ∷ []) ∷ out_file_row k f ∷ [])) ≡ outgoing_header_of f
 out_back k f small =
     let file = (outgoing_header_of f).file in
     ap (λ x. let h : OutgoingHeader = record { file = x; mark = f.mark; state = out_state_in (out_state_text f.state) (refusal_text f.state) } in h) (file_back file)

@@ -20,7 +20,9 @@ mod ReceivedLemmas
 mod LookLemmas
 mod LoopLemmas
 mod PageLemmas
+mod ListPageLemmas
 mod IncomingPageLemmas
+mod OutgoingPageLemmas
 mod FormatLemmas
 mod OfficeLemmas
 mod OpenLemmas

@@ -1,67 +1,47 @@
 -- Lists of entries that grow by one, and what is found by number.
-use Rattle.std.proofs.Common.{◌≡◌, ◌==◌, ◌+◌, ◌<◌, ◌≤◌, ◌++◌, ◌^◌, nat_lt, ℕ, zero, suc, Bool, true, false, cond, if◌then◌else◌, List, [], ◌∷◌, length, take, find, slice_get, Option, Some, None, inl, inr, refl, sym, ap, subst, ◌∙◌, arith, take_all, append-nil}
+use Rattle.std.proofs.Common.{◌≡◌, ◌==◌, ◌+◌, ◌<◌, ◌≤◌, ◌++◌, ◌^◌, nat_lt, ℕ, suc, Bool, true, false, cond, if◌then◌else◌, List, [], ◌∷◌, length, map, take, find, get_or, Option, Some, None, inl, inr, refl, sym, ap, subst, ◌∙◌, arith}
 use Rattle.std.specs.List.{filter_map}
 use Rattle.std.specs.Option.{option_map}
-use Rattle.std.proofs.Math.Seq.{take-append_seam, take-append-add}
 use Rattle.std.proofs.lemmas.Bool.{cases_Bool}
 use Rattle.std.proofs.lemmas.Bool.Decides.{nat_tests}
+use Rattle.std.proofs.lemmas.List.{map_more}
+use Rattle.std.proofs.lemmas.List.Elements.{filter_map-append}
 use Rattle.oftp_register.specs.declared.entries.Cursor.{Cursor}
 use Rattle.oftp_register.specs.declared.entries.IssuedEntry.{IssuedEntry}
 use Rattle.oftp_register.specs.declared.entries.IssuedResponse.{IssuedResponse}
 use Rattle.oftp_register.specs.declared.entries.Item.TheVariants as item
 use Rattle.oftp_register.specs.declared.entries.OutgoingEntry.{OutgoingEntry}
 use Rattle.oftp_register.specs.Register.{Register, Incoming, Issued, Outgoing}
-use Rattle.oftp_register.specs.LookUps.{entry_at, is_next_file, is_next_response, issued_entry, issued_response, item_of, next_file, next_item, next_response, numbered, outgoing_entry}
+use Rattle.oftp_register.specs.LookUps.{is_next_file, is_next_response, issued_entry, issued_response, item_of, next_file, next_item, next_response, numbered, outgoing_entry}
 use Rattle.oftp_tables.proofs.SpotLemmas.{Spot, past, spot, there, zeroth}
 use Rattle.oftp_store.specs.Reads.{IsPlaced, IsResponseTo, IsToldOf, incoming_header_of}
 use Rattle.oftp_store.specs.Tells.{issued_by_no, listed}
 use Rattle.oftp_store.specs.declared.queries.header.IncomingHeader.{IncomingHeader}
-use Rattle.oftp_store.proofs.NumberLemmas.{entry_beyond, entry_known, entry_placed, entry_unknown}
 
--- the first entries, and one more
-first_more : {X : Type 0} (k : ℕ) (before : List X) (x : X) (after : List X) → k ≡ length before → take (k + 1) (before ++ x ∷ after) ≡ take k (before ++ x ∷ after) ++ x ∷ []
-first_more k before x after is =
-    ap (λ m. take (m + 1) (before ++ x ∷ after)) is ∙ take-append-add before (x ∷ after) 1
-    ∙ sym (ap (λ m. take m (before ++ x ∷ after) ++ x ∷ []) is ∙ ap (λ ys. ys ++ x ∷ []) (take-append_seam before (x ∷ after)))
-
-length_first : {X : Type 0} (k : ℕ) (before rest : List X) → k ≡ length before → length (take k (before ++ rest)) ≡ k
-length_first k before rest is = ap (λ m. length (take m (before ++ rest))) is ∙ ap length (take-append_seam before rest) ∙ sym is
-
--- ---- entries of which each has a number
-
-pub one_more : {E : Type 0} (k : ℕ) (es : List E) (e : E) → Some e ≡ slice_get es k → take (k + 1) es ≡ take k es ++ e ∷ []
-one_more k [] e found = absurd (let no_such = found in cc)
-one_more zero (x ∷ es) e found = let is : e ≡ x = cc in ap (λ y. y ∷ []) (sym is)
-one_more (suc k) (x ∷ es) e found = let next : suc k + 1 ≡ suc (k + 1) = omega arith in ap (λ m. take m (x ∷ es)) next ∙ ap (λ more. x ∷ more) (one_more k es e found)
+-- ---- all entries
 
 module _ {X E : Type 0} (entry : ℕ → X → E) where
   pub length-numbered : (n : ℕ) (xs : List X) → length (numbered entry n xs) ≡ length xs
   length-numbered n [] = refl
   length-numbered n (x ∷ xs) = ap suc (length-numbered (n + 1) xs)
 
-  numbered_at : (n k : ℕ) (xs : List X) → slice_get (numbered entry n xs) k ≡ option_map (entry (n + k)) (slice_get xs k)
-  numbered_at n k [] = refl
-  numbered_at n zero (x ∷ xs) = let here : n ≡ n + 0 = omega arith in ap (λ m. Some (entry m x)) here
-  numbered_at n (suc k) (x ∷ xs) = let here : (n + 1) + k ≡ n + suc k = omega arith in numbered_at (n + 1) k xs ∙ ap (λ m. option_map (entry m) (slice_get xs k)) here
+  -- each of them is listed
+  pub listed_all : (n : ℕ) (xs : List X) → filter_map (λ item. item) (numbered (λ n x. Some (entry n x)) n xs) ≡ numbered entry n xs
+  listed_all n [] = refl
+  listed_all n (x ∷ xs) = ap (λ es. entry n x ∷ es) (listed_all (n + 1) xs)
 
-  pub found_after : (number_of : E → ℕ) → ((n : ℕ) (x : X) → number_of (entry n x) ≡ n) → (k : ℕ) (xs : List X)
-      → find (λ e. number_of e == k + 1) (numbered entry 1 xs) ≡ slice_get (numbered entry 1 xs) k
-  found_after number_of same k xs = go (spot (k + 1) xs) ∙ ap (option_map (entry (k + 1))) by_place ∙ ap (λ m. option_map (entry m) (slice_get xs k)) next ∙ sym (numbered_at 1 k xs)
-    where
-      next : k + 1 ≡ 1 + k
-      next = omega arith
+one_listed : {E : Type 0} (o : Option E) → filter_map (λ item. item) (o ∷ []) ≡ listed o
+one_listed None = refl
+one_listed (Some e) = refl
 
-      by_place : entry_at (k + 1) xs ≡ slice_get xs k
-      by_place = let after : k + 1 ≡ suc k = omega arith in ap (λ m. entry_at m xs) after
-
-      go : Spot (k + 1) xs → find (λ e. number_of e == k + 1) (numbered entry 1 xs) ≡ option_map (entry (k + 1)) (entry_at (k + 1) xs)
-      go (zeroth is) = absurd (omega (arith, is))
-      go (past h) =
-          let none = entry_beyond (k + 1) xs h in
-          entry_unknown entry number_of same (k + 1) xs none ∙ ap (option_map (entry (k + 1))) (sym none)
-      go (there before x after here at) =
-          let placed : IsPlaced xs (k + 1) before x after = record { here = here; number = at } in
-          entry_known entry number_of same (k + 1) xs before x after placed ∙ ap (option_map (entry (k + 1))) (sym (entry_placed (k + 1) xs before x after placed))
+-- what one row more tells
+pub listed_more : {A E : Type 0} (told : A → Option E) (rows : List A) (at : ℕ) (row : A) (found : Option E) → at < length rows → get_or rows at row ≡ row → found ≡ told row
+    → filter_map (λ item. item) (map told (take at rows)) ++ listed found ≡ filter_map (λ item. item) (map told (take (at + 1) rows))
+listed_more told rows at row found short is found_is =
+    let before = map told (take at rows) in
+    ap (λ o. filter_map (λ item. item) before ++ listed o) found_is ∙ ap (λ es. filter_map (λ item. item) before ++ es) (sym (one_listed (told row)))
+    ∙ sym (filter_map-append (λ item. item) before (told row ∷ []))
+    ∙ sym (ap (filter_map (λ item. item)) (map_more told rows at row short ∙ ap (λ x. before ++ told x ∷ []) is))
 
 -- ---- issued responses; not every file has one
 
@@ -113,44 +93,6 @@ issued_there k n (b ∷ before) f after is =
 pub issued_known : (k : ℕ) (fs before : List Incoming) (f : Incoming) (after : List Incoming) → IsPlaced fs k before f after
     → find (λ (e : IssuedEntry). e.no == k) (issued_in_order 1 fs) ≡ issued_entry k f
 issued_known k fs before f after placed = ap (λ all. find (λ (e : IssuedEntry). e.no == k) (issued_in_order 1 all)) placed.here ∙ issued_there k 1 before f after placed.number
-
-issued_grows : (n : ℕ) (fs : List Incoming) (f : Incoming) → issued_in_order n (fs ++ f ∷ []) ≡ issued_in_order n fs ++ listed (issued_entry (n + length fs) f)
-issued_grows n [] f = go f.response
-  where
-    here : n ≡ n + 0
-    here = omega arith
-
-    go : (o : Option Issued) → filter_map (λ entry. entry) (option_map (entry_so n f) o ∷ []) ≡ listed (option_map (entry_so (n + 0) f) o)
-    go None = refl
-    go (Some x) = ap (λ m. entry_so m f x ∷ []) here
-issued_grows n (g ∷ fs) f = go g.response (issued_grows (n + 1) fs f ∙ ap (λ m. issued_in_order (n + 1) fs ++ listed (issued_entry m f)) here)
-  where
-    here : (n + 1) + length fs ≡ n + length (g ∷ fs)
-    here = omega arith
-
-    go : (o : Option Issued) → issued_in_order (n + 1) (fs ++ f ∷ []) ≡ issued_in_order (n + 1) fs ++ listed (issued_entry (n + length (g ∷ fs)) f)
-        → filter_map (λ entry. entry) (option_map (entry_so n g) o ∷ numbered issued_entry (n + 1) (fs ++ f ∷ []))
-        ≡ filter_map (λ entry. entry) (option_map (entry_so n g) o ∷ numbered issued_entry (n + 1) fs) ++ listed (issued_entry (n + length (g ∷ fs)) f)
-    go None later = later
-    go (Some x) later = ap (λ es. entry_so n g x ∷ es) later
-
-pub issued_more : (k : ℕ) (fs : List Incoming) (found : Option IssuedEntry) → found ≡ find (λ (e : IssuedEntry). e.no == k + 1) (issued_in_order 1 fs)
-    → issued_in_order 1 (take (k + 1) fs) ≡ issued_in_order 1 (take k fs) ++ listed found
-issued_more k fs found is = go (spot (k + 1) fs)
-  where
-    go : Spot (k + 1) fs → issued_in_order 1 (take (k + 1) fs) ≡ issued_in_order 1 (take k fs) ++ listed found
-    go (zeroth is) = absurd (omega (arith, is))
-    go (past h) =
-        let none : found ≡ None = is ∙ issued_past (k + 1) 1 fs (omega (arith, h)) in
-        let all : take (k + 1) fs ≡ fs = take_all (k + 1) fs (omega (arith, h)) in
-        let same : take k fs ≡ fs = take_all k fs (omega (arith, h)) in
-        ap (issued_in_order 1) (all ∙ sym same) ∙ sym (append-nil (issued_in_order 1 (take k fs))) ∙ ap (λ o. issued_in_order 1 (take k fs) ++ listed o) (sym none)
-    go (there before f after here at) =
-        let first : k ≡ length before = omega (arith, at) in
-        let known : found ≡ issued_entry (k + 1) f = is ∙ issued_known (k + 1) fs before f after (record { here = here; number = at }) in
-        let counted : 1 + length (take k fs) ≡ k + 1 = omega (arith, ap (λ ys. length (take k ys)) here ∙ length_first k before (f ∷ after) first) in
-        ap (λ ys. issued_in_order 1 (take (k + 1) ys)) here ∙ ap (issued_in_order 1) (first_more k before f after first) ∙ ap (λ ys. issued_in_order 1 (take k ys ++ f ∷ [])) (sym here)
-        ∙ issued_grows 1 (take k fs) f ∙ ap (λ m. issued_in_order 1 (take k fs) ++ listed (issued_entry m f)) counted ∙ ap (λ o. issued_in_order 1 (take k fs) ++ listed o) (sym known)
 
 -- the response that is wanted is the one with its number
 module _ (wanted : IssuedEntry → Bool) where

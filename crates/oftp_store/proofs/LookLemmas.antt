@@ -23,17 +23,19 @@ pub record IsLeft (r : Register) (s : State) : Type 0 where
   pub schema : s.now.schema ≡ office_schema
   pub tables : Tables r s.now.trees
 
--- so the first of two look-ups leaves the tables unchanged for the second
-pub left_by : {A B : Type 0} (r : Register) (old mid new : State) (x : A) (result : Result B OfficeFault) → Looks old mid (Ok x) → Looks mid new result
-    → HasCleanDisk new → old.now.schema ≡ office_schema → Tables r old.now.trees → IsLeft r mid
-left_by r old mid new x result one two clean has kept =
-    let early : HasCleanDisk mid = omega (arith, two.clean, clean) in
-    let same : IsUnchanged old mid = one.same early has in
+pub left_on : {A : Type 0} (r : Register) (old mid : State) (x : A) → Looks old mid (Ok x) → HasCleanDisk mid → old.now.schema ≡ office_schema → Tables r old.now.trees → IsLeft r mid
+left_on r old mid x looks clean has kept =
+    let same : IsUnchanged old mid = looks.same clean has in
     record {
-      clean = early;
+      clean = clean;
       schema = ap (λ (d : Database). d.schema) same.0.now_is ∙ has;
       tables = subst (λ (d : Database). Tables r d.trees) (sym same.0.now_is) kept;
     }
+
+-- so the first of two look-ups leaves the tables unchanged for the second
+pub left_by : {A B : Type 0} (r : Register) (old mid new : State) (x : A) (result : Result B OfficeFault) → Looks old mid (Ok x) → Looks mid new result
+    → HasCleanDisk new → old.now.schema ≡ office_schema → Tables r old.now.trees → IsLeft r mid
+left_by r old mid new x result one two clean has kept = left_on r old mid x one (omega (arith, two.clean, clean)) has kept
 
 -- what the second look-up returns is true of the tables as they were before both
 pub answers_after : {A B : Type 0} (First : Register → Type 0) (Second Both : Register → B → Type 0) (old mid new : State) (x : A) (result : Result B OfficeFault)

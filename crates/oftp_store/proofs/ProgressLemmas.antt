@@ -9,7 +9,7 @@ use Rattle.oftp_register.specs.LookUps.{entry_at, file_rows, in_by_no, incoming_
 use Rattle.oftp_register.specs.declared.entries.IncomingEntry.{IncomingEntry}
 use Rattle.oftp_register.specs.declared.entries.OutgoingEntry.{OutgoingEntry}
 use Rattle.oftp_tables.specs.Tables.{rows_in, rows_out}
-use Rattle.oftp_store.specs.Reads.{IsPlaced, IsResponseTo, IsToldOf, incoming_header_of, outgoing_header_of}
+use Rattle.oftp_store.specs.Reads.{IsPlaced, IsResponseTo, IsToldOf, incoming_header_of, outgoing_entry_of, outgoing_header_of}
 use Rattle.oftp_store.specs.FileProgress.{response_progress_of, dispatch_of, incoming_progress_of, outgoing_progress_of}
 use Rattle.oftp_store.specs.declared.queries.header.IncomingHeader.{IncomingHeader}
 use Rattle.oftp_store.specs.declared.queries.header.OutgoingHeader.{OutgoingHeader}
@@ -93,20 +93,7 @@ incoming_told r k count h response told counted answered =
     (answered_told (λ f o. incoming_as k (incoming_header_of f) (length f.rows) o) r k response _
     (counted_told rows_in incoming_header_of (λ h n. incoming_as k h n response) k count r.incoming h told counted) answered)
 
--- the entry of the outgoing file of which this was read
-abbrev outgoing_as : ℕ → OutgoingHeader → ℕ → OutgoingEntry
-outgoing_as k h rows = record {
-  no = k;
-  identity = h.file.identity;
-  format = h.file.format;
-  longest = h.file.longest;
-  description = h.file.description;
-  rows = rows;
-  mark = h.mark;
-  state = h.state;
-}
-
 pub outgoing_told : (r : Register) (k count : ℕ) (h : OutgoingHeader) → IsToldOf outgoing_header_of r.outgoing k (Some h) → count ≡ length (file_rows r side.Outgoing k)
-    → Some (outgoing_as k h count) ≡ out_by_no r k
+    → Some (outgoing_entry_of k h count) ≡ out_by_no r k
 outgoing_told r k count h told counted =
-    found_entry outgoing_entry (λ (e : OutgoingEntry). e.no) (λ n x. refl) k r.outgoing _ (counted_told rows_out outgoing_header_of (outgoing_as k) k count r.outgoing h told counted)
+    found_entry outgoing_entry (λ (e : OutgoingEntry). e.no) (λ n x. refl) k r.outgoing _ (counted_told rows_out outgoing_header_of (outgoing_entry_of k) k count r.outgoing h told counted)

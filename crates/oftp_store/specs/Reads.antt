@@ -7,13 +7,16 @@ use Rattle.sqlite.specs.Order.{Row, bytes, column}
 use Rattle.oftp_wire.specs.Octets.{number}
 use Rattle.oftp_vfile.specs.VirtualFile.{IsLongest}
 use Rattle.oftp_register.specs.declared.entry.OutgoingState.{OutgoingState}
-use Rattle.oftp_register.specs.declared.entry.ResponseKind.TheVariants.{NegativeEndResponse}
+use Rattle.oftp_register.specs.declared.entry.ResponseKind.{ResponseKind}
+use Rattle.oftp_register.specs.declared.entry.ResponseKind.TheVariants.{EndResponse, NegativeEndResponse}
 use Rattle.oftp_register.specs.declared.entries.IncomingEntry.{IncomingEntry}
+use Rattle.oftp_register.specs.declared.entries.IssuedEntry.{IssuedEntry}
 use Rattle.oftp_register.specs.declared.entries.IssuedResponse.{IssuedResponse}
+use Rattle.oftp_register.specs.declared.entries.OutgoingEntry.{OutgoingEntry}
 use Rattle.oftp_register.specs.declared.entries.ReceivedEntry.{ReceivedEntry}
 use Rattle.oftp_register.specs.declared.entries.Side.TheVariants as side
-use Rattle.oftp_register.specs.Register.{Register, Incoming, Outgoing, Received}
-use Rattle.oftp_register.specs.LookUps.{entry_at, file_rows, issued_response}
+use Rattle.oftp_register.specs.Register.{Register, Incoming, Outgoing}
+use Rattle.oftp_register.specs.LookUps.{entry_at, file_rows, issued_response, numbered}
 use Rattle.oftp_tables.specs.Tables.{dispatch_in, format_in, format_text, identity_in, identity_values, in_state_in, in_state_text, kind_in, kind_text, number_in, number_value, out_state_in, out_state_text, reason_text, refusal_text, sent_number}
 use Rattle.oftp_store.specs.declared.queries.header.FileHeader.{FileHeader}
 use Rattle.oftp_store.specs.declared.queries.header.IncomingHeader.{IncomingHeader}
@@ -114,28 +117,30 @@ received_header_in row = record { kind = kind_in (bytes (column row 0)); identit
 abbrev pub received_values : ReceivedHeader → Row
 received_values h = Text (kind_text h.kind) ∷ identity_values h.identity ++ Text (reason_text h.kind h.reason) ∷ []
 
-abbrev pub received_header_of : Received → ReceivedHeader
-received_header_of x = record { kind = x.kind; identity = x.identity; reason = x.reason }
-
+-- its texts, in two more columns
 abbrev pub received_note_in : Row → ReceivedNote
-received_note_in row = record { creator = bytes (column row 0); text = bytes (column row 1) }
+received_note_in row = record { creator = bytes (column row 7); text = bytes (column row 8) }
 
 -- the columns of its texts
 abbrev pub received_note_values : ReceivedNote → Row
 received_note_values m = Text m.creator ∷ Text m.text ∷ []
 
-abbrev pub received_note_of : Received → ReceivedNote
-received_note_of x = record { creator = x.creator; text = x.text }
-
--- the texts that were read are those of the response with a number, where it is a Negative End Response
-abbrev pub IsStoredNoteOf : Register → ℕ → Option ReceivedNote → Type 0
-IsStoredNoteOf r k found =
-    (before : List Received) (x : Received) (after : List Received) → IsPlaced r.received k before x after → x.kind ≡ NegativeEndResponse → found ≡ Some (received_note_of x)
-
 -- a received response as an office returns it
 abbrev pub received_entry_of : ℕ → ReceivedHeader → ReceivedNote → ReceivedEntry
 received_entry_of n header note =
     record { no = n; response = record { kind = header.kind; identity = header.identity; reason = header.reason; creator = note.creator; text = note.text } }
+
+-- the texts in a row of a page, for a response of a kind
+abbrev pub paged_note : ResponseKind → Row → ReceivedNote
+paged_note EndResponse row = record { creator = []; text = [] }
+paged_note NegativeEndResponse row = received_note_in row
+
+abbrev pub paged_received_number : Row → ℕ
+paged_received_number row = number_in (column row 9)
+
+-- the response in a row of a page
+abbrev pub paged_received : Row → ReceivedEntry
+paged_received row = let header = received_header_in row in received_entry_of (paged_received_number row) header (paged_note header.kind row)
 
 -- ---- the number of rows
 
@@ -143,6 +148,12 @@ received_entry_of n header note =
 abbrev pub TellsCount : Option Row → ℕ → Type 0
 TellsCount None count = count ≡ 0
 TellsCount (Some row) count = (at : ℕ) × (column row 0 ≡ number_value at) × (count ≡ at + 1)
+
+-- ---- entries that are listed
+
+-- the entries with their numbers, each of which is listed
+abbrev pub all_listed : {A B : Type 0} → (ℕ → A → B) → List A → List (Option B)
+all_listed entry = numbered (λ n x. Some (entry n x)) 1
 
 -- ---- a page of incoming files
 
@@ -178,3 +189,33 @@ paged_file row count =
 -- and with the rows that it has in a register
 abbrev pub paged_entry : Register → Row → IncomingEntry
 paged_entry r row = paged_file row (length (file_rows r side.Incoming (paged_number row)))
+
+-- the response in a row of a page, if there is one, with the number and the identity of its file
+abbrev pub paged_issued : Row → Option IssuedEntry
+paged_issued row = option_map (λ x. record { no = paged_number row; identity = (incoming_header_in row).file.identity; response = x }) (paged_response row)
+
+-- ---- a page of outgoing files
+
+-- an outgoing file as an office returns it
+abbrev pub outgoing_entry_of : ℕ → OutgoingHeader → ℕ → OutgoingEntry
+outgoing_entry_of n header count = record {
+  no = n;
+  identity = header.file.identity;
+  format = header.file.format;
+  longest = header.file.longest;
+  description = header.file.description;
+  rows = count;
+  mark = header.mark;
+  state = header.state;
+}
+
+abbrev pub paged_out_number : Row → ℕ
+paged_out_number row = number_in (column row 11)
+
+-- the file in a row of a page, with so many rows
+abbrev pub paged_out_file : Row → ℕ → OutgoingEntry
+paged_out_file row count = outgoing_entry_of (paged_out_number row) (outgoing_header_in row) count
+
+-- and with the rows that it has in a register
+abbrev pub paged_out_entry : Register → Row → OutgoingEntry
+paged_out_entry r row = paged_out_file row (length (file_rows r side.Outgoing (paged_out_number row)))

@@ -1,21 +1,25 @@
--- What look-ups return of the register that the tables represent, and the responses by number.
-use Rattle.std.specs.Prelude.{◌≡◌, ◌==◌, ℕ, false, List, [], ◌∷◌, Option, Some, None, Result, IfOk, find, slice_get}
+-- What look-ups return of the register that the tables represent, and the response by number.
+use Rattle.std.specs.Prelude.{◌≡◌, ◌==◌, ◌⊎◌, ℕ, false, List, [], ◌∷◌, map, take, drop, Option, Some, None, Result, IfOk, IfErr, find, slice_get}
 use Rattle.sqlite.specs.Order.{Row}
 use Rattle.sqlite.specs.Effect.{Database, Reads}
 use Rattle.sqlite.specs.Listing.{reads_listing, understood}
 use Rattle.sqlite.specs.State.{State, HasCleanDisk, Shown}
+use Rattle.sqlite.specs.Held.{Held, state}
+use Rattle.sqlite_trees.specs.declared.store.Store.{Ghosts}
 use Rattle.sqlite.proofs.Callers.{command_of}
 use Rattle.oftp_tables.specs.Schema.{office_schema}
 use Rattle.oftp_vfile.specs.declared.format.Limits.{Limits}
 use Rattle.oftp_register.specs.declared.office.OfficeFault.{OfficeFault}
 use Rattle.oftp_register.specs.declared.entries.IssuedEntry.{IssuedEntry}
-use Rattle.oftp_register.specs.declared.entries.ReceivedEntry.{ReceivedEntry}
+use Rattle.oftp_register.specs.Offices.{IsFailure}
 use Rattle.oftp_register.specs.Register.{Register}
 use Rattle.oftp_register.specs.Soundness.{IsSound}
-use Rattle.oftp_register.specs.LookUps.{list_issued, list_received}
+use Rattle.oftp_register.specs.LookUps.{list_issued}
+use Rattle.oftp_tables.specs.Statements.{Looks}
 use Rattle.oftp_tables.specs.Tables.{Tables, number_value}
 use Rattle.oftp_store.specs.Reads.{first_told}
 use Rattle.oftp_store.specs.Texts.{IsPlainText}
+use Rattle.oftp_store.specs.declared.queries.lists.TheConstants.{PAGE}
 
 -- after an `Ok`, this holds of the result and of the register that the tables represent
 abbrev pub TellsStored : {T : Type 0} → (Register → T → Type 0) → State → State → Result T OfficeFault → Type 0
@@ -42,13 +46,20 @@ pub record FindsByNumber {A : Type 0} (text : List ℕ) (read : Row → A) (IsFo
   pub finds : (db : Database) (n : ℕ) (rows : List Row) → Reads (command_of (understood office_schema text)) db (number_value n ∷ []) rows
       → (r : Register) → Tables r db.trees → IsFound r n (first_told read rows)
 
+-- The SQL of a page of a table is plain and doesn't list the schema. The rows of its result are read as the items behind a number.
+pub record FindsPages {A : Type 0} (text : List ℕ) (told : Register → Row → A) (items : Register → List A) : Type 0 where
+  pub plain : IsPlainText text
+  pub unlisted : reads_listing office_schema text ≡ false
+  pub finds : (db : Database) (behind : ℕ) (rows : List Row) → Reads (command_of (understood office_schema text)) db (number_value behind ∷ number_value PAGE ∷ []) rows
+      → (r : Register) → Tables r db.trees → IsSound r → map (told r) rows ≡ take PAGE (drop behind (items r))
+
+-- a step that looks up, or only reads what was returned before
+abbrev pub LooksAtMost : {S T : Type 0} → Ghosts S → Held S → Held S → Result T OfficeFault → Type 0
+LooksAtMost g old new result = ((new ≡ old) × IfErr result IsFailure) ⊎ Looks (state g old) (state g new) result
+
 -- the response to the incoming file with a number, if one was issued
 abbrev pub issued_by_no : Register → ℕ → Option IssuedEntry
 issued_by_no r n = find (λ (e : IssuedEntry). e.no == n) (list_issued r)
-
--- the received response with a number, if there is one
-abbrev pub received_by_no : Register → ℕ → Option ReceivedEntry
-received_by_no r n = find (λ (e : ReceivedEntry). e.no == n) (list_received r)
 
 -- the list of an entry, if there is one
 abbrev pub listed : {E : Type 0} → Option E → List E

@@ -60,6 +60,11 @@ in_page_text =
 abbrev pub out_header_text : List ℕ
 out_header_text = codes "SELECT dataset, date, time, originator, destination, format, longest, description, mark, state, reason FROM out_file WHERE no = ?1"
 
+-- a page of the outgoing files behind a number: the columns of the header, and the number
+abbrev pub out_page_text : List ℕ
+out_page_text =
+    codes "SELECT dataset, date, time, originator, destination, format, longest, description, mark, state, reason, no FROM out_file WHERE no > ?1 ORDER BY no LIMIT ?2"
+
 abbrev pub response_text : List ℕ
 response_text = codes "SELECT kind, reason, note, sent FROM issued WHERE no = ?1"
 
@@ -71,8 +76,8 @@ abbrev pub some_rows_text : Side → List ℕ
 some_rows_text side.Incoming = codes "SELECT body FROM in_row WHERE no = ?1 AND pos >= ?2 ORDER BY pos LIMIT ?3"
 some_rows_text side.Outgoing = codes "SELECT body FROM out_row WHERE no = ?1 AND pos >= ?2 ORDER BY pos LIMIT ?3"
 
-abbrev pub received_text : List ℕ
-received_text = codes "SELECT kind, dataset, date, time, originator, destination, reason FROM received WHERE no = ?1"
-
-abbrev pub received_note_text : List ℕ
-received_note_text = codes "SELECT creator, note FROM received_note WHERE no = ?1"
+-- a page of the received responses behind a number, each with its texts: the columns of the response, of the texts, and the number
+abbrev pub received_page_text : List ℕ
+received_page_text =
+    codes "SELECT kind, dataset, date, time, originator, destination, reason, creator, note, received.no "
+    ++ codes "FROM received LEFT JOIN received_note ON received_note.no = received.no WHERE received.no > ?1 ORDER BY received.no LIMIT ?2"

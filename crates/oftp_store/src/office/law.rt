@@ -11,8 +11,7 @@ use crate::changes::commit::commit_change;
 use crate::changes::means::Means;
 use crate::numbers::FIRST_FAR;
 use crate::queries::{
-    file_by_identity, file_by_number, identity, incoming_list, last_number, lists, next_item, rows,
-    units,
+    file_by_identity, file_by_number, identity, last_number, lists, next_item, rows, units,
 };
 use oftp_register::{
     Change, Cursor, Identity, IncomingEntry, IssuedEntry, Item, Name, Office, OfficeFault,
@@ -123,7 +122,7 @@ impl<S: Alter> Office for SqlOffice<S> {
     }
 
     fn list_in(&mut self) -> Result<Vec<IncomingEntry>, OfficeFault> {
-        let entries = incoming_list::list_in(self.alloc, &mut self.conn);
+        let entries = lists::list(self.alloc, &mut self.conn);
         counted(&mut self.faults, entries)
     }
 
@@ -133,7 +132,7 @@ impl<S: Alter> Office for SqlOffice<S> {
     }
 
     fn list_issued(&mut self) -> Result<Vec<IssuedEntry>, OfficeFault> {
-        let entries = lists::list_issued(self.alloc, &mut self.conn);
+        let entries = lists::list(self.alloc, &mut self.conn);
         counted(&mut self.faults, entries)
     }
 

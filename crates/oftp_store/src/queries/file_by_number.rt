@@ -1,9 +1,11 @@
 //! Entries of files, by number.
 
-ghost use Rattle.std.specs.Prelude.{◌≡◌, ◌<◌, ◌^◌, IfOk, IfSome};
+ghost use Rattle.std.specs.Prelude.{◌≡◌, ◌≤◌, ◌<◌, ◌^◌, IfOk, IfSome, IfErr};
 ghost use Rattle.sqlite.specs.Held.{state};
 ghost use Rattle.oftp_register.specs.LookUps.{IsIncomingWithin, IsOutgoingWithin, in_by_no, out_by_no};
+ghost use Rattle.oftp_register.specs.Offices.{IsFailure};
 ghost use Rattle.oftp_tables.specs.Statements.{Looks};
+ghost use Rattle.oftp_store.specs.Reads.{outgoing_entry_of};
 ghost use Rattle.oftp_store.specs.Tells.{Tells, TellsStored};
 
 use super::by_number::find;
@@ -42,6 +44,32 @@ pub(crate) fn find_incoming_file<S: Alter>(
     }))
 }
 
+/// The outgoing file with a number, a header and so many rows. A mark that exceeds them is an error of the store.
+pub(super) fn outgoing_of(
+    no: u64,
+    header: OutgoingHeader,
+    rows: u32,
+) -> Result<OutgoingEntry, OfficeFault>
+    ensures made { IfOk result (λ entry. entry ≡ outgoing_entry_of no header rows) }
+    ensures mark { IfOk result (λ entry. entry.mark ≤ entry.rows) }
+    ensures fails { IfErr result IsFailure }
+{
+    if header.mark > rows {
+        return Err(OfficeFault::Store);
+    }
+    let file = header.file;
+    Ok(OutgoingEntry {
+        no,
+        identity: file.identity,
+        format: file.format,
+        longest: file.longest,
+        description: file.description,
+        rows: u64::from(rows),
+        mark: u64::from(header.mark),
+        state: header.state,
+    })
+}
+
 /// The outgoing file with a number. A mark that exceeds its rows is an error of the store.
 pub(crate) fn find_outgoing_file<S: Alter>(
     alloc: Global,
@@ -57,18 +85,6 @@ pub(crate) fn find_outgoing_file<S: Alter>(
         return Ok(None);
     };
     let rows = count_rows(conn, Side::Outgoing, no)?;
-    if header.mark > rows {
-        return Err(OfficeFault::Store);
-    }
-    let file = header.file;
-    Ok(Some(OutgoingEntry {
-        no,
-        identity: file.identity,
-        format: file.format,
-        longest: file.longest,
-        description: file.description,
-        rows: u64::from(rows),
-        mark: u64::from(header.mark),
-        state: header.state,
-    }))
+    let entry = outgoing_of(no, header, rows)?;
+    Ok(Some(entry))
 }

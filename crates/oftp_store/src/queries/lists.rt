@@ -1,92 +1,81 @@
-//! Lists of all outgoing files and of all responses, in order of their numbers. Each entry is read by a query of its own.
+//! Lists of all entries of a kind, which are read by pages of their table.
 
-ghost use Rattle.std.specs.Prelude.{◌≡◌, ◌+◌, ◌<◌, ◌^◌, ◌++◌, List, length, slice_get, OnOk, IfErr};
+ghost use Rattle.std.specs.Prelude.{◌≡◌, ◌+◌, ◌<◌, ◌^◌, ◌++◌, ℕ, List, Option, length, map, take, drop, IfErr, IfOk, OnOk};
+ghost use Rattle.std.specs.List.{filter_map};
+ghost use Rattle.sqlite.specs.declared.types.Value.{Value};
+ghost use Rattle.sqlite.specs.Order.{column};
 ghost use Rattle.sqlite.specs.Held.{state};
 ghost use Rattle.oftp_register.specs.Register.{Register};
-ghost use Rattle.oftp_register.specs.LookUps.{list_issued, list_out, list_received};
 ghost use Rattle.oftp_register.specs.Offices.{IsFailure};
 ghost use Rattle.oftp_tables.specs.Statements.{Looks};
+ghost use Rattle.oftp_tables.specs.Tables.{number_in};
 ghost use Rattle.oftp_store.specs.Numbers.{entries_in};
-ghost use Rattle.oftp_store.specs.Tells.{Tells, listed};
+ghost use Rattle.oftp_store.specs.Tells.{FindsPages, LooksAtMost, Tells, listed};
+ghost use Rattle.oftp_store.specs.declared.queries.lists.TheConstants.{PAGE};
 
-use super::file_by_number::find_outgoing_file;
-use super::issued::find_issued;
 use super::last_number::{Table, last_number};
-use super::received::find_received;
-use oftp_register::{IssuedEntry, OfficeFault, OutgoingEntry, ReceivedEntry};
-use sqlite::{Alter, Connection};
+use crate::numbers::FIRST_FAR;
+use oftp_register::OfficeFault;
+use oftp_tables::{ask, no_at, number};
+use sqlite::{Alter, Connection, Row, params};
 use std::alloc::Global;
 
-/// A kind of entry, numbered from 1 on without gaps.
+/// How many entries are asked for at a time.
+pub(crate) const PAGE: u64 = 128;
+
+/// A kind of entry, listed from a table whose entries are numbered from 1 on without gaps. An entry of the table may have none.
 pub(crate) trait Listed: Sized {
+    // what each entry of the table has
+    ghost items: { Register → List (Option Self) };
+
+    // all entries of this kind
     ghost entries: { Register → List Self };
 
-    /// The table with one row for each entry.
+    // what a row of a page is read as, with the rows that its file has in a register
+    ghost told: { Register → List Value → Option Self };
+
+    /// The column of a page that has the number of the entry.
+    const NUMBER: usize;
+
+    ghost NUMBER: { ℕ };
+
+    /// The table.
     fn table() -> Table
-        ensures { (r : Register) → entries_in r result ≡ length (entries r) };
+        ensures count { (r : Register) → entries_in r result ≡ length (items r) }
+        ensures entries { (r : Register) → filter_map (λ item. item) (items r) ≡ entries r };
 
-    /// The entry after the first `before` ones, if there is one.
-    fn find_after<S: Alter>(
+    /// The SQL that selects a page of the table behind a number, with a row for each entry.
+    fn page_text() -> &'static str
+        ensures { FindsPages result.now told items };
+
+    /// Reads a row of a page, of the entry with a number. A row that no entry could have is an error of the store.
+    fn from_page<S: Alter>(
         alloc: Global,
         conn: &mut Connection<S>,
-        before: u64,
+        row: &Row,
+        no: u64,
     ) -> Result<Option<Self>, OfficeFault>
-        requires { before + 1 < 2 ^ 63 }
-        ensures looks { Looks (state S.Store conn.old) (state S.Store conn.new) result }
-        ensures answer { Tells (λ r found. found ≡ slice_get (entries r) before) (state S.Store conn.old) (state S.Store conn.new) result };
+        requires { no < 2 ^ 63 }
+        ensures looks { LooksAtMost S.Store conn.old conn.new result }
+        ensures answer { Tells (λ r found. no ≡ number_in (column row.now NUMBER) → found ≡ told r row.now) (state S.Store conn.old) (state S.Store conn.new) result };
 }
 
-impl Listed for OutgoingEntry {
-    ghost entries = { list_out };
-
-    fn table() -> Table {
-        Table::OutgoingFiles
-    }
-
-    fn find_after<S: Alter>(
-        alloc: Global,
-        conn: &mut Connection<S>,
-        before: u64,
-    ) -> Result<Option<OutgoingEntry>, OfficeFault> {
-        find_outgoing_file(alloc, conn, before + 1)
-    }
-}
-
-impl Listed for ReceivedEntry {
-    ghost entries = { list_received };
-
-    fn table() -> Table {
-        Table::ReceivedResponses
-    }
-
-    fn find_after<S: Alter>(
-        alloc: Global,
-        conn: &mut Connection<S>,
-        before: u64,
-    ) -> Result<Option<ReceivedEntry>, OfficeFault> {
-        find_received(alloc, conn, before + 1)
-    }
-}
-
-/// All entries of a kind.
-pub(crate) fn list<E: Listed + Drop, S: Alter>(
-    alloc: Global,
-    conn: &mut Connection<S>,
-) -> Result<Vec<E>, OfficeFault>
-    ensures looks { Looks (state S.Store conn.old) (state S.Store conn.new) result }
-    ensures answer { Tells (λ r entries. entries.items ≡ E.entries r) (state S.Store conn.old) (state S.Store conn.new) result }
+// The number in a column of a row, which is the one after `last`. Entries are numbered without gaps, so any other is an error of the
+// store.
+fn next_no(row: &Row, at: usize, last: u64) -> Result<u64, OfficeFault>
+    ensures told { IfOk result (λ no. no ≡ number_in (column row.now at)) }
+    ensures next { IfOk result (λ no. no ≡ last + 1) }
+    ensures small { IfOk result (λ no. no < 2 ^ 63) }
+    ensures fails { IfErr result IsFailure }
 {
-    let last = last_number(conn, E::table())?;
-    let mut entries = Vec::new(alloc);
-    'entries: for before in 0..last {
-        let entry = E::find_after(alloc, conn, before)?.ok_or(OfficeFault::Store)?;
-        entries.push(entry)?;
+    match no_at(row, at) {
+        Some(no) if no < FIRST_FAR && no > last && no - last == 1 => Ok(no),
+        _ => Err(OfficeFault::Store),
     }
-    Ok(entries)
 }
 
 // Appends an entry, if there is one.
-fn add_if_any(entries: &mut Vec<IssuedEntry>, found: Option<IssuedEntry>) -> Result<(), OfficeFault>
+fn add_if_any<E: Drop>(entries: &mut Vec<E>, found: Option<E>) -> Result<(), OfficeFault>
     ensures added { OnOk result (entries.new.items ≡ entries.old.items ++ listed found) }
     ensures fails { IfErr result IsFailure }
 {
@@ -96,19 +85,52 @@ fn add_if_any(entries: &mut Vec<IssuedEntry>, found: Option<IssuedEntry>) -> Res
     Ok(())
 }
 
-/// All issued responses.
-pub(crate) fn list_issued<S: Alter>(
+// A page of the table behind a number, with a row for each entry.
+fn find_page<E: Listed, S: Alter>(
+    conn: &mut Connection<S>,
+    behind: u64,
+) -> Result<Vec<Row>, OfficeFault>
+    requires { behind < 2 ^ 63 }
+    ensures looks { Looks (state S.Store conn.old) (state S.Store conn.new) result }
+    ensures answer { Tells (λ r rows. map (E.told r) rows.items ≡ take PAGE (drop behind (E.items r))) (state S.Store conn.old) (state S.Store conn.new) result }
+{
+    ask(conn, E::page_text(), params![number(behind), number(PAGE)])
+}
+
+// Appends the entries of a page behind a number.
+fn add_page<E: Listed + Drop, S: Alter>(
     alloc: Global,
     conn: &mut Connection<S>,
-) -> Result<Vec<IssuedEntry>, OfficeFault>
+    behind: u64,
+    entries: &mut Vec<E>,
+) -> Result<(), OfficeFault>
+    requires { behind < 2 ^ 63 }
     ensures looks { Looks (state S.Store conn.old) (state S.Store conn.new) result }
-    ensures answer { Tells (λ r entries. entries.items ≡ list_issued r) (state S.Store conn.old) (state S.Store conn.new) result }
+    ensures answer { Tells (λ r _. entries.new.items ≡ entries.old.items ++ filter_map (λ item. item) (take PAGE (drop behind (E.items r)))) (state S.Store conn.old) (state S.Store conn.new) result }
 {
-    let last = last_number(conn, Table::IncomingFiles)?;
+    let rows = find_page::<E, S>(conn, behind)?;
+    let mut last = behind;
+    'rows: for row in rows.as_slice() {
+        let no = next_no(row, E::NUMBER, last)?;
+        let found = E::from_page(alloc, conn, row, no)?;
+        add_if_any(entries, found)?;
+        last = no;
+    }
+    Ok(())
+}
+
+/// All entries of a kind, in order of number.
+pub(crate) fn list<E: Listed + Drop, S: Alter>(
+    alloc: Global,
+    conn: &mut Connection<S>,
+) -> Result<Vec<E>, OfficeFault>
+    ensures looks { Looks (state S.Store conn.old) (state S.Store conn.new) result }
+    ensures answer { Tells (λ r entries. entries.items ≡ E.entries r) (state S.Store conn.old) (state S.Store conn.new) result }
+{
+    let last = last_number(conn, E::table())?;
     let mut entries = Vec::new(alloc);
-    'files: for before in 0..last {
-        let found = find_issued(alloc, conn, before + 1)?;
-        add_if_any(&mut entries, found)?;
+    'pages: for page in 0..last / PAGE + 1 {
+        add_page(alloc, conn, page * PAGE, &mut entries)?;
     }
     Ok(entries)
 }

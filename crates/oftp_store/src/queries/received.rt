@@ -1,14 +1,13 @@
-//! The received responses, by number.
+//! The received responses, as a page lists them.
 
-ghost use Rattle.std.specs.Prelude.{◌≡◌, ◌<◌, ◌^◌, [], ⊤, IfOk, IfErr};
-ghost use Rattle.sqlite.specs.Held.{state};
-ghost use Rattle.oftp_register.specs.Soundness.{IsSound};
+ghost use Rattle.std.specs.Prelude.{◌≡◌, [], Some, IfOk, IfErr};
+ghost use Rattle.oftp_register.specs.LookUps.{list_received, received_entry};
 ghost use Rattle.oftp_register.specs.Offices.{IsFailure};
-ghost use Rattle.oftp_tables.specs.Statements.{Looks};
-ghost use Rattle.oftp_store.specs.Reads.{IsStoredNoteOf, IsToldOf, received_entry_of, received_header_in, received_header_of, received_values, received_note_in, received_note_values};
-ghost use Rattle.oftp_store.specs.Tells.{Tells, received_by_no};
+ghost use Rattle.oftp_tables.specs.Tables.{TellsValues};
+ghost use Rattle.oftp_store.specs.Reads.{all_listed, paged_note, paged_received, paged_received_number, received_entry_of, received_header_in, received_note_in, received_note_values, received_values};
 
-use super::by_number::{ByNumber, find};
+use super::last_number::Table;
+use super::lists::Listed;
 use oftp_register::{
     Identity, Name, Note, OfficeFault, ReceivedEntry, ReceivedResponse, ResponseKind,
 };
@@ -32,50 +31,31 @@ pub(crate) struct ReceivedNote {
     pub text: Note,
 }
 
-impl ByNumber for ReceivedHeader {
-    ghost told = { received_header_in };
-
-    ghost values = { received_values };
-
-    ghost is_within = { λ _. ⊤ };
-
-    ghost is_found = { λ r no found. IsSound r → IsToldOf received_header_of r.received no found };
-
-    fn query() -> &'static str {
-        "SELECT kind, dataset, date, time, originator, destination, reason FROM received WHERE no = ?1"
-    }
-
-    fn from_row(_alloc: Global, row: &Row) -> Result<ReceivedHeader, OfficeFault> {
-        let kind = kind_at(row, 0).ok_or(OfficeFault::Store)?;
-        let identity = identity_at(row, 1).ok_or(OfficeFault::Store)?;
-        let reason = reason_at(row, 6, kind).ok_or(OfficeFault::Store)?;
-        Ok(ReceivedHeader {
-            kind,
-            identity,
-            reason,
-        })
-    }
+// Reads a response without its texts from a row of a page. Values that no response could have are an error of the store.
+fn header_in(row: &Row) -> Result<ReceivedHeader, OfficeFault>
+    ensures told { IfOk result (λ header. header ≡ received_header_in row.now) }
+    ensures fits { IfOk result (λ header. TellsValues (received_values header) 0 row.now) }
+    ensures fails { IfErr result IsFailure }
+{
+    let kind = kind_at(row, 0).ok_or(OfficeFault::Store)?;
+    let identity = identity_at(row, 1).ok_or(OfficeFault::Store)?;
+    let reason = reason_at(row, 6, kind).ok_or(OfficeFault::Store)?;
+    Ok(ReceivedHeader {
+        kind,
+        identity,
+        reason,
+    })
 }
 
-// The texts of a Negative End Response. An End-to-End Response has none.
-impl ByNumber for ReceivedNote {
-    ghost told = { received_note_in };
-
-    ghost values = { received_note_values };
-
-    ghost is_within = { λ _. ⊤ };
-
-    ghost is_found = { IsStoredNoteOf };
-
-    fn query() -> &'static str {
-        "SELECT creator, note FROM received_note WHERE no = ?1"
-    }
-
-    fn from_row(alloc: Global, row: &Row) -> Result<ReceivedNote, OfficeFault> {
-        let creator = name_at(row, 0).ok_or(OfficeFault::Store)?;
-        let text = text_at(alloc, row, 1)?;
-        Ok(ReceivedNote { creator, text })
-    }
+// Reads the texts of a Negative End Response from a row of a page. One without texts is an error of the store.
+fn note_in(alloc: Global, row: &Row) -> Result<ReceivedNote, OfficeFault>
+    ensures told { IfOk result (λ note. note ≡ received_note_in row.now) }
+    ensures fits { IfOk result (λ note. TellsValues (received_note_values note) 7 row.now) }
+    ensures fails { IfErr result IsFailure }
+{
+    let creator = name_at(row, 7).ok_or(OfficeFault::Store)?;
+    let text = text_at(alloc, row, 8)?;
+    Ok(ReceivedNote { creator, text })
 }
 
 // The texts of an End-to-End Response, which are empty.
@@ -90,6 +70,17 @@ fn empty_note(alloc: Global) -> Result<ReceivedNote, OfficeFault>
         creator: Name::of(&creator),
         text: Note::of(alloc, &text)?,
     })
+}
+
+// The texts in a row of a page, for a response of a kind.
+fn texts_in(alloc: Global, row: &Row, kind: ResponseKind) -> Result<ReceivedNote, OfficeFault>
+    ensures told { IfOk result (λ note. note ≡ paged_note kind row.now) }
+    ensures fails { IfErr result IsFailure }
+{
+    match kind {
+        ResponseKind::EndResponse => empty_note(alloc),
+        ResponseKind::NegativeEndResponse => note_in(alloc, row),
+    }
 }
 
 // The entry of a received response.
@@ -108,27 +99,42 @@ fn entry_of(no: u64, header: ReceivedHeader, note: ReceivedNote) -> ReceivedEntr
     }
 }
 
-/// The received response with a number. A Negative End Response without its texts is an error of the store.
-pub(crate) fn find_received<S: Alter>(
-    alloc: Global,
-    conn: &mut Connection<S>,
-    no: u64,
-) -> Result<Option<ReceivedEntry>, OfficeFault>
-    requires { no < 2 ^ 63 }
-    ensures looks { Looks (state S.Store conn.old) (state S.Store conn.new) result }
-    ensures answer { Tells (λ r found. found ≡ received_by_no r no) (state S.Store conn.old) (state S.Store conn.new) result }
+// The response in a row of a page, with its number.
+fn received_in(alloc: Global, row: &Row, no: u64) -> Result<Option<ReceivedEntry>, OfficeFault>
+    ensures told { IfOk result (λ found. no ≡ paged_received_number row.now → found ≡ Some (paged_received row.now)) }
+    ensures fails { IfErr result IsFailure }
 {
-    let Some(header) = find::<ReceivedHeader, S>(alloc, conn, no)? else {
-        return Ok(None);
-    };
-    match header.kind {
-        ResponseKind::EndResponse => {
-            let note = empty_note(alloc)?;
-            Ok(Some(entry_of(no, header, note)))
-        }
-        ResponseKind::NegativeEndResponse => {
-            let note = find::<ReceivedNote, S>(alloc, conn, no)?.ok_or(OfficeFault::Store)?;
-            Ok(Some(entry_of(no, header, note)))
-        }
+    let header = header_in(row)?;
+    let note = texts_in(alloc, row, header.kind)?;
+    Ok(Some(entry_of(no, header, note)))
+}
+
+impl Listed for ReceivedEntry {
+    ghost items = { λ r. all_listed received_entry r.received };
+
+    ghost entries = { list_received };
+
+    ghost told = { λ r row. Some (paged_received row) };
+
+    const NUMBER: usize = 9;
+
+    ghost NUMBER = { 9 };
+
+    fn table() -> Table {
+        Table::ReceivedResponses
+    }
+
+    fn page_text() -> &'static str {
+        "SELECT kind, dataset, date, time, originator, destination, reason, creator, note, received.no \
+            FROM received LEFT JOIN received_note ON received_note.no = received.no WHERE received.no > ?1 ORDER BY received.no LIMIT ?2"
+    }
+
+    fn from_page<S: Alter>(
+        alloc: Global,
+        _conn: &mut Connection<S>,
+        row: &Row,
+        no: u64,
+    ) -> Result<Option<ReceivedEntry>, OfficeFault> {
+        received_in(alloc, row, no)
     }
 }

@@ -1,25 +1,31 @@
-use Rattle.std.proofs.Common.{◌≡◌, ◌∙◌, ◌++◌, [], ◌∷◌, ap, sym, arith, slice_get, take_all}
+use Rattle.std.proofs.Common.{◌≡◌, ◌∙◌, ◌+◌, ◌*◌, ◌/◌, ◌≤◌, ◌++◌, take, drop, ap, sym, arith, take_all}
+use Rattle.std.specs.List.{filter_map}
+use Rattle.std.proofs.Math.Seq.{take-add}
 use Rattle.std.proofs.lemmas.Bool.Decides.{nat_tests}
-use Rattle.oftp_store.proofs.ListLemmas.{one_more}
+use Rattle.std.proofs.lemmas.List.Elements.{filter_map-append}
 use Rattle.oftp_store.proofs.LoopLemmas.{begins_known, goes_on_known}
 use Rattle.oftp_store.proofs.queries.lists.list.Goals as goal
 
-pub entries-init : goal.entries-init
-entries-init g c =
-    begins_known _ _ _ c.in_ok-last.last c.in_ok-last.ensures.looks (λ k has r kept. (c.in_ok-last.ensures.answer k has r kept ∙ c.table.ensures r, c.new-entries.ensures.items))
+pub pages-init : goal.pages-init
+pages-init g c =
+    begins_known _ _ _ c.in_ok-last.last c.in_ok-last.ensures.looks (λ k has r kept. (c.in_ok-last.ensures.answer k has r kept ∙ c.table.ensures.count r, c.new-entries.ensures.items))
 
-pub entries-preserved : goal.entries-preserved
-entries-preserved g c =
-    let entries = g.E.Listed.entries in
-    goes_on_known _ _ (λ r found. found ≡ slice_get (entries r) c.entries.before) _ _ _ c.in_ok-find_after.field-0 c.entries.invariant c.in_ok-find_after.ensures.looks
-    c.in_ok-find_after.ensures.answer
+pub pages-preserved : goal.pages-preserved
+pages-preserved g c =
+    let items = g.E.Listed.items in
+    let behind = c.pages.page * 128 in
+    let more : (c.pages.page + 1) * 128 ≡ c.pages.page * 128 + 128 = omega arith in
+    goes_on_known _ _ (λ r _. c.add_page.new.entries.items ≡ c.pages.entries.items ++ filter_map (λ item. item) (take 128 (drop behind (items r)))) _ _ _ _ c.pages.invariant
+    c.in_ok-add_page.ensures.looks c.in_ok-add_page.ensures.answer
     (λ r kept sound known said. (
       known.0,
-      c.in_ok-push.ensures.items ∙ ap (λ es. es ++ c.in_ok-entry.entry ∷ []) known.1
-          ∙ sym (one_more c.entries.before (entries r) c.in_ok-entry.entry (sym c.in_ok-entry.ensures.ok_part ∙ said)),
+      said ∙ ap (λ es. es ++ filter_map (λ item. item) (take 128 (drop behind (items r)))) known.1
+          ∙ sym (ap (λ m. filter_map (λ item. item) (take m (items r))) more ∙ ap (filter_map (λ item. item)) (take-add behind 128 (items r))
+          ∙ filter_map-append (λ item. item) (take behind (items r)) (take 128 (drop behind (items r)))),
     ))
 
 pub returns-clause-answer : goal.returns-clause-answer
 returns-clause-answer g c clean has r kept sound =
-    let known = c.entries.invariant.known clean has r kept sound in
-    known.1 ∙ take_all c.entries.before (g.E.Listed.entries r) (grind (arith, nat_tests, known.0, c.entries-test.false))
+    let known = c.pages.invariant.known clean has r kept sound in
+    let last : c.in_ok-last.last / 128 + 1 ≤ c.pages.page = grind (arith, nat_tests, c.pages-test.false) in
+    known.1 ∙ ap (filter_map (λ item. item)) (take_all (c.pages.page * 128) (g.E.Listed.items r) (omega (arith, known.0, last))) ∙ c.table.ensures.entries r

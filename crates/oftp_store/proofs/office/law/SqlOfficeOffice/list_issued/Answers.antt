@@ -6,6 +6,6 @@ use Rattle.oftp_store.proofs.office.law.SqlOfficeOffice.list_issued.Goals as goa
 pub returns : goal.returns
 returns g c =
     record {
-      looks = rw c.counted.ensures.same (looks_up (λ r entries. entries.items ≡ list_issued r) _ _ _ _ _ c.list_issued-entries.result
-          (settled_alone g.S.Store g.met.S.Store.settled _ c.args.self.now.conn) c.list_issued-entries.ensures.looks c.list_issued-entries.ensures.answer c.counted.ensures.counts);
+      looks = rw c.counted.ensures.same (looks_up (λ r entries. entries.items ≡ list_issued r) _ _ _ _ _ c.list-entries.result
+          (settled_alone g.S.Store g.met.S.Store.settled _ c.args.self.now.conn) c.list-entries.ensures.looks c.list-entries.ensures.answer c.counted.ensures.counts);
     }

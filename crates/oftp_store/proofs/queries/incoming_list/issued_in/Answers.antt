@@ -1,0 +1,9 @@
+use Rattle.oftp_store.proofs.IncomingPageLemmas.{issued_told, none_issued}
+use Rattle.oftp_store.proofs.queries.incoming_list.issued_in.Goals as goal
+
+pub returns-in_default-clause-told : goal.returns-in_default-clause-told
+returns-in_default-clause-told c no_is = none_issued c.args.row.now (rw c.in_default.is at c.in_ok-response.ensures.told)
+
+pub returns-clause-told : goal.returns-clause-told
+returns-clause-told c no_is =
+    issued_told c.args.row.now c.args.no c.in_ok-header.header c.in-Some.response c.in_ok-header.ensures.told (rw c.in-Some.is at c.in_ok-response.ensures.told) no_is

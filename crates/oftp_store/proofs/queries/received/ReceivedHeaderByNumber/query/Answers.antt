@@ -1,5 +1,0 @@
-use Rattle.oftp_store.proofs.ReceivedLemmas.{finds_received}
-use Rattle.oftp_store.proofs.queries.received.ReceivedHeaderByNumber.query.Goals as goal
-
-pub returns : goal.returns
-returns c = finds_received
