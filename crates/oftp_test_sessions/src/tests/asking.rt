@@ -124,7 +124,7 @@ fn take(
     Ok(())
 }
 
-/// However many files a session receives, the next item is looked up once, both if no response is due and if one is.
+/// However many files a session receives, the next response is looked for once, both if no response is due and if one is.
 #[test]
 fn next_looked_up_once(rt: HostRuntime) -> Result<(), Fail> {
     let mut office = Noting::new(rt.alloc(), None);
@@ -142,5 +142,38 @@ fn next_looked_up_once(rt: HostRuntime) -> Result<(), Fail> {
     assert!(rt; told == Ok(Told::Done));
     take(rt.alloc(), &rt, &mut office, b"456", TAKEN_AND_ASKED)?;
     assert_eq!(rt; office.next, 2);
+    Ok(())
+}
+
+/// The partner's SSRM and its SSID.
+const ANSWERED: &[u8] =
+    b"\x10\0\0\x17IODETTE FTP READY \r\x10\0\0\x41X5O0177CARMAKER            CARPW   00128BNYN002N            \r";
+
+/// However many files a session sends, the next response is looked for once.
+#[test]
+fn response_looked_for_once(rt: HostRuntime) -> Result<(), Fail> {
+    let mut office = Noting::new(rt.alloc(), None);
+    let book = read(rt.alloc(), BOOK)?;
+    let mut octets = ANSWERED.to_vec(rt.alloc())?;
+    for time in ["1015300001", "1015300002", "1015300003"] {
+        let submit = Operator::Submit(Submission { time, ..FILE });
+        let told = call(
+            rt.alloc(),
+            &mut office,
+            &book,
+            &submit,
+            &mut Vec::new(rt.alloc()),
+        );
+        assert!(rt; told == Ok(Told::Done));
+        octets.extend_from_slice(TAKEN)?;
+    }
+    octets.extend_from_slice(OVER)?;
+    let role = caller(&book, b"O0177CARMAKER")?;
+    let line = Line::of(octets.as_slice());
+    let heard = hear(rt.alloc(), &mut office, &book, role, line, 1_000_000);
+    assert!(rt; heard.end == Ok(End::Partner(Count::new(0))));
+    // SSID, three times SFID, DATA and EFID, and CD.
+    assert_eq!(rt; heard.moved, 65 + 3 * (178 + 9 + 39) + 5);
+    assert_eq!(rt; office.next, 1);
     Ok(())
 }

@@ -23,7 +23,7 @@ pub(crate) struct Noting {
     pub(crate) office: PlainOffice,
     /// The most rows that were requested at once.
     pub(crate) most: u64,
-    /// How often the next item was looked up.
+    /// How often the next response was looked for, and not the next file alone.
     pub(crate) next: u64,
     /// Whether it loses the last of the requested rows.
     pub(crate) loses: bool,
@@ -184,7 +184,9 @@ impl Office for Noting {
         files: bool,
     ) -> Result<Option<Item>, OfficeFault> {
         self.opened()?;
-        self.next = self.next.saturating_add(1);
+        if cursor.response < u64::MAX {
+            self.next = self.next.saturating_add(1);
+        }
         let found = self.office.next_item(partner, cursor, files);
         self.counted(found)
     }
