@@ -1,10 +1,10 @@
 #!/usr/bin/env python3
 """How much of the cost is the toolchain library's, and how much the station's: the station, the library and plain C at the same work.
 
-    checks/speed/library_alone.py [--assert] [--runs N] [--library PROGRAM] [--rows N]
+    checks/speed/library_alone.py [--assert] [--runs N] [--proved | --library PROGRAM] [--rows N]
 
 `library_store.rattle` uses only the library, with the statements of the station's store: it contains no crate of the station. It is built
-as the checked station is, so OFTP_STATION names that one, unless `--library` names a built one. Plain C over libsqlite3 does the same
+as the checked station is, so OFTP_STATION names that one; with `--proved` as the proved one. `--library` names a built one. Plain C over libsqlite3 does the same
 twice: with the octets of the session (`plain_store.c`), and the statements alone (`plain_register.c`). All times are processor times
 without the opening, except those of the opening itself; each is the least of N runs (default: 3), which take turns. The station is `run`,
 which keeps its database open. Files of short records have `--rows` of them (default: 20,000). With `--assert` it fails if the ratio of the
@@ -338,13 +338,15 @@ def main():
     parser = argparse.ArgumentParser(description=__doc__.splitlines()[0])
     parser.add_argument("--assert", action="store_true", dest="is_asserted")
     parser.add_argument("--runs", type=int, default=3)
+    parser.add_argument("--proved", action="store_true")
     parser.add_argument("--library", type=Path)
     parser.add_argument("--rows", type=int, default=20_000)
     taken = parser.parse_args()
     with tempfile.TemporaryDirectory() as path:
         library = taken.library or Path(path) / "library_store"
         if taken.library is None:
-            subprocess.run([str(ROOT / "checks/speed/library_store.sh"), str(library)], check=True)
+            words = ["--proved"] if taken.proved else []
+            subprocess.run([str(ROOT / "checks/speed/library_store.sh"), *words, str(library)], check=True)
         told = measure(Room(Path(path), library.absolute()), taken.runs, taken.rows)
     print(f"{told.passed} passed, {told.failed} failed")
     return 1 if taken.is_asserted and told.failed else 0
