@@ -300,6 +300,24 @@ def told_counts(room, files, rows, runs):
         print(f"  {said:<50} {taken / files * 1e6:7.1f}", flush=True)
 
 
+def told_matches(room, count, runs):
+    """What the library would take if one join looked up the files of all received responses."""
+    database = copied(room.empty, room.path / "full")
+    connection = sqlite3.connect(database)
+    with connection:
+        names = ("20240131", "1015300001", OURS, THEIRS)
+        headers = ((no, f"ASN.{no}", *names, "U", 0, "", 0, "delivered", "") for no in range(1, count + 1))
+        connection.executemany(f"INSERT INTO out_file VALUES ({', '.join('?' * 12)})", headers)
+        responses = ((no, "EERP", f"ASN.{no}", *names, "") for no in range(1, count + 1))
+        connection.executemany("INSERT INTO received VALUES (?, ?, ?, ?, ?, ?, ?, ?)", responses)
+    connection.close()
+    settle(database)
+    print(f"the files of {count} received responses are looked up, by the library alone, microseconds a response:")
+    for how, said in (("each", "a statement for each response, as the store does"), ("together", "one join for all")):
+        taken = least(spent_by(room.library, "match", room.copy_of(database), how) for _ in range(runs))
+        print(f"  {said:<50} {taken / count * 1e6:7.1f}", flush=True)
+
+
 def told_opening(told, room, mebis, runs):
     """The opening of a register, compared with plain C that reads each row of it, and with plain C that checks it."""
     database = fill_large(room.empty, room.path / "large", mebis)
@@ -330,6 +348,7 @@ def measure(room, runs, short):
         if case.way == "fetch" and case.form == "U":
             told_steps(room, case, runs)
     told_counts(room, 1000, 20, runs)
+    told_matches(room, 1000, runs)
     told_opening(told, room, 25, runs)
     return told
 
