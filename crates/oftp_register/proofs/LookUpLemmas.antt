@@ -1,10 +1,10 @@
 -- Entries with their numbers.
 use Rattle.std.proofs.Common.{◌≡◌, ℕ, zero, suc, ◌+◌, ◌<◌, ◌≤◌, ◌⊎◌, ◌==◌, Bool, true, false, cond, not, ◌&&◌, nat_le, nat_lt, List, [], ◌∷◌, ◌++◌, length, map, get_or, take, drop, find, Option, Some, None, slice_get, All, refl, ap, sym, subst, ◌∙◌, inl, inr, arith}
 use Rattle.std.specs.List.{filter_map, list_any, position, position_or_len, cons_option}
-use Rattle.std.proofs.lemmas.Bool.{cases_Bool, cond-true, cond-false, and_cases, eq-eqb, leb-false, ltb-false, ne_eqb, or_parts}
+use Rattle.std.proofs.lemmas.Bool.{cases_Bool, cond-true, cond-false, and_cases, eq-eqb, leb-false, ltb-false, ltb-true, ne_eqb, or_parts}
 use Rattle.std.proofs.lemmas.List.{drop_more, drop_all, length-map, length-take-le, map-append, take_more}
 use Rattle.std.proofs.lemmas.List.Elements.{All-head, All-tail, filter_map-append}
-use Rattle.std.specs.Option.{option_to_list}
+use Rattle.std.specs.Option.{option_map, option_to_list}
 use Rattle.std.proofs.lemmas.List.Folds.{find_at}
 use Rattle.std.specs.Prelude.{Vec}
 use Rattle.std.specs.Vec.{vec_len}
@@ -48,6 +48,15 @@ place_found p xs i h =
       | inr e ↦ (let none : None ≡ Some i = sym (cond-false (nat_lt at (length xs)) (Some at) None e) ∙ h in absurd (cc))
     ]
 
+-- it is within the list
+place_within : {X : Type 0} (p : X → Bool) (xs : List X) (i : ℕ) → position p xs ≡ Some i → i < length xs
+place_within p xs i h =
+    let at = position_or_len p xs in
+    elim (cases_Bool (nat_lt at (length xs))) [
+      | inl e ↦ omega (arith, ltb-true at (length xs) e, place_found p xs i h)
+      | inr e ↦ (let none : None ≡ Some i = sym (cond-false (nat_lt at (length xs)) (Some at) None e) ∙ h in absurd (cc))
+    ]
+
 -- what is found by such a test
 pub find-numbered : {S A B : Type 0} (view : S → A) (entry : ℕ → A → B) (p : B → Bool) (q : S → Bool) → ((n : ℕ) (x : S) → p (entry n (view x)) ≡ q x) → (n : ℕ) (xs : List S) (i : ℕ)
     → position q xs ≡ Some i → find p (numbered entry n (map view xs)) ≡ slice_get (numbered entry n (map view xs)) i
@@ -77,6 +86,27 @@ looked_nowhere {S = S} view entry named name same identity lent xs told lent_is 
     let has = λ (x : S). same_identity (name x) identity in
     find-numbered-none view entry (λ b. same_identity (named b) identity) has (λ n x. ap (λ z. same_identity z identity) (same n x)) 1 xs
     (position-None has xs (ap (position has) (sym lent_is) ∙ sym told_is ∙ none))
+
+-- the number of the entry at a place
+number_at : {A B : Type 0} (entry : ℕ → A → B) (number : B → ℕ) → ((n : ℕ) (x : A) → number (entry n x) ≡ n) → (n : ℕ) (xs : List A) (i : ℕ) → i < length xs
+    → option_map number (slice_get (numbered entry n xs) i) ≡ Some (n + i)
+number_at entry number same n [] i within = absurd (omega arith)
+number_at entry number same n (x ∷ xs) zero within = let e : number (entry n x) ≡ n + 0 = omega (arith, same n x) in ap Some e
+number_at entry number same n (x ∷ xs) (suc i) within =
+    let e : n + 1 + i ≡ n + suc i = omega arith in
+    number_at entry number same (n + 1) xs i (omega arith) ∙ ap Some e
+
+-- the number of what an identity finds is the one after its place
+pub looked_number : {S A B : Type 0} (view : S → A) (entry : ℕ → A → B) (named : B → Identity) (name : S → Identity) → ((n : ℕ) (x : S) → named (entry n (view x)) ≡ name x)
+    → (number : B → ℕ) → ((n : ℕ) (x : A) → number (entry n x) ≡ n) → (identity : Identity)
+    (lent xs : List S) (told : Option ℕ) (i : ℕ) → lent ≡ xs → told ≡ position (λ x. same_identity (name x) identity) lent → told ≡ Some i
+    → Some (i + 1) ≡ option_map number (find (λ b. same_identity (named b) identity) (numbered entry 1 (map view xs)))
+looked_number {S = S} view entry named name same number same_no identity lent xs told i lent_is told_is place =
+    let has = λ (x : S). same_identity (name x) identity in
+    let within : i < length xs = place_within has xs i (ap (position has) (sym lent_is) ∙ sym told_is ∙ place) in
+    let e : 1 + i ≡ i + 1 = omega arith in
+    sym (ap (option_map number) (looked_at view entry named name same identity lent xs told i lent_is told_is place)
+    ∙ number_at entry number same_no 1 (map view xs) i (omega (arith, within, length-map xs view)) ∙ ap Some e)
 
 -- what is found by its number
 pub find-number : {A B : Type 0} (entry : ℕ → A → B) (number : B → ℕ) → ((n : ℕ) (x : A) → number (entry n x) ≡ n) → (n : ℕ) (xs : List A) (i : ℕ) → i < length xs

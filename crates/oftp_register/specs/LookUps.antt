@@ -16,6 +16,7 @@ use Rattle.oftp_register.specs.declared.entries.IncomingEntry.{IncomingEntry}
 use Rattle.oftp_register.specs.declared.entries.OutgoingEntry.{OutgoingEntry}
 use Rattle.oftp_register.specs.declared.entries.IssuedEntry.{IssuedEntry}
 use Rattle.oftp_register.specs.declared.entries.ReceivedEntry.{ReceivedEntry}
+use Rattle.oftp_register.specs.declared.entries.AnsweredEntry.{AnsweredEntry}
 use Rattle.oftp_register.specs.declared.entries.Cursor.{Cursor}
 use Rattle.oftp_register.specs.declared.entries.Item.{Item}
 use Rattle.oftp_register.specs.declared.entries.Item.TheVariants as item
@@ -96,6 +97,18 @@ in_by_no r n = find (λ (e : IncomingEntry). e.no == n) (list_in r)
 -- the outgoing file with a number, if there is one
 abbrev pub out_by_no : Register → ℕ → Option OutgoingEntry
 out_by_no r n = find (λ (e : OutgoingEntry). e.no == n) (list_out r)
+
+-- the number of the outgoing file with an identity, if there is one
+abbrev pub out_no : Register → Identity → Option ℕ
+out_no r identity = option_map (λ (e : OutgoingEntry). e.no) (look_out r identity)
+
+-- a received response and the file that it answers, by their numbers
+abbrev pub answered_entry : Register → ℕ → Received → AnsweredEntry
+answered_entry r n x = record { no = n; file = out_no r x.identity }
+
+-- the same for all received responses
+abbrev pub list_answered : Register → List AnsweredEntry
+list_answered r = numbered (answered_entry r) 1 r.received
 
 -- a table has as many files as the limits allow, or more
 abbrev pub files_full : Register → Side → Bool

@@ -108,6 +108,15 @@ pub struct ReceivedEntry {
     pub response: ReceivedResponse,
 }
 
+/// A received response and the file that it answers, by their numbers.
+#[derive(Drop)]
+pub struct AnsweredEntry {
+    /// The number of the response, from 1 on.
+    pub no: u64,
+    /// The number of the outgoing file with its identity, or `None` where there is none.
+    pub file: Option<u64>,
+}
+
 /// How far a session is: the greatest numbers that it tried, 0 before the first.
 #[derive(Clone, Copy, Debug, Drop, PartialEq, Eq)]
 pub struct Cursor {

@@ -16,8 +16,8 @@ mod verdicts;
 
 pub use change::{Cause, Change};
 pub use entries::{
-    Cursor, IncomingEntry, IssuedEntry, IssuedResponse, Item, OutgoingEntry, ReceivedEntry,
-    ReceivedResponse, Side,
+    AnsweredEntry, Cursor, IncomingEntry, IssuedEntry, IssuedResponse, Item, OutgoingEntry,
+    ReceivedEntry, ReceivedResponse, Side,
 };
 pub use entry::{Dispatch, Identity, IncomingState, OutgoingState, ResponseKind};
 pub use fit::{

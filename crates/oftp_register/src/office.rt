@@ -3,13 +3,13 @@
 ghost use Rattle.std.specs.Prelude.{◌≡◌, ◌≤◌, IfSome, IfOk};
 ghost use Rattle.oftp_register.specs.Register.{has_received};
 ghost use Rattle.oftp_register.specs.Soundness.{IsSound};
-ghost use Rattle.oftp_register.specs.LookUps.{AreRowsWithin, IsIncomingWithin, IsItemWithin, IsOutgoingWithin, files_full, in_by_no, list_in, list_issued, list_out, list_received, look_in, look_out, next_item, out_by_no, rows_of, units_of};
+ghost use Rattle.oftp_register.specs.LookUps.{AreRowsWithin, IsIncomingWithin, IsItemWithin, IsOutgoingWithin, files_full, in_by_no, list_answered, list_in, list_issued, list_out, list_received, look_in, look_out, next_item, out_by_no, rows_of, units_of};
 ghost use Rattle.oftp_register.specs.Offices.{Commits, Leaves, LooksUp, Only, View};
 ghost use Rattle.oftp_register.specs.declared.fit.TheConstants.{MOST_FILES, MOST_OCTETS, MOST_UNITS};
 
 use crate::change::{Cause, Change};
 use crate::entries::{
-    Cursor, IncomingEntry, IssuedEntry, Item, OutgoingEntry, ReceivedEntry, Side,
+    AnsweredEntry, Cursor, IncomingEntry, IssuedEntry, Item, OutgoingEntry, ReceivedEntry, Side,
 };
 use crate::entry::{Identity, ResponseKind};
 use crate::name::Name;
@@ -193,6 +193,14 @@ pub trait Office {
     /// [`OfficeFault::Store`]: the store failed. [`OfficeFault::Memory`]: out of memory.
     fn list_received(&mut self) -> Result<Vec<ReceivedEntry>, OfficeFault>
         ensures looks { LooksUp (λ r entries. entries.items ≡ list_received r) (view self.old) (view self.new) result };
+
+    /// All received responses with the files that they answer, in order of the responses' numbers. The register is unchanged.
+    ///
+    /// # Errors
+    ///
+    /// [`OfficeFault::Store`]: the store failed. [`OfficeFault::Memory`]: out of memory.
+    fn list_answered(&mut self) -> Result<Vec<AnsweredEntry>, OfficeFault>
+        ensures looks { LooksUp (λ r entries. entries.items ≡ list_answered r) (view self.old) (view self.new) result };
 
     /// Commits a change. Once it has returned `Ok`, a crash doesn't undo the change.
     ///

@@ -6,7 +6,7 @@ ghost use Rattle.oftp_register.specs.Changes.{apply};
 ghost use Rattle.oftp_register.specs.Offices.{Counts};
 ghost use Rattle.oftp_register.specs.Soundness.{IsFit, IsSound};
 ghost use Rattle.oftp_register.specs.SoundProps.{sound-prop};
-ghost use Rattle.oftp_register.specs.LookUps.{AreRowsWithin, IsIncomingWithin, IsItemWithin, IsOutgoingWithin, files_full, in_by_no, list_in, list_issued, list_out, list_received, look_in, look_out, next_item, out_by_no, rows_of, units_of};
+ghost use Rattle.oftp_register.specs.LookUps.{AreRowsWithin, IsIncomingWithin, IsItemWithin, IsOutgoingWithin, files_full, in_by_no, list_answered, list_in, list_issued, list_out, list_received, look_in, look_out, next_item, out_by_no, rows_of, units_of};
 ghost use Rattle.oftp_register.specs.Lists.{CarriesOut, received_of, register_in};
 ghost use Rattle.oftp_register.specs.declared.fit.TheConstants.{MOST_FILES, MOST_OCTETS, MOST_UNITS};
 
@@ -17,7 +17,8 @@ mod units;
 
 use crate::change::Change;
 use crate::entries::{
-    Cursor, IncomingEntry, IssuedEntry, Item, OutgoingEntry, ReceivedEntry, ReceivedResponse, Side,
+    AnsweredEntry, Cursor, IncomingEntry, IssuedEntry, Item, OutgoingEntry, ReceivedEntry,
+    ReceivedResponse, Side,
 };
 use crate::entry::{Identity, ResponseKind};
 use crate::name::Name;
@@ -190,6 +191,13 @@ impl Office for PlainOffice {
         ensures looks { LooksInMemory (λ r entries. entries.items ≡ list_received r) self.old self.new result }
     {
         let found = self.lists.list_received();
+        self.counted(found)
+    }
+
+    fn list_answered(&mut self) -> Result<Vec<AnsweredEntry>, OfficeFault>
+        ensures looks { LooksInMemory (λ r entries. entries.items ≡ list_answered r) self.old self.new result }
+    {
+        let found = self.lists.list_answered();
         self.counted(found)
     }
 

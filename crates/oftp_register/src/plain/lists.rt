@@ -6,7 +6,7 @@ ghost use Rattle.oftp_register.specs.Register.{Register, is_response_to, empty, 
 ghost use Rattle.oftp_register.specs.Changes.{apply, closed, closing, filed, given_up, handed, issued, kept, marked, on_incoming, on_outgoing, refused, reopened, sent, settled, started, submitted};
 ghost use Rattle.oftp_register.specs.declared.change.Change.TheVariants as change;
 ghost use Rattle.oftp_register.specs.Soundness.{AtNumber, Ends, GoesOn, IfOpen, IsFit, IsSound, MayStart};
-ghost use Rattle.oftp_register.specs.LookUps.{AreRowsWithin, IsIncomingWithin, IsItemWithin, IsOutgoingWithin, file_rows, files_full, in_by_no, list_in, list_issued, list_out, list_received, look_in, look_out, next_file, next_item, next_response, out_by_no, rows_of, units_of};
+ghost use Rattle.oftp_register.specs.LookUps.{AreRowsWithin, IsIncomingWithin, IsItemWithin, IsOutgoingWithin, file_rows, files_full, in_by_no, list_answered, list_in, list_issued, list_out, list_received, look_in, look_out, next_file, next_item, next_response, out_by_no, out_no, rows_of, units_of};
 ghost use Rattle.oftp_register.specs.Units.{file_format};
 ghost use Rattle.oftp_register.specs.Lists.{IsPlace, CarriesOut, beginning_of, incoming_of, issued_of, newly_started, outgoing_of, received_of, register_in, to_send};
 ghost use Rattle.oftp_register.specs.declared.fit.TheConstants.{MOST_UNITS};
@@ -16,8 +16,8 @@ use super::outgoing::OutgoingFile;
 use super::units::units_told;
 use crate::change::{Cause, Change};
 use crate::entries::{
-    Cursor, IncomingEntry, IssuedEntry, IssuedResponse, Item, OutgoingEntry, ReceivedEntry,
-    ReceivedResponse, Side,
+    AnsweredEntry, Cursor, IncomingEntry, IssuedEntry, IssuedResponse, Item, OutgoingEntry,
+    ReceivedEntry, ReceivedResponse, Side,
 };
 use crate::entry::{Identity, ResponseKind};
 use crate::fit::{is_file, is_response};
@@ -704,6 +704,30 @@ impl Lists {
             entries.push(ReceivedEntry {
                 no: place as u64 + 1,
                 response: response.again(self.alloc)?,
+            })?;
+        }
+        Ok(entries)
+    }
+
+    // The number of the outgoing file with this identity.
+    fn out_no(&self, identity: &Identity) -> Option<u64>
+        ensures { result ≡ out_no (register_in self.now) identity.now }
+    {
+        match place_out(&self.outgoing, identity) {
+            Some(place) => Some(place as u64 + 1),
+            None => None,
+        }
+    }
+
+    // All received responses with the files that they answer.
+    pub(crate) fn list_answered(&self) -> Result<Vec<AnsweredEntry>, AllocError>
+        ensures { IfOk result (λ entries. entries.items ≡ list_answered (register_in self.now)) }
+    {
+        let mut entries = Vec::with_capacity(self.alloc, self.received.len())?;
+        for (place, response) in self.received.iter().enumerate() {
+            entries.push(AnsweredEntry {
+                no: place as u64 + 1,
+                file: self.out_no(&response.identity),
             })?;
         }
         Ok(entries)
