@@ -34,7 +34,8 @@ use Rattle.oftp_store.proofs.AllocationLemmas.{known_out}
 
 -- ---- the file whose state a response sets
 
-abbrev name_of : Outgoing → Identity
+-- the identity of a file
+abbrev pub name_of : Outgoing → Identity
 name_of f = f.identity
 
 -- none of these files has the identity
@@ -57,6 +58,11 @@ others it (f ∷ files) h =
     let parts = or_parts (same_identity it f.identity) (list_any (λ i. same_identity it i) (map name_of files)) h in
     ap (λ b. b || list_any (λ (f : Outgoing). same_identity f.identity it) files) (turned it f.identity parts.0) ∙ others it files parts.1
 
+-- no file behind another has the same identity
+pub no_other : (it : Identity) (f : Outgoing) (files : List Outgoing) → AreNamedOnce (map name_of (f ∷ files)) → f.identity ≡ it
+    → list_any (λ (g : Outgoing). same_identity g.identity it) files ≡ false
+no_other it f files once is = others it files (ap (λ j. list_any (λ i. same_identity j i) (map name_of files)) (sym is) ∙ once.0)
+
 -- an identity differs from that of a file among others
 not_that : (it : Identity) (before : List Outgoing) (f : Outgoing) (after : List Outgoing)
     → list_any (λ i. same_identity it i) (map name_of (before ++ f ∷ after)) ≡ false → same_identity it f.identity ≡ false
@@ -69,7 +75,7 @@ settled_there kind it [] f after once is =
     let own : same_identity f.identity it ≡ true = ap (λ i. same_identity i it) is ∙ same_self it in
     ap (λ g. g ∷ map (settled kind it) after) (cond-true (same_identity f.identity it) (record f { state = answered kind f.state }) f own)
     ∙ ap (λ gs. let g : Outgoing = record f { state = answered kind f.state } in g ∷ gs)
-    (unsettled kind it after (others it after (ap (λ j. list_any (λ i. same_identity j i) (map name_of after)) (sym is) ∙ once.0)))
+    (unsettled kind it after (no_other it f after once is))
 settled_there kind it (b ∷ before) f after once is =
     let other : same_identity b.identity it ≡ false = ap (same_identity b.identity) (sym is) ∙ not_that b.identity before f after once.0 in
     ap (λ g. g ∷ map (settled kind it) (before ++ f ∷ after)) (cond-false (same_identity b.identity it) _ b other) ∙ ap (λ gs. b ∷ gs) (settled_there kind it before f after once.1 is)

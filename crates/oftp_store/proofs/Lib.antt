@@ -31,3 +31,4 @@ mod AllocationLemmas
 mod SubmissionLemmas
 mod BeginningLemmas
 mod FilingLemmas
+mod AnsweredLemmas

@@ -167,6 +167,21 @@ module _ {X : Type 0} (row : ℕ → X → Row) (numbers : (n : ℕ) (x : X) →
   pub alone : (n : ℕ) (x : X) → matches (overlay db []) page_filter end (page_params behind ∷ row n x ∷ []) ≡ cond (nat_lt behind n) ((page_params behind ∷ row n x ∷ []) ∷ []) []
   alone n x = ap (λ b. cond b ((page_params behind ∷ row n x ∷ []) ∷ []) []) (page_passes behind n (row n x) (numbers n x))
 
+  -- one row of another table is joined, or a row with no column
+  pub joins_one : (n : ℕ) (x : X) (other : ℕ) (on : List Term) (joined : Row)
+      → or_nulls (filter (λ s. list_all (holds (page_params behind ∷ row n x ∷ s ∷ [])) on) (db other)) ≡ joined ∷ []
+      → matches (overlay db []) page_filter (left other on end) (page_params behind ∷ row n x ∷ [])
+      ≡ cond (nat_lt behind n) ((page_params behind ∷ row n x ∷ joined ∷ []) ∷ []) []
+  joins_one n x other on joined one =
+      ap (λ rows. flat_map filled (or_nulls (filter test rows))) (no_overlay db other) ∙ ap (flat_map filled) one ∙ append-nil (filled joined)
+      ∙ ap (λ b. cond b ((page_params behind ∷ row n x ∷ joined ∷ []) ∷ []) []) (page_passes behind n (row n x) (numbers n x))
+    where
+      filled : Row → List Env
+      filled = λ s. matches (overlay db []) page_filter end (page_params behind ∷ row n x ∷ s ∷ [])
+
+      test : Row → Bool
+      test = λ s. list_all (holds (page_params behind ∷ row n x ∷ s ∷ [])) on
+
 -- the rows of a number, between those of others
 module _ (n : ℕ) (test : Row → Bool) (same : (m : ℕ) (s : Row) → column s 0 ≡ number_value m → test s ≡ (m == n)) where
   unlike : (s : Row) (m : ℕ) → column s 0 ≡ number_value m → (m == n) ≡ false → test s ≡ false
@@ -195,18 +210,15 @@ module _ (n : ℕ) (test : Row → Bool) (same : (m : ℕ) (s : Row) → column 
       less_than : (m n : ℕ) → m < n → (m == n) ≡ false
       less_than m n h = grind (arith, nat_tests, h)
 
--- the row of another table is joined, if there is one, and else a row with no column
+-- the row of another table with the entry's number is joined, if there is one, and else a row with no column
 module _ {X : Type 0} (row : ℕ → X → Row) (numbers : (n : ℕ) (x : X) → column (row n x) 0 ≡ number_value n) (piece : ℕ → X → List Row)
     (numbered_piece : (n : ℕ) (x : X) → HaveNumber n (piece n x)) (joined : ℕ → X → Row) (single : (n : ℕ) (x : X) → or_nulls (piece n x) ≡ joined n x ∷ [])
     (other : ℕ) (db : Trees) (behind : ℕ) (xs : List X) (table : db other ≡ pieces_from piece 1 xs) where
   pub joins : (n : ℕ) (before : List X) (x : X) (after : List X) → IsPlaced xs n before x after
       → matches (overlay db []) page_filter (left other page_on end) (page_params behind ∷ row n x ∷ [])
       ≡ cond (nat_lt behind n) ((page_params behind ∷ row n x ∷ joined n x ∷ []) ∷ []) []
-  joins n before x after placed = ap (λ rows. flat_map filled (or_nulls rows)) found ∙ ap (flat_map filled) (single n x) ∙ last
+  joins n before x after placed = joins_one row numbers db behind n x other page_on (joined n x) (ap or_nulls found ∙ single n x)
     where
-      filled : Row → List Env
-      filled = λ s. matches (overlay db []) page_filter end (page_params behind ∷ row n x ∷ s ∷ [])
-
       test : Row → Bool
       test = λ s. list_all (holds (page_params behind ∷ row n x ∷ s ∷ [])) page_on
 
@@ -215,16 +227,11 @@ module _ {X : Type 0} (row : ℕ → X → Row) (numbers : (n : ℕ) (x : X) →
           ap (λ v. is_true (binary (by.Compare compare.Eq Binary) v (column (row n x) 0)) && true) is
           ∙ ap (λ v. is_true (binary (by.Compare compare.Eq Binary) (number_value m) v) && true) (numbers n x) ∙ and_true _ ∙ equal_numbers m n
 
-      found : filter test (overlay db [] other) ≡ piece n x
+      found : filter test (db other) ≡ piece n x
       found =
           let place = among piece numbered_piece n before x after placed.number in
-          ap (filter test) (no_overlay db other ∙ table ∙ ap (pieces_from piece 1) placed.here ∙ place.rows)
+          ap (filter test) (table ∙ ap (pieces_from piece 1) placed.here ∙ place.rows)
           ∙ between n test test_is _ (piece n x) _ place.split (numbered_piece n x)
-
-      last : flat_map filled (joined n x ∷ []) ≡ cond (nat_lt behind n) ((page_params behind ∷ row n x ∷ joined n x ∷ []) ∷ []) []
-      last =
-          append-nil (filled (joined n x))
-          ∙ ap (λ b. cond b ((page_params behind ∷ row n x ∷ joined n x ∷ []) ∷ []) []) (page_passes behind n (row n x) (numbers n x))
 
 -- ---- the SQL of a page
 

@@ -9,6 +9,7 @@ use Rattle.oftp_vfile.specs.VirtualFile.{IsLongest}
 use Rattle.oftp_register.specs.declared.entry.OutgoingState.{OutgoingState}
 use Rattle.oftp_register.specs.declared.entry.ResponseKind.{ResponseKind}
 use Rattle.oftp_register.specs.declared.entry.ResponseKind.TheVariants.{EndResponse, NegativeEndResponse}
+use Rattle.oftp_register.specs.declared.entries.AnsweredEntry.{AnsweredEntry}
 use Rattle.oftp_register.specs.declared.entries.IncomingEntry.{IncomingEntry}
 use Rattle.oftp_register.specs.declared.entries.IssuedEntry.{IssuedEntry}
 use Rattle.oftp_register.specs.declared.entries.IssuedResponse.{IssuedResponse}
@@ -142,6 +143,26 @@ paged_received_number row = number_in (column row 9)
 abbrev pub paged_received : Row → ReceivedEntry
 paged_received row = let header = received_header_in row in received_entry_of (paged_received_number row) header (paged_note header.kind row)
 
+-- ---- the files that received responses answer
+
+-- a value that begins with this column, unless the column is NULL
+abbrev pub if_told : {A : Type 0} → Value → A → Option A
+if_told Null x = None
+if_told (Int n) x = Some x
+if_told (Real n) x = Some x
+if_told (Text t) x = Some x
+if_told (Blob b) x = Some x
+
+abbrev pub paged_answered_number : Row → ℕ
+paged_answered_number row = number_in (column row 0)
+
+abbrev pub paged_answered_file : Row → Option ℕ
+paged_answered_file row = if_told (column row 1) (number_in (column row 1))
+
+-- the response in a row of a page and the file that it answers, by their numbers
+abbrev pub paged_answered : Row → AnsweredEntry
+paged_answered row = record { no = paged_answered_number row; file = paged_answered_file row }
+
 -- ---- the number of rows
 
 -- the row has the last position of a file with this many rows, or the file has none
@@ -156,14 +177,6 @@ abbrev pub all_listed : {A B : Type 0} → (ℕ → A → B) → List A → List
 all_listed entry = numbered (λ n x. Some (entry n x)) 1
 
 -- ---- a page of incoming files
-
--- a response of which this is the first column, NULL where there is none
-abbrev pub if_told : Value → IssuedResponse → Option IssuedResponse
-if_told Null x = None
-if_told (Int n) x = Some x
-if_told (Real n) x = Some x
-if_told (Text t) x = Some x
-if_told (Blob b) x = Some x
 
 abbrev pub paged_response : Row → Option IssuedResponse
 paged_response row = if_told (column row 9) (response_from 9 row)

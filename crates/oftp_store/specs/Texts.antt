@@ -81,3 +81,11 @@ abbrev pub received_page_text : List ℕ
 received_page_text =
     codes "SELECT kind, dataset, date, time, originator, destination, reason, creator, note, received.no "
     ++ codes "FROM received LEFT JOIN received_note ON received_note.no = received.no WHERE received.no > ?1 ORDER BY received.no LIMIT ?2"
+
+-- A page of the received responses behind a number, each with the outgoing file that has its identity: the numbers of both. The columns of
+-- the identity are in the order of the table's UNIQUE.
+abbrev pub answered_page_text : List ℕ
+answered_page_text =
+    codes "SELECT received.no, out_file.no FROM received LEFT JOIN out_file ON out_file.dataset = received.dataset AND out_file.date = received.date "
+    ++ codes "AND out_file.time = received.time AND out_file.originator = received.originator AND out_file.destination = received.destination "
+    ++ codes "WHERE received.no > ?1 ORDER BY received.no LIMIT ?2"

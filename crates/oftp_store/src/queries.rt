@@ -1,6 +1,7 @@
 //! The queries on the database.
 
 pub(crate) mod allocation;
+mod answered;
 mod by_number;
 pub(crate) mod file_by_identity;
 pub(crate) mod file_by_number;

@@ -14,8 +14,8 @@ use crate::queries::{
     file_by_identity, file_by_number, identity, last_number, lists, next_item, rows, units,
 };
 use oftp_register::{
-    Change, Cursor, Identity, IncomingEntry, IssuedEntry, Item, Name, Office, OfficeFault,
-    OutgoingEntry, ReceivedEntry, ResponseKind, Side,
+    AnsweredEntry, Change, Cursor, Identity, IncomingEntry, IssuedEntry, Item, Name, Office,
+    OfficeFault, OutgoingEntry, ReceivedEntry, ResponseKind, Side,
 };
 use oftp_vfile::{Limits, MOST_ROWS, Rows};
 use sqlite::Alter;
@@ -137,6 +137,11 @@ impl<S: Alter> Office for SqlOffice<S> {
     }
 
     fn list_received(&mut self) -> Result<Vec<ReceivedEntry>, OfficeFault> {
+        let entries = lists::list(self.alloc, &mut self.conn);
+        counted(&mut self.faults, entries)
+    }
+
+    fn list_answered(&mut self) -> Result<Vec<AnsweredEntry>, OfficeFault> {
         let entries = lists::list(self.alloc, &mut self.conn);
         counted(&mut self.faults, entries)
     }

@@ -1,0 +1,9 @@
+use Rattle.std.proofs.Common.{inl, refl}
+use Rattle.std.proofs.lemmas.Result.{IfOk-weaker}
+use Rattle.oftp_store.proofs.queries.answered.AnsweredEntryListed.from_page.Goals as goal
+
+pub returns-clause-looks : goal.returns-clause-looks
+returns-clause-looks g c = inl (refl, c.answered_in.ensures.fails)
+
+pub returns-clause-answer : goal.returns-clause-answer
+returns-clause-answer g c clean has = IfOk-weaker c.answered_in.result _ _ (λ found told r kept sound. told) c.answered_in.ensures.told
