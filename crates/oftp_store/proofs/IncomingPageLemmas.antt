@@ -23,7 +23,7 @@ use Rattle.oftp_register.specs.LookUps.{file_rows, incoming_entry, issued_entry,
 use Rattle.oftp_tables.specs.Schema.{in_file_tree, issued_tree}
 use Rattle.oftp_tables.specs.Tables.{HasReason, Tables, in_file_row, in_state_in, in_state_text, issued_if_any, issued_row, rows_in}
 use Rattle.oftp_tables.proofs.BackLemmas.{all_at_place, at_place, format_back, in_state_back, issued_back}
-use Rattle.oftp_store.specs.Reads.{IsPlaced, all_listed, incoming_header_in, paged_entry, paged_file, paged_issued, paged_number, paged_response}
+use Rattle.oftp_store.specs.Reads.{IsPlaced, all_listed, incoming_entry_of, incoming_header_in, paged_entry, paged_file, paged_issued, paged_number, paged_response}
 use Rattle.oftp_store.specs.declared.queries.header.IncomingHeader.{IncomingHeader}
 use Rattle.oftp_store.specs.Tells.{FindsPages}
 use Rattle.oftp_store.specs.Texts.{in_page_text}
@@ -83,23 +83,11 @@ row_back r behind n f small right counted =
     ∙ ap (made n f f.format f.state (length f.rows)) (answer_back behind n f f.response small right)
 
 -- an entry that is made of what a row has
-abbrev file_so : ℕ → IncomingHeader → ℕ → Option IssuedResponse → IncomingEntry
-file_so k header count response = record {
-  no = k;
-  identity = header.file.identity;
-  format = header.file.format;
-  longest = header.file.longest;
-  description = header.file.description;
-  state = header.state;
-  rows = count;
-  response = response;
-}
-
-pub file_told : (row : Row) (k count rows : ℕ) (header : IncomingHeader) (response : Option IssuedResponse) → header ≡ incoming_header_in row → response ≡ paged_response row
-    → count ≡ rows → k ≡ paged_number row → file_so k header count response ≡ paged_file row rows
-file_told row k count rows header response header_is response_is count_is number_is =
-    ap (λ h. file_so k h count response) header_is ∙ ap (file_so k (incoming_header_in row) count) response_is
-    ∙ ap (λ n. file_so k (incoming_header_in row) n (paged_response row)) count_is ∙ ap (λ n. file_so n (incoming_header_in row) rows (paged_response row)) number_is
+pub file_told : (row : Row) (k rows : ℕ) (header : IncomingHeader) (response : Option IssuedResponse) → header ≡ incoming_header_in row → response ≡ paged_response row
+    → k ≡ paged_number row → incoming_entry_of k header rows response ≡ paged_file row rows
+file_told row k rows header response header_is response_is number_is =
+    ap (λ h. incoming_entry_of k h rows response) header_is ∙ ap (incoming_entry_of k (incoming_header_in row) rows) response_is
+    ∙ ap (λ n. incoming_entry_of n (incoming_header_in row) rows (paged_response row)) number_is
 
 -- the response that a row has, with its file
 abbrev issued_so : ℕ → IncomingHeader → IssuedResponse → IssuedEntry

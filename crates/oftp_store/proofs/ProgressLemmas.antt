@@ -9,7 +9,7 @@ use Rattle.oftp_register.specs.LookUps.{entry_at, file_rows, in_by_no, incoming_
 use Rattle.oftp_register.specs.declared.entries.IncomingEntry.{IncomingEntry}
 use Rattle.oftp_register.specs.declared.entries.OutgoingEntry.{OutgoingEntry}
 use Rattle.oftp_tables.specs.Tables.{rows_in, rows_out}
-use Rattle.oftp_store.specs.Reads.{IsPlaced, IsResponseTo, IsToldOf, incoming_header_of, outgoing_entry_of, outgoing_header_of}
+use Rattle.oftp_store.specs.Reads.{IsPlaced, IsResponseTo, IsToldOf, incoming_entry_of, incoming_header_of, outgoing_entry_of, outgoing_header_of}
 use Rattle.oftp_store.specs.FileProgress.{response_progress_of, dispatch_of, incoming_progress_of, outgoing_progress_of}
 use Rattle.oftp_store.specs.declared.queries.header.IncomingHeader.{IncomingHeader}
 use Rattle.oftp_store.specs.declared.queries.header.OutgoingHeader.{OutgoingHeader}
@@ -73,25 +73,12 @@ found_entry : {X E : Type 0} (entry : ℕ → X → E) (number : E → ℕ) → 
     → Some e ≡ find (λ e. number e == k) (numbered entry 1 xs)
 found_entry entry number same k xs e (before, x, after, placed, is) = ap Some is ∙ sym (entry_known entry number same k xs before x after placed)
 
--- the entry of the incoming file of which this was read
-abbrev incoming_as : ℕ → IncomingHeader → ℕ → Option IssuedResponse → IncomingEntry
-incoming_as k h rows response = record {
-  no = k;
-  identity = h.file.identity;
-  format = h.file.format;
-  longest = h.file.longest;
-  description = h.file.description;
-  state = h.state;
-  rows = rows;
-  response = response;
-}
-
 pub incoming_told : (r : Register) (k count : ℕ) (h : IncomingHeader) (response : Option IssuedResponse) → IsToldOf incoming_header_of r.incoming k (Some h)
-    → count ≡ length (file_rows r side.Incoming k) → IsResponseTo r k response → Some (incoming_as k h count response) ≡ in_by_no r k
+    → count ≡ length (file_rows r side.Incoming k) → IsResponseTo r k response → Some (incoming_entry_of k h count response) ≡ in_by_no r k
 incoming_told r k count h response told counted answered =
     found_entry incoming_entry (λ (e : IncomingEntry). e.no) (λ n x. refl) k r.incoming _
-    (answered_told (λ f o. incoming_as k (incoming_header_of f) (length f.rows) o) r k response _
-    (counted_told rows_in incoming_header_of (λ h n. incoming_as k h n response) k count r.incoming h told counted) answered)
+    (answered_told (λ f o. incoming_entry_of k (incoming_header_of f) (length f.rows) o) r k response _
+    (counted_told rows_in incoming_header_of (λ h n. incoming_entry_of k h n response) k count r.incoming h told counted) answered)
 
 pub outgoing_told : (r : Register) (k count : ℕ) (h : OutgoingHeader) → IsToldOf outgoing_header_of r.outgoing k (Some h) → count ≡ length (file_rows r side.Outgoing k)
     → Some (outgoing_entry_of k h count) ≡ out_by_no r k

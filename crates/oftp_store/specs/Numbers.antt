@@ -12,7 +12,7 @@ use Rattle.oftp_register.specs.declared.entries.IncomingEntry.{IncomingEntry}
 use Rattle.oftp_register.specs.declared.entries.OutgoingEntry.{OutgoingEntry}
 use Rattle.oftp_register.specs.declared.entries.IssuedEntry.{IssuedEntry}
 use Rattle.oftp_register.specs.Register.{Register}
-use Rattle.oftp_register.specs.LookUps.{look_in, look_out, next_file, next_response}
+use Rattle.oftp_register.specs.LookUps.{look_in, next_file, next_response, out_no}
 use Rattle.oftp_store.specs.declared.queries.last_number.Table.{Table}
 use Rattle.oftp_store.specs.declared.queries.last_number.Table.TheVariants as table
 use Rattle.oftp_store.specs.declared.queries.next_number.Sendable.{Sendable}
@@ -58,7 +58,7 @@ has_filed_text NegativeEndResponse =
 -- the number of the file of an identity, if there is one
 abbrev pub file_number : Register → Side → Identity → Option ℕ
 file_number r side.Incoming identity = option_map (λ (e : IncomingEntry). e.no) (look_in r identity)
-file_number r side.Outgoing identity = option_map (λ (e : OutgoingEntry). e.no) (look_out r identity)
+file_number r side.Outgoing identity = out_no r identity
 
 -- ---- what is sent next
 

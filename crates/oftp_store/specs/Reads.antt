@@ -184,20 +184,22 @@ paged_response row = if_told (column row 9) (response_from 9 row)
 abbrev pub paged_number : Row → ℕ
 paged_number row = number_in (column row 13)
 
+-- an incoming file as an office returns it
+abbrev pub incoming_entry_of : ℕ → IncomingHeader → ℕ → Option IssuedResponse → IncomingEntry
+incoming_entry_of n header count response = record {
+  no = n;
+  identity = header.file.identity;
+  format = header.file.format;
+  longest = header.file.longest;
+  description = header.file.description;
+  state = header.state;
+  rows = count;
+  response = response;
+}
+
 -- the file in a row of a page, with so many rows
 abbrev pub paged_file : Row → ℕ → IncomingEntry
-paged_file row count =
-    let header = incoming_header_in row in
-    record {
-      no = paged_number row;
-      identity = header.file.identity;
-      format = header.file.format;
-      longest = header.file.longest;
-      description = header.file.description;
-      state = header.state;
-      rows = count;
-      response = paged_response row;
-    }
+paged_file row count = incoming_entry_of (paged_number row) (incoming_header_in row) count (paged_response row)
 
 -- and with the rows that it has in a register
 abbrev pub paged_entry : Register → Row → IncomingEntry

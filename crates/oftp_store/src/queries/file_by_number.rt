@@ -5,7 +5,7 @@ ghost use Rattle.sqlite.specs.Held.{state};
 ghost use Rattle.oftp_register.specs.LookUps.{IsIncomingWithin, IsOutgoingWithin, in_by_no, out_by_no};
 ghost use Rattle.oftp_register.specs.Offices.{IsFailure};
 ghost use Rattle.oftp_tables.specs.Statements.{Looks};
-ghost use Rattle.oftp_store.specs.Reads.{outgoing_entry_of};
+ghost use Rattle.oftp_store.specs.Reads.{incoming_entry_of, outgoing_entry_of};
 ghost use Rattle.oftp_store.specs.Tells.{Tells, TellsStored};
 
 use super::by_number::find;
@@ -14,6 +14,28 @@ use super::rows::count_rows;
 use oftp_register::{IncomingEntry, IssuedResponse, OfficeFault, OutgoingEntry, Side};
 use sqlite::{Alter, Connection};
 use std::alloc::Global;
+
+/// The incoming file with a number, a header, so many rows and a response, if one was issued.
+pub(super) fn incoming_of(
+    no: u64,
+    header: IncomingHeader,
+    rows: u32,
+    response: Option<IssuedResponse>,
+) -> IncomingEntry
+    ensures { result ≡ incoming_entry_of no header rows response }
+{
+    let file = header.file;
+    IncomingEntry {
+        no,
+        identity: file.identity,
+        format: file.format,
+        longest: file.longest,
+        description: file.description,
+        state: header.state,
+        rows: u64::from(rows),
+        response,
+    }
+}
 
 /// The incoming file with a number.
 pub(crate) fn find_incoming_file<S: Alter>(
@@ -31,17 +53,7 @@ pub(crate) fn find_incoming_file<S: Alter>(
     };
     let rows = count_rows(conn, Side::Incoming, no)?;
     let response = find::<IssuedResponse, S>(alloc, conn, no)?;
-    let file = header.file;
-    Ok(Some(IncomingEntry {
-        no,
-        identity: file.identity,
-        format: file.format,
-        longest: file.longest,
-        description: file.description,
-        state: header.state,
-        rows: u64::from(rows),
-        response,
-    }))
+    Ok(Some(incoming_of(no, header, rows, response)))
 }
 
 /// The outgoing file with a number, a header and so many rows. A mark that exceeds them is an error of the store.

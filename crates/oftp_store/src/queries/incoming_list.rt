@@ -7,6 +7,7 @@ ghost use Rattle.oftp_store.specs.Reads.{all_listed, paged_entry, paged_file, pa
 ghost use Rattle.oftp_store.specs.Texts.{in_page_text};
 
 use super::by_number::ByNumber;
+use super::file_by_number::incoming_of;
 use super::header::IncomingHeader;
 use super::last_number::Table;
 use super::lists::Listed;
@@ -48,17 +49,7 @@ fn file_in(
 {
     let header = IncomingHeader::from_row(alloc, row)?;
     let response = response_in(alloc, row)?;
-    let file = header.file;
-    Ok(Some(IncomingEntry {
-        no,
-        identity: file.identity,
-        format: file.format,
-        longest: file.longest,
-        description: file.description,
-        state: header.state,
-        rows: u64::from(rows),
-        response,
-    }))
+    Ok(Some(incoming_of(no, header, rows, response)))
 }
 
 // The response in a row of a page, if there is one, with the number and the identity of its file.

@@ -1,4 +1,4 @@
-use Rattle.std.proofs.Common.{◌∙◌, sym}
+use Rattle.std.proofs.Common.{◌∙◌, Some, ap, sym}
 use Rattle.oftp_store.proofs.CommitLemmas.{looks_both}
 use Rattle.oftp_store.proofs.LookLemmas.{left_by}
 use Rattle.oftp_store.proofs.ProgressLemmas.{incoming_told, no_incoming}
@@ -12,5 +12,6 @@ returns-clause-answer g c clean has r kept sound =
     let later = looks_both _ _ _ _ _ c.in_ok-rows.ensures.looks c.in_ok-response.ensures.looks in
     let first = left_by r _ _ _ _ _ c.in_ok-header.ensures.looks later clean has kept in
     let second = left_by r _ _ _ _ _ c.in_ok-rows.ensures.looks c.in_ok-response.ensures.looks clean first.schema first.tables in
-    incoming_told r c.args.no _ c.in-Some.header c.in_ok-response.response (rw c.in-Some.is at (c.in_ok-header.ensures.answer first.clean has r kept))
-    (c.from.ensures ∙ c.in_ok-rows.ensures.answer second.clean first.schema r first.tables) (c.in_ok-response.ensures.answer clean second.schema r second.tables sound)
+    ap Some c.incoming_of.ensures
+    ∙ incoming_told r c.args.no c.in_ok-rows.rows c.in-Some.header c.in_ok-response.response (rw c.in-Some.is at (c.in_ok-header.ensures.answer first.clean has r kept))
+    (c.in_ok-rows.ensures.answer second.clean first.schema r first.tables) (c.in_ok-response.ensures.answer clean second.schema r second.tables sound)
