@@ -1,3 +1,4 @@
+pub mod AnsweredLemmas
 pub mod Asking
 pub mod HeadLemmas
 pub mod HidingLemmas

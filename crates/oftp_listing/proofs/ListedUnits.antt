@@ -1,7 +1,8 @@
--- The octets of a file that the office returned in a list.
-use Rattle.std.proofs.Common.{◌≡◌, ◌+◌, ◌-◌, ◌*◌, ◌^◌, ◌≤◌, ◌⊎◌, inl, inr, ℕ, zero, suc, min, List, [], ◌∷◌, length, map, take, drop, slice_get, Option, Some, None, Result, Ok, refl, sym, ap, subst, ◌∙◌, arith, take_all}
+-- The octets of each file that the office returned in a list.
+use Rattle.std.proofs.Common.{◌≡◌, ◌+◌, ◌-◌, ◌*◌, ◌^◌, ◌<◌, ◌≤◌, ◌⊎◌, inl, inr, ℕ, zero, suc, add-one, min, List, [], ◌∷◌, ◌++◌, length, map, take, drop, get_or, slice_get, Some, Result, Ok, refl, sym, ap, subst, ◌∙◌, arith, take_all}
 use Rattle.std.specs.Option.{option_map, unwrap_or}
-use Rattle.std.proofs.lemmas.List.{length-drop}
+use Rattle.std.proofs.Math.Seq.{take-suc}
+use Rattle.std.proofs.lemmas.List.{length-drop, map-append}
 use Rattle.std.proofs.lemmas.Option.{slice_get-map}
 use Rattle.std.proofs.lemmas.Result.{IfOk-weaker}
 use Rattle.oftp_vfile.specs.declared.format.Format.{Format}
@@ -22,6 +23,8 @@ use Rattle.oftp_register.specs.Units.{units_in_blocks, units_told}
 use Rattle.oftp_register.proofs.FileRowLemmas.{few_units}
 use Rattle.oftp_register.proofs.FormatUnitLemmas.{units_of_file}
 use Rattle.oftp_listing.specs.InsideListed.{IsAmong, IsListed}
+use Rattle.oftp_listing.specs.Texts.{Asks}
+use Rattle.oftp_listing.proofs.Asking.{asks_on, asks_once, told_first}
 
 -- ---- what else a result says
 
@@ -146,3 +149,43 @@ outgoing_listed r e (i, is) =
     let here : e ≡ outgoing_entry (suc i) file.x = file.is ∙ ap (λ m. outgoing_entry m file.x) (first_suc i) in
     subst (λ (e : OutgoingEntry). IsListed r side.Outgoing e.no e.format e.longest e.rows) (sym here)
     (format_there (λ (f : Outgoing). (f.format, f.longest)) r.outgoing i file.x file.there, rows_there (λ (f : Outgoing). f.rows) r.outgoing i file.x file.there)
+
+-- ---- one file after another
+
+-- the office was asked for the numbers of these entries, of all that it returned
+pub record IsAsked {E : Type 0} (all : Register → List E) (beside : Register → E → ℕ) (old now : View) (told entries : List E) (numbers : List ℕ) : Type 0 where
+  pub asks : Asks old now
+  pub untold : now.told ≡ old.told
+  pub right : now.clean → old.stands → told ≡ all old.register → numbers ≡ map (beside old.register) entries
+
+pub take_next : {E : Type 0} (entries : List E) (i : ℕ) (e : E) → i < length entries → e ≡ get_or entries i e → take (i + 1) entries ≡ take i entries ++ e ∷ []
+take_next entries i e within is = rw add-one (take-suc entries i e within ∙ ap (λ (x : _). take i entries ++ x ∷ []) (sym is))
+
+-- the next is one of them
+is_there : {E : Type 0} (entries : List E) (i : ℕ) (e : E) → i < length entries → e ≡ get_or entries i e → slice_get entries i ≡ Some e
+is_there [] i e within is = absurd (omega (arith, within))
+is_there (x ∷ entries) zero e within is = ap Some (sym is)
+is_there (x ∷ entries) (suc i) e within is = is_there entries i e (omega (arith, within)) is
+
+pub is_among : {E : Type 0} (entries : List E) (i : ℕ) (e : E) → i < length entries → e ≡ get_or entries i e → IsAmong e entries
+is_among entries i e within is = (i, is_there entries i e within is)
+
+-- and of one more
+pub asked_on : {E : Type 0} (all : Register → List E) (beside : Register → E → ℕ) (old now new : View) (told entries : List E) (numbers longer : List ℕ) (e : E) (n : ℕ)
+    → IsAsked all beside old now told entries numbers → IsAmong e told → LooksUp (λ r n. IsAmong e (all r) → n ≡ beside r e) now new (Ok n) → longer ≡ numbers ++ n ∷ []
+    → IsAsked all beside old new told (entries ++ e ∷ []) longer
+asked_on all beside old now new told entries numbers longer e n asked among looks grown = record {
+  asks = asks_on old now new asked.asks asked.untold (asks_once now new (Ok n) looks);
+  untold = looks.counts ∙ asked.untold;
+  right = λ k s whole.
+      let is : n ≡ beside old.register e =
+      told_first {Tells = λ r n. IsAmong e (all r) → n ≡ beside r e} old now new n asked.asks asked.untold looks k s (subst (IsAmong e) whole among) in
+      grown ∙ ap (λ ns. ns ++ n ∷ []) (asked.right (looks.clean k) s whole) ∙ ap (λ x. map (beside old.register) entries ++ x ∷ []) is
+      ∙ sym (map-append (beside old.register) entries (e ∷ []));
+}
+
+-- and of all
+pub asked_all : {E : Type 0} (all : Register → List E) (beside : Register → E → ℕ) (old now : View) (told : List E) (i : ℕ) (numbers : List ℕ)
+    → IsAsked all beside old now told (take i told) numbers → length told ≤ i → now.clean → old.stands → told ≡ all old.register
+    → numbers ≡ map (beside old.register) (all old.register)
+asked_all all beside old now told i numbers asked long k s whole = asked.right k s whole ∙ ap (map (beside old.register)) (take_all i told long ∙ whole)

@@ -1,10 +1,13 @@
--- Inside: what the listing and the reports show of each kind of entry, for the trait of src/listed.rt.
-use Rattle.std.specs.Prelude.{◌≡◌, ℕ, List, length, slice_get, Some}
+-- Inside: what the listing and the reports show of each kind of entry, for the traits of src/listed.rt and src/units.rt.
+use Rattle.std.specs.Prelude.{◌≡◌, ℕ, List, length, map, slice_get, Some}
+use Rattle.std.specs.List.{flat_map, zip}
+use Rattle.std.specs.Option.{unwrap_or}
 use Rattle.serde_json.specs.Data.{Data}
 use Rattle.oftp_vfile.specs.declared.format.Format.{Format}
 use Rattle.oftp_register.specs.LookUps.{file_rows, list_in, list_issued, list_out, list_received, look_out, units_of}
 use Rattle.oftp_register.specs.Register.{Register}
 use Rattle.oftp_register.specs.Units.{file_format}
+use Rattle.oftp_register.specs.declared.entries.AnsweredEntry.{AnsweredEntry}
 use Rattle.oftp_register.specs.declared.entries.IncomingEntry.{IncomingEntry}
 use Rattle.oftp_register.specs.declared.entries.IssuedEntry.{IssuedEntry}
 use Rattle.oftp_register.specs.declared.entries.OutgoingEntry.{OutgoingEntry}
@@ -31,6 +34,14 @@ object_in kind r e = kind.object e (kind.beside r e)
 abbrev pub line_in : {E : Type 0} → EntryKind E → Register → E → List ℕ
 line_in kind r e = line (kind.fields e (kind.beside r e))
 
+-- the objects of entries, each with the number beside it, as far as there are both
+abbrev pub objects_beside : {E : Type 0} → EntryKind E → List E → List ℕ → List Data
+objects_beside {E} kind es ns = map (λ (p : E × ℕ). kind.object p.0 p.1) (zip es ns)
+
+-- the lines of entries, each with the number beside it, as far as there are both
+abbrev pub lines_beside : {E : Type 0} → EntryKind E → List E → List ℕ → List ℕ
+lines_beside {E} kind es ns = flat_map (λ (p : E × ℕ). line (kind.fields p.0 p.1)) (zip es ns)
+
 -- incoming files, each with its number of octets
 abbrev pub incoming_files : EntryKind IncomingEntry
 incoming_files = record { entries = list_in; beside = λ r e. units_of r Incoming e.no; object = incoming_object; fields = incoming_fields }
@@ -46,6 +57,10 @@ issued_responses = record { entries = list_issued; beside = λ _ _. 0; object = 
 -- received responses, each with the number of the file that it answers
 abbrev pub received_responses : EntryKind ReceivedEntry
 received_responses = record { entries = list_received; beside = λ r e. no_of (look_out r e.response.identity); object = received_object; fields = received_fields }
+
+-- the number of the file that a response answers, or 0 where there is none
+abbrev pub file_answered : AnsweredEntry → ℕ
+file_answered e = unwrap_or e.file 0
 
 -- the entry is one of these
 abbrev pub IsAmong : {E : Type 0} → E → List E → Type 0

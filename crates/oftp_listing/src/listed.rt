@@ -1,11 +1,12 @@
 //! What the listing and the reports need of each kind of entry.
 
-ghost use Rattle.std.specs.Prelude.{◌≡◌, false, IfErr, IfOk};
+ghost use Rattle.std.specs.Prelude.{◌≡◌, false, IfErr, IfOk, map};
 ghost use Rattle.serde_json.specs.View.{view};
 ghost use Rattle.serde_json.specs.Written.{has_float};
 ghost use Rattle.oftp_register.specs.Offices.{LooksUp};
 ghost use Rattle.oftp_listing.specs.declared.fault.ListFault.TheVariants.{Memory};
-ghost use Rattle.oftp_listing.specs.InsideListed.{EntryKind, IsAmong, incoming_files, issued_responses, outgoing_files, received_responses};
+ghost use Rattle.oftp_listing.specs.Finding.{Finds};
+ghost use Rattle.oftp_listing.specs.InsideListed.{EntryKind, file_answered, incoming_files, issued_responses, outgoing_files, received_responses};
 ghost use Rattle.oftp_listing.specs.Reports.{line};
 ghost use Rattle.oftp_listing.specs.Texts.{no_of};
 
@@ -15,9 +16,10 @@ use crate::object::{
     incoming_members, issued_members, object_of, outgoing_members, received_members,
 };
 use crate::reports::{incoming_details, issued_details, line, outgoing_details, received_details};
-use crate::units::ask_units;
+use crate::units::ask_each;
 use oftp_register::{
-    IncomingEntry, IssuedEntry, Office, OfficeFault, OutgoingEntry, ReceivedEntry, Side,
+    AnsweredEntry, IncomingEntry, IssuedEntry, Office, OfficeFault, OutgoingEntry, ReceivedEntry,
+    Side,
 };
 use serde_json::Value;
 use std::alloc::{AllocError, Global};
@@ -36,9 +38,17 @@ pub(crate) trait Listed: Sized {
     fn ask_beside<O: Office>(&self, office: &mut O) -> Result<u64, OfficeFault>
         ensures looks { LooksUp (λ r number. number ≡ kind.beside r self.now) (O.view office.old) (O.view office.new) result };
 
-    /// The number that is shown with an entry of a list that the office returned.
-    fn ask_in_list<O: Office>(&self, office: &mut O) -> Result<u64, OfficeFault>
-        ensures looks { LooksUp (λ r number. IsAmong self.now (kind.entries r) → number ≡ kind.beside r self.now) (O.view office.old) (O.view office.new) result };
+    /// The numbers that are shown with all entries, in their order. `entries` is the list that the office returned.
+    ///
+    /// # Errors
+    ///
+    /// [`ListFault::Office`]: the office returned an error. [`ListFault::Memory`]: out of memory.
+    fn ask_all<O: Office>(
+        alloc: Global,
+        entries: &[Self],
+        office: &mut O,
+    ) -> Result<Vec<u64>, ListFault>
+        ensures finds { Finds (λ r numbers. entries.now ≡ kind.entries r → numbers.items ≡ map (kind.beside r) (kind.entries r)) (O.view office.old) (O.view office.new) result };
 
     /// Its object in the listing.
     ///
@@ -70,15 +80,12 @@ impl Listed for IncomingEntry {
         office.units_of(Side::Incoming, self.no)
     }
 
-    fn ask_in_list<O: Office>(&self, office: &mut O) -> Result<u64, OfficeFault> {
-        ask_units(
-            office,
-            Side::Incoming,
-            self.no,
-            self.format,
-            self.longest,
-            self.rows,
-        )
+    fn ask_all<O: Office>(
+        alloc: Global,
+        entries: &[IncomingEntry],
+        office: &mut O,
+    ) -> Result<Vec<u64>, ListFault> {
+        ask_each(alloc, entries, office)
     }
 
     fn to_object(&self, alloc: Global, number: u64) -> Result<Value, AllocError> {
@@ -101,15 +108,12 @@ impl Listed for OutgoingEntry {
         office.units_of(Side::Outgoing, self.no)
     }
 
-    fn ask_in_list<O: Office>(&self, office: &mut O) -> Result<u64, OfficeFault> {
-        ask_units(
-            office,
-            Side::Outgoing,
-            self.no,
-            self.format,
-            self.longest,
-            self.rows,
-        )
+    fn ask_all<O: Office>(
+        alloc: Global,
+        entries: &[OutgoingEntry],
+        office: &mut O,
+    ) -> Result<Vec<u64>, ListFault> {
+        ask_each(alloc, entries, office)
     }
 
     fn to_object(&self, alloc: Global, number: u64) -> Result<Value, AllocError> {
@@ -121,6 +125,13 @@ impl Listed for OutgoingEntry {
         let reason = refusal_name(alloc, self.state)?;
         line(alloc, &outgoing_details(self, reason.as_str(), number))
     }
+}
+
+// 0 for each entry.
+fn zeros(alloc: Global, entries: &[IssuedEntry]) -> Result<Vec<u64>, AllocError>
+    ensures { IfOk result (λ numbers. numbers.items ≡ map (λ _. 0) entries.now) }
+{
+    entries.iter().map(|_| 0).collect(alloc)
 }
 
 // An issued response is shown without such a number.
@@ -135,8 +146,12 @@ impl Listed for IssuedEntry {
         Ok(0)
     }
 
-    fn ask_in_list<O: Office>(&self, _office: &mut O) -> Result<u64, OfficeFault> {
-        Ok(0)
+    fn ask_all<O: Office>(
+        alloc: Global,
+        entries: &[IssuedEntry],
+        _office: &mut O,
+    ) -> Result<Vec<u64>, ListFault> {
+        Ok(zeros(alloc, entries)?)
     }
 
     fn to_object(&self, alloc: Global, _number: u64) -> Result<Value, AllocError> {
@@ -160,6 +175,16 @@ fn no_of(file: &Option<OutgoingEntry>) -> u64
     }
 }
 
+// The numbers of the files that responses answer, 0 where there is none.
+fn file_numbers(alloc: Global, answered: &[AnsweredEntry]) -> Result<Vec<u64>, AllocError>
+    ensures { IfOk result (λ numbers. numbers.items ≡ map file_answered answered.now) }
+{
+    answered
+        .iter()
+        .map(|response| response.file.unwrap_or(0))
+        .collect(alloc)
+}
+
 impl Listed for ReceivedEntry {
     ghost kind = { received_responses };
 
@@ -172,8 +197,14 @@ impl Listed for ReceivedEntry {
         Ok(no_of(&file))
     }
 
-    fn ask_in_list<O: Office>(&self, office: &mut O) -> Result<u64, OfficeFault> {
-        self.ask_beside(office)
+    // One look-up for all, however many there are.
+    fn ask_all<O: Office>(
+        alloc: Global,
+        _entries: &[ReceivedEntry],
+        office: &mut O,
+    ) -> Result<Vec<u64>, ListFault> {
+        let answered = office.list_answered()?;
+        Ok(file_numbers(alloc, answered.as_slice())?)
     }
 
     fn to_object(&self, alloc: Global, number: u64) -> Result<Value, AllocError> {
@@ -185,4 +216,20 @@ impl Listed for ReceivedEntry {
         let reason = reason_name(alloc, self.response.kind, self.response.reason)?;
         line(alloc, &received_details(self, reason.as_str(), number))
     }
+}
+
+/// All entries of a kind, and the numbers that are shown with them, in the same order.
+///
+/// # Errors
+///
+/// [`ListFault::Office`]: the office returned an error. [`ListFault::Memory`]: out of memory.
+pub(crate) fn list_with_numbers<E: Listed + Drop, O: Office>(
+    alloc: Global,
+    office: &mut O,
+) -> Result<(Vec<E>, Vec<u64>), ListFault>
+    ensures { Finds (λ r listed. (listed.0.items ≡ E.kind.entries r) × (listed.1.items ≡ map (E.kind.beside r) (E.kind.entries r))) (O.view office.old) (O.view office.new) result }
+{
+    let entries = E::list(office)?;
+    let numbers = E::ask_all(alloc, entries.as_slice(), office)?;
+    Ok((entries, numbers))
 }

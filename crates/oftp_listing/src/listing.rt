@@ -6,12 +6,12 @@ ghost use Rattle.serde_json.specs.View.{view};
 ghost use Rattle.serde_json.specs.Written.{comma_if, compact_text, has_float};
 ghost use Rattle.oftp_listing.specs.Finding.{Finds, IsDataBehind};
 ghost use Rattle.oftp_listing.specs.Heads.{Heard, Hears};
-ghost use Rattle.oftp_listing.specs.InsideListed.{object_in};
+ghost use Rattle.oftp_listing.specs.InsideListed.{object_in, objects_beside};
 ghost use Rattle.oftp_listing.specs.Texts.{Answers, Asks, IsListFault, Serves, is_asked, list_of, shown, shown_responses};
 
 use crate::fault::ListFault;
 use crate::head::{Head, read_head};
-use crate::listed::Listed;
+use crate::listed::{Listed, list_with_numbers};
 use crate::reply::{Reply, body_reply, error_reply};
 use crate::route::{Route, find_route};
 use http::StatusCode;
@@ -35,7 +35,28 @@ fn add_object(
     text.extend_from_slice(object.to_vec(alloc)?.as_slice())
 }
 
-// Appends the list of all entries of a kind to the text. Only one object is in memory at a time.
+// Appends the list of the objects of entries, each with the number beside it. Only one object is in memory at a time.
+fn add_objects<E: Listed>(
+    alloc: Global,
+    front: Vec<u8>,
+    entries: &[E],
+    numbers: &[u64],
+) -> Result<Vec<u8>, AllocError>
+    ensures { IfOk result (λ text. text.items ≡ front.items ++ compact_text (list_of (objects_beside E.kind entries.now numbers.now))) }
+{
+    let mut text = front;
+    text.extend_from_slice(b"[")?;
+    let mut later = false;
+    for (entry, number) in entries.iter().zip(numbers) {
+        let object = entry.to_object(alloc, *number)?;
+        add_object(alloc, &object, later, &mut text)?;
+        later = true;
+    }
+    text.extend_from_slice(b"]")?;
+    Ok(text)
+}
+
+// Appends the list of all entries of a kind to the text.
 fn add_list<E: Listed + Drop, O: Office>(
     alloc: Global,
     front: Vec<u8>,
@@ -44,18 +65,8 @@ fn add_list<E: Listed + Drop, O: Office>(
     ensures finds { Finds (λ r text. text.items ≡ front.items ++ compact_text (list_of (map (object_in E.kind r) (E.kind.entries r)))) (O.view office.old) (O.view office.new) result }
     ensures shows { IfOk result (λ text. IsDataBehind front.items text.items) }
 {
-    let entries = E::list(office)?;
-    let mut text = front;
-    text.extend_from_slice(b"[")?;
-    let mut later = false;
-    for entry in &entries {
-        let beside = entry.ask_in_list(office)?;
-        let object = entry.to_object(alloc, beside)?;
-        add_object(alloc, &object, later, &mut text)?;
-        later = true;
-    }
-    text.extend_from_slice(b"]")?;
-    Ok(text)
+    let (entries, numbers) = list_with_numbers::<E, O>(alloc, office)?;
+    Ok(add_objects(alloc, front, entries.as_slice(), numbers.as_slice())?)
 }
 
 // The text of all responses.

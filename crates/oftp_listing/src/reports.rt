@@ -7,14 +7,14 @@ ghost use Rattle.oftp_io.specs.Ports.{Puts};
 ghost use Rattle.oftp_listing.specs.declared.fault.ListFault.TheVariants.{Memory};
 ghost use Rattle.oftp_listing.specs.Details.{text_of};
 ghost use Rattle.oftp_listing.specs.Finding.{Finds};
-ghost use Rattle.oftp_listing.specs.InsideListed.{line_in};
+ghost use Rattle.oftp_listing.specs.InsideListed.{line_in, lines_beside};
 ghost use Rattle.oftp_listing.specs.Names.{reason_name, refusal_name};
 ghost use Rattle.oftp_listing.specs.Reports.{Reports, TextOut, WriterTold, heading, incoming_fields, issued_fields, line, outgoing_fields, received_fields, report_of};
 ghost use Rattle.oftp_listing.specs.Texts.{Asks};
 
 use crate::detail::Detail;
 use crate::fault::ListFault;
-use crate::listed::Listed;
+use crate::listed::{Listed, list_with_numbers};
 use crate::names::{
     digit_text, format_name, incoming_state_name, is_sent, kind_name, name_text,
     outgoing_state_name, reason_name, refusal_name, response_name,
@@ -158,6 +158,23 @@ pub(crate) fn received_details<'a>(
     ]
 }
 
+// Appends the lines of entries, each with the number beside it.
+fn add_each_line<E: Listed>(
+    alloc: Global,
+    front: Vec<u8>,
+    entries: &[E],
+    numbers: &[u64],
+) -> Result<Vec<u8>, ListFault>
+    ensures text { IfOk result (λ text. text.items ≡ front.items ++ lines_beside E.kind entries.now numbers.now) }
+    ensures fault { IfErr result (λ fault. fault ≡ Memory) }
+{
+    let mut text = front;
+    for (entry, number) in entries.iter().zip(numbers) {
+        text.extend_from_slice(entry.to_line(alloc, *number)?.as_slice())?;
+    }
+    Ok(text)
+}
+
 // Appends the lines of all entries of a kind to the text.
 fn add_lines<E: Listed + Drop, O: Office>(
     alloc: Global,
@@ -166,13 +183,8 @@ fn add_lines<E: Listed + Drop, O: Office>(
 ) -> Result<Vec<u8>, ListFault>
     ensures finds { Finds (λ r text. text.items ≡ front.items ++ flat_map (line_in E.kind r) (E.kind.entries r)) (O.view office.old) (O.view office.new) result }
 {
-    let entries = E::list(office)?;
-    let mut text = front;
-    for entry in &entries {
-        let beside = entry.ask_in_list(office)?;
-        text.extend_from_slice(entry.to_line(alloc, beside)?.as_slice())?;
-    }
-    Ok(text)
+    let (entries, numbers) = list_with_numbers::<E, O>(alloc, office)?;
+    add_each_line(alloc, front, entries.as_slice(), numbers.as_slice())
 }
 
 // The text of a report.

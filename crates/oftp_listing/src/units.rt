@@ -1,15 +1,18 @@
-//! The number of octets of a file that the office returned in a list.
+//! The number of octets of each file that the office returned in a list.
 
-ghost use Rattle.std.specs.Prelude.{◌≡◌, ◌≤◌, length};
+ghost use Rattle.std.specs.Prelude.{◌≡◌, ◌≤◌, length, map};
 ghost use Rattle.oftp_vfile.specs.VirtualFile.{units_in};
 ghost use Rattle.oftp_register.specs.LookUps.{file_rows, units_of};
 ghost use Rattle.oftp_register.specs.Offices.{LooksUp};
 ghost use Rattle.oftp_register.specs.Units.{units_in_blocks};
 ghost use Rattle.oftp_register.specs.declared.fit.TheConstants.{MOST_UNITS};
-ghost use Rattle.oftp_listing.specs.InsideListed.{IsListed};
+ghost use Rattle.oftp_listing.specs.Finding.{Finds};
+ghost use Rattle.oftp_listing.specs.InsideListed.{EntryKind, IsAmong, IsListed, incoming_files, outgoing_files};
 
-use oftp_register::{Office, OfficeFault, Side};
+use crate::fault::ListFault;
+use oftp_register::{IncomingEntry, Office, OfficeFault, OutgoingEntry, Side};
 use oftp_vfile::{BLOCK, Format, Rows};
+use std::alloc::Global;
 
 // The number of octets of these rows, of which there is at most one.
 fn octets_of(rows: &Rows) -> u64
@@ -34,13 +37,9 @@ fn ask_blocks<O: Office>(office: &mut O, side: Side, no: u64, rows: u64) -> Resu
     )
 }
 
-/// The number of octets of a file that the office returned in a list, with its number, its format, its longest record in octets and its
-/// number of rows. In format F no row is read, in U and T the last one, and in V the office measures each.
-///
-/// # Errors
-///
-/// Those of the office.
-pub(crate) fn ask_units<O: Office>(
+// The number of octets of a file that the office returned in a list, with its number, its format, its longest record in octets and its
+// number of rows. In format F no row is read, in U and T the last one, and in V the office measures each.
+fn ask_units<O: Office>(
     office: &mut O,
     side: Side,
     no: u64,
@@ -55,4 +54,64 @@ pub(crate) fn ask_units<O: Office>(
         Format::Variable => office.units_of(side, no),
         Format::Unstructured | Format::Text => ask_blocks(office, side, no, rows),
     }
+}
+
+/// A kind of file, whose entries in a list say how it is measured.
+pub(crate) trait Measured: Sized {
+    // its entries in a register, and the number of octets of one
+    ghost kind: { EntryKind Self };
+
+    /// The number of octets of a file that the office returned in a list.
+    fn ask_in_list<O: Office>(&self, office: &mut O) -> Result<u64, OfficeFault>
+        ensures looks { LooksUp (λ r units. IsAmong self.now (kind.entries r) → units ≡ kind.beside r self.now) (O.view office.old) (O.view office.new) result };
+}
+
+impl Measured for IncomingEntry {
+    ghost kind = { incoming_files };
+
+    fn ask_in_list<O: Office>(&self, office: &mut O) -> Result<u64, OfficeFault> {
+        ask_units(
+            office,
+            Side::Incoming,
+            self.no,
+            self.format,
+            self.longest,
+            self.rows,
+        )
+    }
+}
+
+impl Measured for OutgoingEntry {
+    ghost kind = { outgoing_files };
+
+    fn ask_in_list<O: Office>(&self, office: &mut O) -> Result<u64, OfficeFault> {
+        ask_units(
+            office,
+            Side::Outgoing,
+            self.no,
+            self.format,
+            self.longest,
+            self.rows,
+        )
+    }
+}
+
+/// The numbers of octets of all files of a list that the office returned, in their order.
+///
+/// # Errors
+///
+/// [`ListFault::Office`]: the office returned an error. [`ListFault::Memory`]: out of memory.
+pub(crate) fn ask_each<F: Measured, O: Office>(
+    alloc: Global,
+    files: &[F],
+    office: &mut O,
+) -> Result<Vec<u64>, ListFault>
+    ensures { Finds (λ r numbers. files.now ≡ F.kind.entries r → numbers.items ≡ map (F.kind.beside r) (F.kind.entries r)) (O.view office.old) (O.view office.new) result }
+{
+    let mut numbers = Vec::with_capacity(alloc, files.len())?;
+    for file in files {
+        let units = file.ask_in_list(office)?;
+        numbers.push(units)?;
+    }
+    Ok(numbers)
 }

@@ -1,22 +1,16 @@
-use Rattle.std.proofs.Common.{◌∙◌, arith}
-use Rattle.oftp_listing.proofs.Listings.{is_among, listing_finds, listing_on, listing_shows, take_next}
+use Rattle.std.proofs.Common.{◌∙◌, ◌++◌, ap}
+use Rattle.serde_json.specs.Written.{compact_text}
+use Rattle.oftp_listing.specs.InsideListed.{objects_beside}
+use Rattle.oftp_listing.specs.Texts.{list_of}
+use Rattle.oftp_listing.proofs.Asking.{finds_made}
+use Rattle.oftp_listing.proofs.Listings.{objects_are}
 use Rattle.oftp_listing.proofs.listing.add_list.Goals as goal
 
-pub loop-entry-preserved : goal.loop-entry-preserved
-loop-entry-preserved g c =
-    let e = c.entry-item.result in
-    rw (take_next _ c.loop-entry.entry-index e c.loop-entry-test.true c.entry-item.is)
-    (listing_on g.E.Listed.kind.entries g.E.Listed.kind.beside g.E.Listed.kind.object _ _ _ _ _ _ _ _ e c.in_ok-beside.beside _ _
-    c.loop-entry.invariant (is_among _ c.loop-entry.entry-index e c.loop-entry-test.true c.entry-item.is) c.in_ok-beside.ensures.looks c.in_ok-object.ensures.object c.in_ok-add_object.ensures)
-
 pub returns-clause-finds : goal.returns-clause-finds
-returns-clause-finds g c = record {
-  asks = c.loop-entry.invariant.asks;
-  answer = λ k s. c.in_ok-extend_from_slice-2.ensures.items ∙ listing_finds _ _ _ _ _ c.loop-entry.entry-index _ _ _ c.loop-entry.invariant (omega arith) k s;
-  counts = c.loop-entry.invariant.untold;
-}
+returns-clause-finds g c =
+    finds_made _ _ _ _ c.in_ok-entries.ensures tt (λ r told.
+    c.in_ok-add_objects.ensures ∙ ap (λ ds. c.args.front.items ++ compact_text (list_of ds))
+    (objects_are g.E.Listed.kind r _ _ (c.as_slice.ensures.value ∙ told.0) (c.as_slice-2.ensures.value ∙ told.1)))
 
 pub returns-clause-shows : goal.returns-clause-shows
-returns-clause-shows g c =
-    let shows = listing_shows _ _ _ _ _ _ _ _ _ c.loop-entry.invariant in
-    (shows.0, c.in_ok-extend_from_slice-2.ensures.items ∙ shows.1)
+returns-clause-shows g c = (list_of (objects_beside g.E.Listed.kind _ _), c.in_ok-add_objects.ensures)

@@ -4,7 +4,8 @@ use Rattle.serde_json.specs.Written.{compact_text}
 use Rattle.oftp_register.specs.LookUps.{list_issued, list_received}
 use Rattle.oftp_listing.specs.Objects.{issued_object, members}
 use Rattle.oftp_listing.specs.Texts.{list_of, shown_received, shown_responses}
-use Rattle.oftp_listing.proofs.Listings.{finds_both, two_values}
+use Rattle.oftp_listing.proofs.Asking.{finds_both}
+use Rattle.oftp_listing.proofs.Listings.{two_values}
 use Rattle.oftp_listing.proofs.listing.responses.Goals as goal
 
 pub returns-clause-finds : goal.returns-clause-finds

@@ -1,12 +1,12 @@
-use Rattle.oftp_listing.proofs.Listings.{is_among, take_next}
-use Rattle.oftp_listing.proofs.Reporting.{report_on}
-use Rattle.oftp_listing.specs.Reports.{line}
+use Rattle.std.proofs.Common.{◌∙◌, ◌++◌, ap}
+use Rattle.std.proofs.lemmas.Result.{IfOk-weaker}
+use Rattle.oftp_listing.proofs.Asking.{finds_made}
+use Rattle.oftp_listing.proofs.Reporting.{lines_are}
 use Rattle.oftp_listing.proofs.reports.add_lines.Goals as goal
 
-pub loop-entry-preserved : goal.loop-entry-preserved
-loop-entry-preserved g c =
-    let e = c.entry-item.result in
-    rw (take_next _ c.loop-entry.entry-index e c.loop-entry-test.true c.entry-item.is)
-    (report_on g.E.Listed.kind.entries g.E.Listed.kind.beside (λ e n. line (g.E.Listed.kind.fields e n)) _ _ _ _ _ _ _ e c.in_ok-beside.beside _ _
-    c.loop-entry.invariant (is_among _ c.loop-entry.entry-index e c.loop-entry-test.true c.entry-item.is)
-    c.in_ok-beside.ensures.looks c.in_ok-to_line.ensures.text (rw c.as_slice.ensures.value at c.in_ok-extend_from_slice.ensures.items))
+pub returns : goal.returns
+returns g c = record {
+  finds = finds_made _ _ _ c.add_each_line.result c.in_ok-entries.ensures c.add_each_line.ensures.fault (λ r told.
+      IfOk-weaker c.add_each_line.result _ _ (λ text is. is ∙ ap (λ ls. c.args.front.items ++ ls)
+      (lines_are g.E.Listed.kind r _ _ (c.as_slice.ensures.value ∙ told.0) (c.as_slice-2.ensures.value ∙ told.1))) c.add_each_line.ensures.text);
+}

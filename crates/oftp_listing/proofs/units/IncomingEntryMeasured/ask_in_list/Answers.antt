@@ -1,5 +1,5 @@
 use Rattle.oftp_listing.proofs.ListedUnits.{incoming_listed, looks_weaker}
-use Rattle.oftp_listing.proofs.listed.IncomingEntryListed.ask_in_list.Goals as goal
+use Rattle.oftp_listing.proofs.units.IncomingEntryMeasured.ask_in_list.Goals as goal
 
 pub returns : goal.returns
 returns g c = record {

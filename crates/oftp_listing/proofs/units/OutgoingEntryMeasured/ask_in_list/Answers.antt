@@ -1,5 +1,5 @@
 use Rattle.oftp_listing.proofs.ListedUnits.{outgoing_listed, looks_weaker}
-use Rattle.oftp_listing.proofs.listed.OutgoingEntryListed.ask_in_list.Goals as goal
+use Rattle.oftp_listing.proofs.units.OutgoingEntryMeasured.ask_in_list.Goals as goal
 
 pub returns : goal.returns
 returns g c = record {
