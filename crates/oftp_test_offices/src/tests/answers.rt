@@ -4,7 +4,8 @@ use super::act::Act;
 use super::asking::Ask;
 use super::playing::{FEW, Step, play_at, play_both, same};
 use Ask::{
-    ByNo, Change, Full, Limits, LookIn, LookOut, Next, Received, Responses, Rows, Told, Units,
+    Answered, ByNo, Change, Full, Limits, LookIn, LookOut, Next, Received, Responses, Rows, Told,
+    Units,
 };
 use ResponseKind::{EndResponse, NegativeEndResponse};
 use Side::{Incoming, Outgoing};
@@ -88,6 +89,9 @@ const ANSWERS: &[(Ask, &str)] = &[
     (Change(Act::HandOver(2)), "made"),
     (Next(b"O1", 0, 1, true), "response 3"),
     (Next(b"O1", 3, 1, true), "nothing"),
+    // The first two responses have no file. The third answers the second of three files.
+    (Change(Act::File(b"P", EndResponse, "")), "made"),
+    (Answered, "1 to none; 2 to none; 3 to 2; "),
 ];
 
 // The database's files.

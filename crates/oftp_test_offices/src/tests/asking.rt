@@ -2,7 +2,7 @@
 
 use super::act::{Act, code, identity};
 use super::serving::session_line;
-use super::telling::{add_rows, files_of_number, kept, told, told_of_file};
+use super::telling::{add_rows, answered, files_of_number, kept, told, told_of_file};
 use oftp_register::{Cause, Cursor, Item, Office, OfficeFault, ResponseKind, Side};
 use std::alloc::{AllocError, Global};
 
@@ -37,6 +37,8 @@ pub(super) enum Ask {
     Received(ResponseKind, &'static [u8]),
     /// How many responses were issued, and how many were received.
     Responses,
+    /// The received responses, each with the number of the file that it answers.
+    Answered,
     /// Whether the tables of incoming and of outgoing files are full.
     Full,
     /// The limits of files and of octets.
@@ -187,6 +189,7 @@ pub(super) fn answer<O: Office>(
         Ask::ByNo(no) => by_no(alloc, office, no),
         Ask::Received(kind, dataset) => received(alloc, office, kind, dataset),
         Ask::Responses => responses(alloc, office),
+        Ask::Answered => answered(alloc, office),
         Ask::Full => full(alloc, office),
         Ask::Limits => Ok(two(alloc, office.limits().files, office.limits().octets)?),
     }

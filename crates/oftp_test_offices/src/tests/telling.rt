@@ -2,8 +2,8 @@
 
 use super::act::{code, identity};
 use oftp_register::{
-    Cursor, Identity, IncomingEntry, IssuedEntry, IssuedResponse, Item, Name, Note, Office,
-    OfficeFault, OutgoingEntry, OutgoingState, ReceivedEntry, ResponseKind, Side,
+    AnsweredEntry, Cursor, Identity, IncomingEntry, IssuedEntry, IssuedResponse, Item, Name, Note,
+    Office, OfficeFault, OutgoingEntry, OutgoingState, ReceivedEntry, ResponseKind, Side,
 };
 use oftp_vfile::{Format, Limits, Rows};
 use std::alloc::{AllocError, Global};
@@ -135,6 +135,14 @@ fn add_received(all: &mut String, entry: &ReceivedEntry) -> Result<(), AllocErro
     add_octets(all, response.creator.octets())?;
     let note = response.text.as_str();
     write!(all, " {note}; ")
+}
+
+fn add_answered(all: &mut String, entry: &AnsweredEntry) -> Result<(), AllocError> {
+    let no = entry.no;
+    match entry.file {
+        Some(file) => write!(all, "{no} to {file}; "),
+        None => write!(all, "{no} to none; "),
+    }
 }
 
 // Adds the octets of a file.
@@ -322,6 +330,20 @@ fn add_all_issued<O: Office>(all: &mut String, office: &mut O) -> Result<(), Off
     Ok(())
 }
 
+fn add_all_answered<O: Office>(all: &mut String, office: &mut O) -> Result<(), OfficeFault> {
+    for entry in &office.list_answered()? {
+        add_answered(all, entry)?;
+    }
+    Ok(())
+}
+
+/// The received responses, each with the file that it answers, by their numbers.
+pub(super) fn answered<O: Office>(alloc: Global, office: &mut O) -> Result<String, OfficeFault> {
+    let mut all = String::new(alloc);
+    add_all_answered(&mut all, office)?;
+    Ok(all)
+}
+
 fn add_numbers<O: Office>(all: &mut String, office: &mut O) -> Result<(), OfficeFault> {
     for no in 0..office.limits().files + 2 {
         add_number(all, office, no)?;
@@ -356,6 +378,7 @@ fn add_limits<O: Office>(all: &mut String, office: &mut O) -> Result<(), OfficeF
 pub(super) fn told<O: Office>(alloc: Global, office: &mut O) -> Result<String, OfficeFault> {
     let mut all = kept(alloc, office)?;
     add_all_issued(&mut all, office)?;
+    add_all_answered(&mut all, office)?;
     add_numbers(&mut all, office)?;
     add_files(&mut all, office)?;
     add_all_next(&mut all, office)?;

@@ -5,8 +5,8 @@ ghost use Rattle.oftp_register.specs.Offices.{Counts, IsFailure};
 
 use crate::given::LIMITS;
 use oftp_register::{
-    Change, Cursor, Identity, IncomingEntry, IssuedEntry, Item, Name, Office, OfficeFault,
-    OutgoingEntry, PlainOffice, ReceivedEntry, ResponseKind, Side,
+    AnsweredEntry, Change, Cursor, Identity, IncomingEntry, IssuedEntry, Item, Name, Office,
+    OfficeFault, OutgoingEntry, PlainOffice, ReceivedEntry, ResponseKind, Side,
 };
 use oftp_vfile::{Limits, Rows};
 use std::alloc::Global;
@@ -231,6 +231,12 @@ impl Office for Noting {
     fn list_received(&mut self) -> Result<Vec<ReceivedEntry>, OfficeFault> {
         self.opened()?;
         let found = self.office.list_received();
+        self.counted(found)
+    }
+
+    fn list_answered(&mut self) -> Result<Vec<AnsweredEntry>, OfficeFault> {
+        self.opened()?;
+        let found = self.office.list_answered();
         self.counted(found)
     }
 
