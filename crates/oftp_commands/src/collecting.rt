@@ -22,7 +22,7 @@ pub fn collect(rt: &HostRuntime, line: &Collect<'_>, out: &mut impl Write) -> Re
         book: &book,
         office: database::open_shared(rt, line.files.database)?,
     };
-    folders::collect(rt, line, &folder, clerk, out).map(status_where)
+    Ok(status_where(folders::collect(rt, line, &folder, clerk, out)?))
 }
 
 /// Collects files by the station that has the database locked. Returns the exit status.
@@ -41,5 +41,5 @@ pub fn collect_beside(
         database: line.files.database,
         book: octets.as_slice(),
     };
-    folders::collect(rt, line, &folder, clerk, out).map(status_where)
+    Ok(status_where(folders::collect(rt, line, &folder, clerk, out)?))
 }

@@ -29,7 +29,7 @@ pub fn offer(rt: &HostRuntime, line: &Offer<'_>, out: &mut impl Write) -> Result
         book: &book,
         office: database::open_shared(rt, line.files.database)?,
     };
-    folders::offer(rt, line, &folder, clerk, out).map(status_where)
+    Ok(status_where(folders::offer(rt, line, &folder, clerk, out)?))
 }
 
 /// Offers files by the station that has the database locked. Returns the exit status.
@@ -47,7 +47,7 @@ pub fn offer_beside(rt: &HostRuntime, line: &Offer<'_>, out: &mut impl Write) ->
         database: line.files.database,
         book: octets.as_slice(),
     };
-    folders::offer(rt, line, &folder, clerk, out).map(status_where)
+    Ok(status_where(folders::offer(rt, line, &folder, clerk, out)?))
 }
 
 /// The exit status if no file at all can be offered with this command line. The refusal is printed then.

@@ -136,11 +136,11 @@ fn carry_out_alone(
     err: &mut impl Write,
 ) -> Result<u8, Fault> {
     match line {
-        Line::Submit(submit) => commands::submit(rt, submit, out).map(status_of),
+        Line::Submit(submit) => Ok(status_of(commands::submit(rt, submit, out)?)),
         Line::Offer(offer) => commands::offer(rt, offer, out),
         Line::Collect(collect) => commands::collect(rt, collect, out),
-        Line::Release(release) => commands::release(rt, release, out).map(status_of),
-        Line::Refuse(refuse) => commands::refuse(rt, refuse, out).map(status_of),
+        Line::Release(release) => Ok(status_of(commands::release(rt, release, out)?)),
+        Line::Refuse(refuse) => Ok(status_of(commands::refuse(rt, refuse, out)?)),
         Line::Report(what) => {
             commands::write_report(rt, what, out)?;
             Ok(DONE)
