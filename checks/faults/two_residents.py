@@ -26,7 +26,6 @@ import contextlib
 import itertools
 import random
 import re
-import select
 import shutil
 import signal
 import socket
@@ -50,6 +49,7 @@ from listing_files import ask
 from pairs import IDENTITY, MOST, STAMP, answered, book_of, local_form, promised, rows_here, settings_of, taken_back, twice
 from passage import Passage, Said, Trouble, Usual
 from program import PROGRAM
+from ready import ready_to_read
 from services import Resident
 from staying import OPENS, StayingStation, converse, frame, held_port
 
@@ -602,7 +602,7 @@ class Pair:
         """Passes on who calls: the station of this place is the caller."""
         caller, listener = self.stations[place], self.stations[1 - place]
         while not self.is_over.is_set() or self.is_calm:
-            ready, _, _ = select.select([self.posts[place]], [], [], 0.05)
+            ready = ready_to_read([self.posts[place]], 0.05)
             if ready:
                 self.do_beside(self.pass_on, self.posts[place].accept()[0], caller, listener)
 

@@ -23,7 +23,6 @@ kept. The last line is `N passed, M failed`.
 import argparse
 import contextlib
 import random
-import select
 import socket
 import subprocess
 import sys
@@ -40,6 +39,7 @@ import tables
 from killed import Wrong
 from pairs import STAMP, answered, book_of, local_form, promised, settings_of, taken_back
 from passage import TROUBLES, Passage, Trouble, Usual
+from ready import ready_to_read
 from staying import Services, held_port
 
 PAIRS = 4
@@ -98,7 +98,7 @@ class Session(Passage):
 
     def play(self):
         """It returns the line that each program printed, the caller's first."""
-        while select.select([self.post], [], [], 0)[0]:
+        while ready_to_read([self.post], 0):
             self.post.accept()[0].close()  # one that was killed before
         self.programs = [self.start(1), self.start(0)][::-1]
         try:
@@ -133,7 +133,7 @@ class Session(Passage):
                 return end
 
     def caller(self):
-        ready, _, _ = select.select([self.post], [], [], 0.005)
+        ready = ready_to_read([self.post], 0.005)
         return self.post.accept()[0] if ready else None
 
     def listener(self):

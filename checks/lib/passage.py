@@ -3,13 +3,13 @@
 It breaks within a frame or after a number of octets, by an end, a reset or silence in one direction, or a station is killed.
 """
 
-import select
 import socket
 import struct
 import time
 from collections import Counter
 
 import oftp
+from ready import ready_to_read
 from services import LONG, Wrong
 
 
@@ -167,7 +167,7 @@ class Passage:
             return
         is_silent = any(side.is_silent for side in self.sides)
         wait = 0.1 if is_silent else self.wait()
-        ready, _, _ = select.select([side.source for side in self.open], [], [], wait)
+        ready = ready_to_read([side.source for side in self.open], wait)
         self.is_open = bool(ready) or not is_silent
         if not ready and wait == LONG:
             raise Wrong("nothing passes any more")

@@ -3,13 +3,13 @@
 import collections
 import itertools
 import os
-import select
 import socket
 import subprocess
 import time
 from pathlib import Path
 
 from program import PROGRAM
+from ready import ready_to_read
 from row_files import ROWS
 
 BOOK = ROWS / "books/usual.toml"
@@ -119,7 +119,7 @@ class Service:
         until = time.monotonic() + self.patience
         streams = list(streams)
         while not any(b"\n" in self.texts[stream] for stream in streams):
-            ready, _, _ = select.select(streams, [], [], max(until - time.monotonic(), 0))
+            ready = ready_to_read(streams, max(until - time.monotonic(), 0))
             piece = os.read(ready[0].fileno(), 4096) if ready else b""
             if ready and not piece and len(streams) > 1:
                 # What ended may have told why on the other one.

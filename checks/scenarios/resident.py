@@ -9,7 +9,6 @@ Each case has a port and a database of its own, and all run at once, so it takes
 import contextlib
 import os
 import resource
-import select
 import signal
 import socket
 import stat
@@ -31,6 +30,7 @@ import staying
 import tables
 from passage import Passage
 from program import PROGRAM
+from ready import ready_to_read
 from services import BOOK, CARMAKER, LONG, NotTried, Resident, Wrong, expect, free_port, port_of_ipv6, rest_of
 
 # What may be added to any time on a machine with other work.
@@ -519,7 +519,7 @@ def what_waits_for_the_end(room):
         with started(service, "refuse", "1", "12", "no") as refuse, started(service, "backup", copy) as backup, call(service, book) as called:
             time.sleep(3)
             expect([program.poll() for program in (refuse, backup, called)], [None] * 3, "whether they wait")
-            expect((copy.exists(), select.select([partner], [], [], 0)[0]), (False, []), "whether there is a copy, or a call")
+            expect((copy.exists(), ready_to_read([partner], 0)), (False, []), "whether there is a copy, or a call")
             caller.sendall(NOTHING_WAITING.joined("in")[len(SSID) :])
             expect(service.line() + "\n", f"session {CARMAKER} in: {NOTHING_WAITING.end[1]}", "the line")
             expect(told(refuse), (0, b"done: refuse 1\n", b""), "refuse")
@@ -925,7 +925,7 @@ class Meeting:
 
     def pass_all(self):
         while not self.is_over.is_set():
-            for post in select.select(self.posts, [], [], 0.05)[0]:
+            for post in ready_to_read(self.posts, 0.05):
                 self.pass_on(post.accept()[0], self.posts.index(post))
 
     def pass_on(self, end, place):
@@ -1138,7 +1138,7 @@ def clock_of_several_partners(room):
                 greet_and_leave(connection)
         lines = [service.line() for _ in range(2)]
         expect(lines, [f"session {code} out: end: input" for code in (codes[0], codes[2])], "the lines")
-        expect(select.select([posts[1]], [], [], 2)[0], [], "whether it calls one for whom nothing waits")
+        expect(ready_to_read([posts[1]], 2), [], "whether it calls one for whom nothing waits")
 
 
 def clock_of_who_only_calls(room):
@@ -1307,7 +1307,7 @@ def most_requests_at_once(room):
         while held_by(service) < before + 64:
             within(begin, 0, "the time until 64 are kept")
             time.sleep(0.02)
-        answered = select.select(callers[64:], [], [], 3)[0]
+        answered = ready_to_read(callers[64:], 3)
         # Each of the 64 has ten seconds.
         if answered and time.monotonic() - begin < 10:
             raise Wrong(f"{len(answered)} are answered beside 64")
