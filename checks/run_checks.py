@@ -8,8 +8,9 @@
 Checks that measure time or memory run alone, one after another. All others run in parallel before them, as many as there are processors.
 With `--quick` the program is the checked one, and what only the gate builds is left out. The program is that of OFTP_STATION, or else
 crates/oftp_station/out/oftp_station. If a check fails, or doesn't end within its time limit, the whole run fails; the others run
-nevertheless. The last lines say what wasn't tried, and what was missing; where CI is `true` that fails too, if apt-get has it. The very
-last line is `N passed, M failed`: the rows that passed, or the checks if the rows aren't among them, and the checks that failed.
+nevertheless, and what those printed last that failed is printed again at the end. The last lines say what wasn't tried, and what was
+missing; where CI is `true` that fails too, if apt-get has it. The very last line is `N passed, M failed`: the rows that passed, or the
+checks if the rows aren't among them, and the checks that failed.
 """
 
 import argparse
@@ -28,6 +29,8 @@ from typing import NamedTuple, Optional
 ROOT = Path(__file__).resolve().parent.parent
 # The time limit of a check. The longest takes some ten minutes on two processors; this is for one that hangs.
 LIMIT = 3600
+# How many of the last lines of a check that failed are printed again.
+LAST = 12
 ALONE = True
 
 
@@ -64,16 +67,23 @@ CHECKS = [
     Check("broken residents", "python3 checks/faults/two_stations.py --residents", "two that hold their databases, whose connection breaks"),
     Check("two residents", "python3 checks/faults/two_residents.py", "two that hold their databases, with operators, cut off and killed at random"),
     Check("two services", "python3 checks/faults/two_services.py", "two stations as processes, cut off and killed at random moments"),
+    Check("three stations", "python3 checks/faults/three_stations.py", "three stations as processes, and a fourth partner that sends anything"),
     Check("kills", "python3 checks/faults/kill_at_random.py", "the program, killed at random moments"),
     Check("backups", "python3 checks/faults/backups.py", "backups while files are handed in, and either program is killed"),
     Check("folders killed", "python3 checks/faults/folders.py", "files that are collected and offered, and either program is killed"),
     Check("random sessions", "python3 checks/scenarios/fuzz.py --seconds 20", "random sessions, over the program and over a model of a station"),
+    Check("schedule", "python3 checks/scenarios/schedule.py", "rows of schedules and random events, over the schedule and a model of it", is_of_gate=True),
     Check("command lines", "python3 checks/scenarios/command_lines.py", "command lines, with what each prints, makes and leaves"),
     Check("listing", "python3 checks/scenarios/listing.py", "requests for what a database holds, and reports of it"),
     Check("sqlite", "python3 checks/scenarios/stock_sqlite.py", "the databases that the program writes and refuses, by stock sqlite3"),
     Check("example of services", "bash examples/two_stations.sh", "two stations on this machine that hold their databases, one of them killed"),
     Check("example of a day", "bash examples/a_day.sh | diff examples/a_day.stdout -", "the commands of a day"),
-    Check("documents", "python3 checks/scenarios/documents.py", "what the documents say of the commands, and the days that they show"),
+    Check(
+        "documents",
+        "python3 checks/scenarios/documents.py --verify",
+        "what the documents say of the commands, the days that they show, and how a promise is verified",
+        quick="python3 checks/scenarios/documents.py",
+    ),
     Check("octets", "python3 checks/scenarios/spell_examples.py", "the octets of examples/, against the rows that spell them"),
     Check("books", "python3 checks/scenarios/book_faults.py", "the faults of partner books"),
     Check("units", "bash checks/scenarios/service_files.sh", "the units of examples/service"),
@@ -91,18 +101,20 @@ CHECKS = [
     Check("database", "python3 checks/speed/database_cost.py --assert", "what a register in a database costs, beside stock sqlite3", ALONE),
     Check("growth", "python3 checks/speed/growth.py --assert", "what a station that holds its database takes as its register grows", ALONE),
     Check("beside empty", "python3 checks/speed/beside_empty.py --assert", "what such a station takes over a large register, beside an empty one", ALONE),
+    Check("records", "python3 checks/speed/list_of_records.py", "what a list takes beside files of very many records", ALONE),
     Check("page", "python3 checks/scenarios/page.py", "the page for people, in a browser", ALONE),
     Check("sizes", "python3 checks/speed/sizes.py", "files, texts, books and credits at their limits", ALONE),
 ]
 
 
-# What some checks need besides the program, under the name by which they say that it is missing: what is looked for, and the packages of
-# apt-get that have it.
+# What some checks need besides the program, under the name by which they say that it is missing: the programs or files that are looked for, and
+# the packages of apt-get that have them. That of the standard's text is in Debian's section non-free.
 WANTED = {
     "a C compiler": (["cc"], ["gcc", "libc6-dev"]),
     "systemd": (["systemd-analyze"], ["systemd"]),
     "stunnel": (["stunnel", "openssl"], ["stunnel4", "openssl"]),
     "a browser": (["chromium"], ["chromium", "fonts-dejavu-core"]),
+    "the text of RFC 5024": (["/usr/share/doc/RFC/informational/rfc5024.txt.gz"], ["doc-rfc-informational"]),
 }
 # How a check begins the line of what it couldn't try.
 NOT_TRIED = "NOT TRIED without "
@@ -110,7 +122,7 @@ NOT_TRIED = "NOT TRIED without "
 
 def is_there(name):
     sought, _ = WANTED[name]
-    return all(shutil.which(it) for it in sought)
+    return all(shutil.which(it) or os.path.isfile(it) for it in sought)
 
 
 def has_done(*words):
@@ -242,6 +254,13 @@ def tell_not_tried(left_out, came):
     return [f"what wants {name}, which apt-get has" for name in had]
 
 
+def tell_failed(came):
+    """Prints again what the checks that failed printed last, since that of the others may lie between."""
+    for check, (is_well, lines) in came.items():
+        if not is_well:
+            print("\n".join([f"== {check.name} FAILED:", *lines[-LAST:]]))
+
+
 def find_program():
     """Gives the checks the program by its absolute path, because they run it in folders of their own. It returns whether it exists."""
     program = Path(os.environ.get("OFTP_STATION", ROOT / "crates/oftp_station/out/oftp_station")).absolute()
@@ -282,6 +301,7 @@ def main():
     RUNNING.leave_room()
     failed = [check.name for check, (is_well, _) in came.items() if not is_well]
     failed += tell_not_tried(left_out, came)
+    tell_failed(came)
     if failed:
         print(f"FAILED: {', '.join(failed)}")
     print(f"{passed(came)} passed, {len(failed)} failed")

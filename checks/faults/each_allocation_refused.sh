@@ -157,6 +157,7 @@ none_behind_reservation() {
 book=$root/examples/supplier/book.toml
 program=${OFTP_STATION:-$root/crates/oftp_station/out/oftp_station}
 each_of_program check --book "$book"
+each_of_program help
 each_of_program feed --book "$book" "$root/examples/repeated_end_response.octets" answer
 each_of_program feed --book "$book" "$root/examples/one_file.octets" answer
 each_of_program feed --book "$book" --trace trace "$root/examples/repeated_end_response.octets" answer

@@ -1,24 +1,32 @@
 #!/usr/bin/env python3
-"""Lets calls of the program for sockets and for a trace fail, and checks what it does when it gives a file its name.
+"""Lets calls of the program for sockets, for a trace and for files of a folder fail, puts others' files between two of its calls, and checks
+what it does when it gives a file its name.
 
     checks/faults/edge_calls.py
 
 Out of memory is reported as such, wherever the machine has none, and any other error as before. A caller that is gone before it is
 accepted, or that can't be accepted for the moment, ends no service. A fetched file and a backup are synced before they get their names,
-and the names before the line is printed. It needs a C compiler. The last line is `N passed, M failed`.
+and the names before the line is printed. A file that `offer` can't read or move for the moment waits for the next call, and the others don't; a
+link or a pipe that comes between its look and its open isn't followed, nor by `collect`; and one that is killed between the taking of a file and
+its submission takes no file of another folder for its own. One that is killed at any call of a refusal leaves no line without its file for good.
+The lock of a folder that goes away between a look and an open is tried again. It needs a C compiler. The last line is `N passed, M failed`.
 """
 
 import bisect
+import contextlib
 import errno
+import fcntl
 import os
 import socket
 import subprocess
 import sys
 import tempfile
+import time
 from pathlib import Path
 
 sys.path.insert(0, str(Path(__file__).resolve().parents[1] / "lib"))
 
+import tables
 from program import PROGRAM
 from row_files import ROWS, Row
 from services import BOOK, CARMAKER, LONG, Resident, Service, Wrong, expect, free_port, rest_of
@@ -46,6 +54,14 @@ def ask(service, port=None):
     with service.caller() if port is None else socket.create_connection(("127.0.0.1", port), timeout=LONG) as client:
         client.sendall(b"GET /in HTTP/1.1\r\n\r\n")
         return rest_of(client)
+
+
+def first_of(connection, count):
+    """This many octets, or those before the end."""
+    octets = b""
+    while len(octets) < count and (piece := connection.recv(count - len(octets))):
+        octets += piece
+    return octets
 
 
 def sockets_without_memory(room, library):
@@ -144,6 +160,33 @@ def callers_of_a_station_that_pass(room, library):
             service.ends()
 
 
+def door_of_a_station_that_fails(room, library):
+    """An error of one of its three listeners that doesn't pass ends a station. It prints nothing for it but the fault."""
+    for place in range(3):
+        folder = room / str(place)
+        folder.mkdir()
+        ports = [free_port(), free_port()]
+        failed = failing(library, "accept4", errno.EINVAL, 1000)
+        failed["FAIL_PORT"] = str([*ports, 0][place])
+        with Resident(folder, "--http-port", str(ports[1]), port=ports[0], environment=failed) as service:
+            service.ends(1, SOCKET.encode())
+            expect(service.socket.exists(), False, "whether the socket is left")
+
+
+def door_that_fails_within_a_session(room, library):
+    """Nor is the session carried on, and its line says why."""
+    steps = Row(ROWS / "listening/nothing_waiting.row").sessions()[0].steps
+    begun = room / "begun"
+    failed = {**failing(library, "accept4", errno.EINVAL), "FAIL_PORT": "0", "FAIL_FROM": str(begun)}
+    with Resident(room, environment=failed) as service, service.caller() as caller:
+        caller.sendall(steps[1][1])
+        opened = b"".join(octets for side, octets in steps[:3] if side == "out")
+        expect(first_of(caller, len(opened)), opened, "the station sent")
+        begun.touch()
+        expect(service.line(), f"session {CARMAKER} in: fault: 8 socket", "the line")
+        service.ends(1, SOCKET.encode())
+
+
 def name_is_kept(room, library):
     given = room / "given"
     given.write_bytes(Row(ROWS / "receiving/one_octet.row").sessions()[0].joined("in"))
@@ -170,13 +213,230 @@ def name_of_a_backup_is_kept(room, library):
         expect_kept(room, library, "done: backup\n", "backup", "--db", service.database, "copy")
 
 
+MOMENT = 1_706_770_800_123_400_000
+TAKEN = f"20240201_0700001234_INV.1_{CARMAKER}"
+OTHER_TAKEN = f"20240201_0700001234_INV.2_{CARMAKER}"
+REFUSED = f"INV.1_20240201_0700001234_{CARMAKER}"
+# What refuses each file whose length isn't a multiple of 3, and the line for it.
+IN_THREES = ("--format", "F", "--longest", "3")
+IN_NONE = "refused: 5 field\n"
+LOCK = ".oftp_station_lock"
+INCOMING = f"0000001_ASN.0001_20240131_1015300001_{CARMAKER}"
+
+
+def put(folder, octets, name="INV.1"):
+    """A file to be offered, always with the same last change."""
+    folder.mkdir(exist_ok=True)
+    (folder / name).write_bytes(octets)
+    os.utime(folder / name, ns=(MOMENT, MOMENT))
+
+
+def words_of_offer(folder="out"):
+    return ["offer", "--db", "database", "--book", BOOK, "--to", CARMAKER, "--from", folder]
+
+
+def offer(room, environment, folder="out", rest=()):
+    return run(room, environment, *words_of_offer(folder), *rest)
+
+
+def handed_in(room):
+    """The outgoing files: the time and the content of each."""
+    found = tables.read(room / "database")
+    return [(entry["time"], b"".join(tables.bodies(found, "out_file", entry["no"]))) for entry in found["out_file"]]
+
+
+def names(folder):
+    return sorted(path.name for path in folder.iterdir())
+
+
+def put_away(room):
+    """What is taken, sent and refused."""
+    return [names(room / "out" / name) for name in ("taken", "sent", "refused")]
+
+
+def taken_file_that_cannot_be_read_now(room, library):
+    """It stays where it is, behind its line, and the next call hands it in."""
+    for call, number in (
+        ("open", errno.EMFILE),
+        ("open", errno.ENFILE),
+        ("open", errno.EIO),
+        ("open", errno.EACCES),
+        ("open", errno.ENOMEM),
+        ("read", errno.EIO),
+        ("read", errno.ENOMEM),
+    ):
+        what = f"a file whose {call} fails by {number}"
+        here = room / f"{call}_{number}"
+        here.mkdir()
+        put(here / "out", b"CONTENT")
+        told = offer(here, failing(library, call, number, 9, TAKEN))
+        expect(told, (1, "", MEMORY) if number == errno.ENOMEM else (1, "fault: 7 file INV.1\n", ""), what)
+        expect(put_away(here), [[TAKEN], [], []], f"{what}: where it is")
+        expect(offer(here, {}), (0, "done: offer 1 INV.1\n", ""), f"the next call behind {what}")
+        expect(handed_in(here), [("0700001234", b"CONTENT")], f"{what}: what is handed in")
+
+
+def file_that_cannot_be_moved(room, library):
+    """It stays in the folder, behind its line, and the others are handed in, also what an earlier call has taken."""
+    for number in (errno.EPERM, errno.EACCES, errno.EBUSY, errno.ENOMEM):
+        what = f"a file whose move fails by {number}"
+        here = room / str(number)
+        here.mkdir()
+        put(here / "out", b"TAKEN")
+        expect(offer(here, {"LD_PRELOAD": str(library), "KILL_PATH": TAKEN}), (-9, "", ""), "the call that is killed")
+        put(here / "out", b"STAYS")
+        put(here / "out", b"GOES", "INV.2")
+        told = offer(here, failing(library, "rename", number, 9, "/INV.1"))
+        if number == errno.ENOMEM:
+            expect((told, names(here / "out/taken")), ((1, "", MEMORY), [TAKEN]), what)
+            continue
+        expect(told, (1, "fault: 7 file INV.1\ndone: offer 1 INV.1\ndone: offer 2 INV.2\n", ""), what)
+        expect((here / "out/INV.1").read_bytes(), b"STAYS", f"{what}: what it has")
+        expect(handed_in(here), [("0700001234", b"TAKEN"), ("0700001234", b"GOES")], f"{what}: what is handed in")
+        expect(offer(here, {}), (0, "done: offer 3 INV.1\n", ""), f"the next call behind {what}")
+        expect(handed_in(here)[2:], [("0700001235", b"STAYS")], f"{what}: what is handed in then")
+
+
+def taken_file_that_cannot_be_moved(room, library):
+    """It stays where it is, behind its line, and the others go on. The next call puts it away, and hands it in no second time."""
+    failed = failing(library, "rename", errno.EPERM, 9, TAKEN)
+    for rest in ((), IN_THREES):
+        here = room / str(len(rest))
+        here.mkdir()
+        put(here / "out", b"CONTENT")
+        put(here / "out", b"OTHER", "INV.2")
+        is_refused = rest == IN_THREES
+        other = IN_NONE.replace("\n", " INV.2\n") if is_refused else "done: offer 2 INV.2\n"
+        expect(offer(here, failed, rest=rest), (1, f"fault: 7 file INV.1\n{other}", ""), f"a taken file that can't be moved {rest}")
+        name = f"INV.2_20240201_0700001234_{CARMAKER}"
+        wanted = [[], [name, f"{name}.line"]] if is_refused else [[f"0000002_{name}"], []]
+        expect(put_away(here), [[TAKEN], *wanted], f"where the files are {rest}")
+        expect(offer(here, {}), (0, "done: offer 1 INV.1\n", ""), f"the next call {rest}")
+        expect(len(handed_in(here)), 1 if is_refused else 2, f"how many files are handed in {rest}")
+
+
+def refusal_that_is_killed(room, library):
+    """At each of its calls that leave something: a file in `refused` has its whole line, and a line without its file is gone once the next call
+    has handed the file in, or has refused it."""
+    for again in ((), IN_THREES):
+        for number in range(1, 20):
+            here = room / f"{len(again)}_{number}"
+            here.mkdir()
+            put(here / "out", b"CONTENT")
+            stop = {"LD_PRELOAD": str(library), "STOP_PATH": REFUSED, "STOP_AT": str(number)}
+            told = offer(here, stop, rest=IN_THREES)
+            refused = here / "out/refused"
+            is_there = (refused / REFUSED).exists()
+            what = f"a call that is killed at call {number}"
+            expect(names(here / "out/taken"), [] if is_there else [TAKEN], f"what is taken behind {what}")
+            wanted = (0, "", "") if is_there else (1, IN_NONE.replace("\n", " INV.1\n"), "") if again else (0, "done: offer 1 INV.1\n", "")
+            expect(offer(here, {}, rest=again), wanted, f"the next call behind {what}")
+            left = [REFUSED, f"{REFUSED}.line"] if is_there or again else []
+            expect(names(refused), left, f"what is refused behind {what} and the next one")
+            if left:
+                expect((refused / left[1]).read_text(), IN_NONE, f"the line behind {what} and the next one")
+            expect(names(here / "out/taken"), [], f"what is taken behind {what} and the next one")
+            if told[0] != -9:
+                break
+        expect(number >= 5, True, f"whether {number - 1} calls are enough")
+
+
+def lock_that_goes_away(room, library):
+    """Between a look and an open: it is tried again as if it had been locked, also where another command's is there then."""
+    for look in (1, 2):
+        for kind in ("nothing", "another", "a held one"):
+            here = room / f"{look} {kind}"
+            here.mkdir()
+            put(here / "out", b"CONTENT")
+            for path in (here / "out" / LOCK, here / "another"):
+                path.touch(0o600)
+            held = os.open(here / "another", os.O_RDWR)
+            if kind == "a held one":
+                fcntl.flock(held, fcntl.LOCK_EX)
+            swap = {"SWAP_PATH": LOCK, "SWAP_LOOK": str(look), "SWAP_FILE": "" if kind == "nothing" else str(here / "another")}
+            how = {"cwd": here, "env": {**os.environ, "LD_PRELOAD": str(library), **swap}}
+            with subprocess.Popen([PROGRAM, *words_of_offer()], stdout=subprocess.PIPE, stderr=subprocess.PIPE, **how) as program:
+                time.sleep(0.5 if kind == "a held one" else 0)
+                os.close(held)
+                told = program.communicate(timeout=LONG)
+            expect((program.returncode, *told), (0, b"done: offer 1 INV.1\n", b""), f"a lock behind whose look {look} is {kind}")
+
+
+def taken_file_that_is_exchanged(room, library):
+    """What comes to its place between two calls of the program isn't read: neither a link's target, nor a pipe, which nobody writes."""
+    for target in ("secret", None):
+        for look in (1, 2, 3, 4):
+            here = room / f"{target}_{look}"
+            here.mkdir()
+            (here / "secret").write_bytes(b"SECRET")
+            put(here / "out", b"CONTENT")
+            swap = {"LD_PRELOAD": str(library), "SWAP_PATH": TAKEN, "SWAP_LOOK": str(look)}
+            status, out, err = offer(here, swap | ({"SWAP_TARGET": str(here / "secret")} if target else {}))
+            what = f"{target or 'a pipe'} behind look {look}"
+            expect([content for _, content in handed_in(here) if content != b"CONTENT"], [], f"{what}: what else is handed in")
+            expect((here / "secret").read_bytes(), b"SECRET", f"{what}: what the link leads to")
+            is_told = (status, out) == (0, "done: offer 1 INV.1\n") or status == 1 and "fault: 7 file" in out + err
+            expect(is_told, True, f"{what}: whether {out!r} and {err!r} are told")
+
+
+def name_that_is_taken_before_it_is_collected(room, library):
+    """A link that comes to the name of a file between two calls of the program isn't followed, and nothing is released beside it."""
+    given = room / "given"
+    given.write_bytes(Row(ROWS / "receiving/one_octet.row").sessions()[0].joined("in"))
+    for look in (1, 2, 3):
+        here = room / str(look)
+        here.mkdir()
+        (here / "in").mkdir()
+        (here / "kept").write_bytes(b"KEPT")
+        expect(run(here, {}, "feed", "--db", "database", "--book", BOOK, given, "/dev/null")[0], 0, "the session")
+        swap = {"LD_PRELOAD": str(library), "SWAP_PATH": INCOMING, "SWAP_LOOK": str(look), "SWAP_TARGET": str(here / "kept")}
+        told = run(here, swap, "collect", "--db", "database", "--book", BOOK, "--to", "in", "--release")
+        what = f"a link behind look {look}"
+        expect((here / "kept").read_bytes(), b"KEPT", f"{what}: what it leads to")
+        path = here / "in" / INCOMING
+        is_written = path.is_file() and not path.is_symlink() and path.read_bytes() == b"A"
+        issued = [entry["no"] for entry in tables.read(here / "database")["issued"]]
+        wanted = ((0, f"done: collect 1 {INCOMING}\n", ""), [1]) if is_written else ((1, "", FILE), [])
+        expect((told, issued), wanted, f"{what}: what is told, and what is released")
+
+
+def offer_that_is_killed_before_it_hands_in(room, library):
+    """Another folder's file of the same name and time is handed in meanwhile, and isn't taken for its own; nor is a file of the same content
+    lost, which the register has then under that name and time."""
+    for content, is_beside in ((b"OTHER", False), (b"OTHER", True), (b"CONTENT", False), (b"CONTENT", True)):
+        here = room / f"{content.decode()}_{is_beside}"
+        here.mkdir()
+        put(here / "one", b"CONTENT")
+        put(here / "two", content)
+        with Resident(here) if is_beside else contextlib.nullcontext():
+            told = offer(here, {"LD_PRELOAD": str(library), "KILL_PATH": TAKEN}, "one")
+            expect((told, names(here / "one/taken")), ((-9, "", ""), [TAKEN]), "the call that is killed, and what it has taken")
+            expect(offer(here, {}, "two"), (0, "done: offer 1 INV.1\n", ""), "the other folder's")
+            no = 1 if content == b"CONTENT" else 2
+            expect(offer(here, {}, "one"), (0, f"done: offer {no} INV.1\n", ""), "the next call")
+            expect(offer(here, {}, "one"), (0, "", ""), "one more call")
+        wanted = [("0700001234", content), ("0700001235", b"CONTENT")][:no]
+        expect(handed_in(here), wanted, "what is handed in")
+        expect(names(here / "one/sent"), [f"000000{no}_INV.1_20240201_{wanted[-1][0]}_{CARMAKER}"], "what is put away")
+
+
 CASES = [
+    taken_file_that_cannot_be_read_now,
+    file_that_cannot_be_moved,
+    taken_file_that_cannot_be_moved,
+    refusal_that_is_killed,
+    lock_that_goes_away,
+    taken_file_that_is_exchanged,
+    name_that_is_taken_before_it_is_collected,
+    offer_that_is_killed_before_it_hands_in,
     sockets_without_memory,
     trace_without_memory,
     trace_whose_allocations_are_refused,
     callers_that_pass,
     requests_that_pass,
     callers_of_a_station_that_pass,
+    door_of_a_station_that_fails,
+    door_that_fails_within_a_session,
     name_is_kept,
     name_of_a_backup_is_kept,
 ]
@@ -191,7 +451,7 @@ def main():
             room.mkdir()
             try:
                 case(room, library)
-            except (Wrong, OSError, subprocess.SubprocessError, ValueError) as why:
+            except (Wrong, OSError, subprocess.SubprocessError, tables.Damaged, ValueError) as why:
                 failed += 1
                 print(f"{case.__name__.replace('_', ' ')}: {type(why).__name__}: {why}")
     print(f"{len(CASES) - failed} passed, {failed} failed")

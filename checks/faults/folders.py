@@ -4,13 +4,14 @@
     checks/faults/folders.py [--seconds N | --minutes N] [--seed N]       20 seconds, and another seed each time, where none is given
 
 Each trial begins with a database of incoming files, some of them open, some answered, and a folder with files of others. It calls `collect`,
-with its release or without, until a call comes to an end; or it puts files into a folder, some of them under a name and a moment of change
-that were there before, and calls `offer` until a call comes to an end. Each call but the last is killed, or the station is. Behind each call the
-folders and the tables are looked at, by stock sqlite3. Of `collect`: no name in the folder has half a file or another's, and each file that is
-released is there. Of `offer`: each file is in one place, and the register has none twice. Behind the last call each file that was to be
-collected is there once, and released once where that was asked for; each file that was offered is in the register once and is put away; and one
-more call does nothing. It goes on behind its time until enough of each were killed. The seed is printed, and at a failure all that is left is
-kept in a folder. The last line is `N passed, M failed`.
+with its release or without, until a call comes to an end; or it puts files into two folders, under the same names and moments of change, some
+of which were there before, and calls `offer` for either until a call for each comes to an end. Each call but the last is killed, or the station
+is. Behind each call the folders and the tables are looked at, by stock sqlite3. Of `collect`: no name in the folder has half a file or another's, and each file that is
+released is there. Of `offer`: each file is in one place, and the register has none twice. Some calls of `offer` are given a record length that
+no file has: each file in `refused` has its whole line then, and a line without its file is that of one in `taken`. What is refused is put into the
+folder again. Behind the last call each file that was to be collected is there once, and released once where that was asked for; each file that was
+offered is in the register once and is put away, and no line is left; and one more call does nothing. It goes on behind its time until enough of
+each were killed. The seed is printed, and at a failure all that is left is kept in a folder. The last line is `N passed, M failed`.
 """
 
 import argparse
@@ -33,6 +34,8 @@ from services import BOOK, CARMAKER, LONG, Resident, Wrong, expect
 
 OURS = "O0013SUPPLIER"
 DRAFT = ".oftp_station_"
+# The lock, which a kill leaves in a folder.
+LOCK = ".oftp_station_lock"
 KILLED = -9
 # How many commands have to be killed of each kind, and how many stations. Where fewer were when the time is up, it goes on for so many seconds
 # at most.
@@ -45,6 +48,11 @@ GONE = [b"fault: 3 office\n", b"fault: 6 store 1\n"]
 # What incoming files are called, with the name that each has in the folder.
 NAMES = {"A/B": "A+B", "..": "..", "-.&()": "-.&()", "A": "A", "SCHEDULE.1": "SCHEDULE.1", "Z" * 26: "Z" * 26}
 OTHERS = {"lower.case": b"A", "NAME_WITH_A_LINE": b"B", ".HIDDEN": b"C"}
+# What refuses each file, since no length is a multiple of 3, and the line for it.
+IN_THREES = ("--format", "F", "--longest", "3")
+IN_NONE = b"refused: 5 field\n"
+# How many calls of a round do so, at most.
+MOST_REFUSING = 4
 
 
 class Trials:
@@ -90,14 +98,18 @@ class Trials:
     def words(self, command, *rest):
         return [PROGRAM, command, "--db", self.database, "--book", BOOK, *rest]
 
-    def until_done(self, words, look):
-        """Gives the command until a call comes to an end. Behind each it is looked at what is left."""
-        for number in range(MOST_CALLS):
-            told = self.call(words, number == MOST_CALLS - 1)
+    def until_done(self, commands, look):
+        """Gives one of the commands after another until a call of each comes to an end. Behind each call it is looked at what is left."""
+        left = list(commands)
+        for number in range(MOST_CALLS + len(commands)):
+            words = self.chance.choice(left)
+            told = self.call(words, number >= MOST_CALLS)
             look()
             if told is not None:
                 expect(told[::2], (0, b""), f"the last call, which told {told}")
-                return told[1].decode().splitlines()
+                left.remove(words)
+                if not left:
+                    return
         raise Wrong("no call comes to an end")
 
     def call(self, words, is_last):
@@ -165,7 +177,7 @@ class Trials:
             expect(missing, [], "what is released, and isn't there")
 
         before = dict(wanted)
-        self.until_done(words, look)
+        self.until_done([words], look)
         expect(collected(folder).keys(), before.keys(), "what is in the folder")
         issued = {entry["no"] for entry in self.tables()["issued"]}
         expect(issued - others, {no for no, _ in before.values()} if releases else set(), "what is released")
@@ -206,46 +218,56 @@ class Trials:
     # ---- offer
 
     def offer(self, is_beside):
-        """Files are put into a folder and offered, some of them again under the same name and the same moment of change."""
+        """Files are put into two folders and offered, under the same names and moments of change, also again."""
         chance = self.chance
-        folder = self.room_now / "out"
-        folder.mkdir()
-        for name, octets in OTHERS.items():
-            (folder / name).write_bytes(octets)
+        folders = [self.room_now / name for name in ("out", "other")]
+        for folder in folders:
+            folder.mkdir()
+            for name, octets in OTHERS.items():
+                (folder / name).write_bytes(octets)
         if is_beside:
             self.start_station()
         names = [f"INV.{number}" for number in range(6)]
         moments = [1706770800_123400000 + number * 100_000 for number in range(2)]
-        words = self.words("offer", "--to", CARMAKER, "--from", folder)
+        commands = [self.words("offer", "--to", CARMAKER, "--from", folder) for folder in folders]
         offered = {}
 
         def look():
-            places = contents(folder)
+            places = contents(folders)
             expect(shown(places), shown(offered), "the files that there are, each in one place, by the beginnings of their contents")
             handed_in = registered(self.tables())
             expect(len(set(handed_in)), len(handed_in), "how many files the register has, of their contents")
             gone = [octets for octets, place in places.items() if place.parent.name == "sent" and octets not in handed_in]
             expect(shown(gone), [], "what is put away, and isn't in the register")
+            expect([folder for folder in folders if has_wrong_lines(folder)], [], "where a refused file and a line don't go together")
 
         for _ in range(chance.randint(1, 3)):
             for name in chance.sample(names, chance.randint(1, len(names))):
-                octets = os.urandom(chance.choice([16, 1024, 40_000]))
-                draft = folder / "draft"
-                draft.write_bytes(octets)
                 moment = chance.choice(moments)
-                os.utime(draft, ns=(moment, moment))
-                draft.rename(folder / name)
-                offered[octets] = name
-            self.until_done(words, look)
-            places = contents(folder)
+                for folder in folders:
+                    octets = os.urandom(chance.choice([16, 1024, 40_000]))
+                    draft = folder / "draft"
+                    draft.write_bytes(octets)
+                    os.utime(draft, ns=(moment, moment))
+                    draft.rename(folder / name)
+                    offered[octets] = name
+            for _ in range(chance.randint(0, MOST_REFUSING)):
+                self.call([*chance.choice(commands), *IN_THREES], False)
+                look()
+            self.until_done(commands, look)
+            while any([put_back(folder) for folder in folders]):
+                self.until_done(commands, look)
+            expect([refused_in(folder) for folder in folders], [[], []], "what is left of refusals")
+            places = contents(folders)
             expect({place.parent.name for place in places.values()}, {"sent"}, "where the files are")
             expect(shown(registered(self.tables())), shown(offered), "what the register has, by the beginnings of the contents")
-        done = subprocess.run(words, capture_output=True, timeout=LONG, check=False)
-        expect((done.returncode, done.stdout, done.stderr), (0, b"", b""), "one more call")
-        expect(sorted(path.name for path in folder.iterdir() if path.is_file()), sorted(OTHERS), "the files of others")
+        for folder, words in zip(folders, commands):
+            done = subprocess.run(words, capture_output=True, timeout=LONG, check=False)
+            expect((done.returncode, done.stdout, done.stderr), (0, b"", b""), "one more call")
+            expect(sorted(path.name for path in folder.iterdir() if path.is_file()), sorted(OTHERS), "the files of others")
         for entry in self.tables()["out_file"]:
             name = f"{entry['no']:07}_{entry['dataset']}_{entry['date']}_{entry['time']}_{CARMAKER}"
-            octets = (folder / "sent" / name).read_bytes()
+            octets = next(path for path in (folder / "sent" / name for folder in folders) if path.exists()).read_bytes()
             expect(offered[octets], entry["dataset"], f"the name of {name}")
         self.count("trials of offer")
 
@@ -264,11 +286,42 @@ def collected(folder):
     return {path.name: path.read_bytes() for path in paths}
 
 
-def contents(folder):
+def refused_in(folder):
+    """What is in the folder of refused files, and their lines."""
+    refused = folder / "refused"
+    return sorted(refused.iterdir()) if refused.exists() else []
+
+
+def has_wrong_lines(folder):
+    """Whether a refused file hasn't its whole line beside it, or a line is neither that of a refused file nor that of a taken one."""
+    for path in refused_in(folder):
+        if path.suffix == ".line":
+            dataset, date, clock, code = path.stem.split("_")
+            is_right = path.with_suffix("").exists() or (folder / "taken" / f"{date}_{clock}_{dataset}_{code}").exists()
+        else:
+            line = path.with_name(f"{path.name}.line")
+            is_right = line.exists() and line.read_bytes() == IN_NONE
+        if not is_right:
+            return True
+    return False
+
+
+def put_back(folder):
+    """Puts refused files into their folder again, without their lines. Whether there were any."""
+    files = [path for path in refused_in(folder) if path.suffix != ".line"]
+    for path in files:
+        place = folder / path.name.split("_")[0]
+        if not place.exists():
+            path.rename(place)
+            path.with_name(f"{path.name}.line").unlink()
+    return bool(files)
+
+
+def contents(folders):
     """Where each file is that was offered, by its octets. None is in two places."""
     places = {}
-    for path in folder.rglob("*"):
-        if path.is_file() and path.name not in OTHERS:
+    for path in (path for folder in folders for path in folder.rglob("*")):
+        if path.is_file() and path.name not in OTHERS and path.name != LOCK and path.suffix != ".line":
             octets = path.read_bytes()
             expect(octets in places, False, f"whether {path} is {places.get(octets)}, too")
             places[octets] = path

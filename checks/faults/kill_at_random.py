@@ -6,8 +6,8 @@
 Each trial runs one command over the database that earlier trials left: a session in which a file is received, through a pipe in pieces of
 random sizes; one in which a file is sent; one in which responses are received, or sent; `submit`; `release` or `refuse`. After a random
 time it is killed, unless it ended before. Then stock sqlite3 reads the tables, and the program lists them by `report`. They have to hold
-all changes that the octets and the lines answered, and at most the next one: never less, and never half a change. The next trial goes on
-from there. The check goes on beyond its time until a trial of each kind was killed, and fails if another five minutes bring none. The seed
+all changes that the octets and the lines answered, and at most the next one and what is in the same piece of the partner's octets: never less, and
+never half a change. The next trial goes on from there. The check goes on beyond its time until a trial of each kind was killed, and fails if another five minutes bring none. The seed
 is printed. After a failure all files are kept in a folder.
 
 Over each of the five databases `listen` and `http` run from the first trial to the last. Some of the sessions that receive something go to
@@ -35,6 +35,9 @@ from staying import Services, frame
 FULL = (BUFFER - 1) // 64 * 63 + max((BUFFER - 1) % 64 - 1, 0)
 WINDOW = FULL * CREDIT
 FILES_OF_A_DATABASE = 6
+# How many octets the program reads at once, at most. What is done of them before their answers go out is the next change, and all that follow it
+# within such a piece.
+PIECE = 4_096
 # Some trials of each kind have to be killed. If there was none when the time is up, the check goes on for at most this many seconds.
 LONGEST = 300
 PARTNER = {"originator": "O0177CARMAKER", "destination": "O0013SUPPLIER"}
@@ -91,7 +94,8 @@ class FileIn:
         if self.is_whole():
             frames, end = [], b""
         commands, is_broken = self.station.session(self.name, b"".join([OPENS, offer, *frames, end, ENDS]))
-        allowed = self.allowed(begin, len(frames), commands)
+        ends = self.ends(begin, len(OPENS + offer), [len(it) for it in frames], len(end))
+        allowed = self.allowed(begin, ends, commands)
         self.look()
         if self.left not in (allowed if is_broken else allowed[-1:]):
             raise Wrong(f"{self.left} is left, and it should be one of {allowed}")
@@ -110,19 +114,24 @@ class FileIn:
             raise Wrong("the rows kept aren't those that came")
         self.left = (file[0]["state"], len(bodies)) if file else None
 
-    def allowed(self, begin, frames, commands):
-        """What may be left: the last state that was answered, and the one after it."""
-        whole = ("whole", len(rows_of(self.octets)))
+    def ends(self, begin, opened, frames, end):
+        """The states one after another, each with the number of octets of the partner after which it is reached: before the file, once it has
+        begun, after each window, and whole."""
+        states = [(0, self.left), (opened, ("open", begin))]
+        for windows in range(1, len(frames) // CREDIT + 1):
+            states.append((opened + sum(frames[: windows * CREDIT]), self.kept_at(begin, windows)))
+        return [*states, (opened + sum(frames) + end, ("whole", len(rows_of(self.octets))))]
+
+    def allowed(self, begin, ends, commands):
+        """What may be left: the last state that was answered, the next one, and those that the same piece brings."""
         if self.is_whole() or count(commands, "EFPA"):
-            return [whole]
+            return [ends[-1][1]]
         answers = [fields for kind, fields in commands if kind == "SFPA"]
-        if not answers:
-            return [self.left, ("open", begin)]
-        if answers[0].get("count", str(begin)) != str(begin):
+        if answers and answers[0].get("count", str(begin)) != str(begin):
             raise Wrong(f"the station takes the file from row {answers[0]}, not {begin}")
-        windows = count(commands, "CDT")
-        behind = whole if windows == frames // CREDIT else self.kept_at(begin, windows + 1)
-        return [self.kept_at(begin, windows), behind]
+        first = 1 + count(commands, "CDT") if answers else 0
+        following = ends[first + 1 :]
+        return [ends[first][1], *(left for at, left in following if at < following[0][0] + PIECE)]
 
     def kept_at(self, begin, windows):
         """What is stored after this many windows: only full blocks."""
@@ -191,8 +200,8 @@ class FileOut:
         self.left = (file["state"], file["mark"])
 
     def allowed(self, begin, frames, commands):
-        """What may be left: each change that may be made after the last answered one. A CDT that was read is answered by the next DATA, and
-        the last one by EFID."""
+        """What may be left: each state from the last answered one on, since all that the partner sends is one piece. A CDT that was read is
+        answered by the next DATA, and the last one by EFID."""
         sent = count(commands, "DATA")
         states = self.states(begin, frames)
         if count(commands, "CD"):
@@ -200,8 +209,7 @@ class FileOut:
         if count(commands, "EFID"):
             return states[-2:]
         windows = -(-sent // CREDIT) - 1 if sent else 0
-        least = 1 + windows if sent else 0
-        return states[least : 2 + sent // CREDIT + (sent == frames)]
+        return states[1 + windows if sent else 0 :]
 
     def states(self, begin, frames):
         """The states of the file: before the session, once the start is answered, after each CDT, when its end is sent, and at the end."""
@@ -311,7 +319,8 @@ class Release:
         issued = self.look()
         sent = [row["sent"] for row in issued]
         least = self.sent + (len(kinds) if count(commands, "CD") else max(len(kinds) - 1, 0))
-        if sum(sent) not in (least, self.sent + len(kinds)) or sent != sorted(sent, reverse=True):
+        # The answers to all of them are one piece.
+        if not least <= sum(sent) <= len(self.issued) or sent != sorted(sent, reverse=True):
             raise Wrong(f"{kinds} went out from {self.sent} on, and {sent} are sent")
         self.sent = sum(sent)
 
@@ -339,7 +348,8 @@ class Responses:
         answered = count(commands, "RTR")
         received = self.station.tables()["received"]
         least = max(self.filed, first + answered)
-        if len(received) not in (least, max(self.filed, first + answered + 1)):
+        ahead = 1 + PIECE // min(map(len, sent))
+        if not least <= len(received) <= max(self.filed, first + min(answered + ahead, len(sent))):
             raise Wrong(f"{answered} were answered from {first} on, and {len(received)} are filed")
         for number, row in enumerate(received):
             if (row["dataset"], row["kind"]) != (f"INV.{number:04}", self.kind(number)):

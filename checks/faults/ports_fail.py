@@ -5,7 +5,7 @@
 
 The sessions are those of some rows, in memory if a row begins with one, and over the database that the acts before them leave. Each time
 the line, the octets out and the tables have to be those of the model of a station (checks/lib/model.py): everything that the octets
-received or sent answer, and the change whose answer was about to be written. Then the partner goes on. A file that it sent is offered
+received or sent answer, and what the piece asked for whose answers were about to be written. Then the partner goes on. A file that it sent is offered
 again, continues from the Restart position that the station answers, and is fetched whole, or it is refused by SFNA 13 because it is whole
 already. Otherwise the session is held once more. Reads and writes of one octet change nothing. It needs a C compiler. The last line is `N
 passed, M failed`.
@@ -91,7 +91,7 @@ class Broken:
             set_to["WRITE_MOST"] = str(place)
             set_to |= {"WRITE_NOTHING": "1"} if how == "nothing" else {}
             fault = "fault: 2 write\n"
-            left = [there for begin, there in session.moments if begin <= place][-1]
+            left = next(there for until, there in goes_on.after_pieces(self.act, self.register) if until > place)
             out = out[:place]
         elif how == "piece":
             set_to["PORT_PIECE"] = "1"

@@ -75,6 +75,7 @@ class Command:
         self.name = act.words[0] if isinstance(act, Call) else f"session {len(act.joined('in'))}"
         with tempfile.TemporaryDirectory() as room:
             self.line, self.whole, _, self.left = self.run(Path(room), {})
+            self.pieces = []
             self.states = self.all_states()
 
     def all_states(self):
@@ -85,7 +86,9 @@ class Command:
         states = [(0, before), (0, opened)]
         if isinstance(self.act, Call):
             return [*states, (0, self.left)]
-        session = goes_on.session_of(self.act, goes_on.register_of(opened))
+        register = goes_on.register_of(opened)
+        self.pieces = [out for out, _ in goes_on.after_pieces(self.act, register)]
+        session = goes_on.session_of(self.act, register)
         model.play(session, self.act.joined("in"))
         return states + [(out, {**found, **OURS}) for out, found in session.moments]
 
@@ -146,11 +149,12 @@ class Command:
             raise Wrong(f"{len(out)} octets and {line!r} are out, and the tables don't fit them")
 
     def allowed(self, line, out):
-        """The tables that may be left: those with each change that an octet answered, and at most the next one."""
+        """The tables that may be left: those with each change that an octet answered, and at most those of the piece that was heard next."""
         if line:
             return [self.left]
         first = max((at for at, (there, _) in enumerate(self.states) if there < len(out)), default=0)
-        return [left for there, left in self.states[first:] if there <= len(out)]
+        last = next((until for until in self.pieces if until > len(out)), len(out))
+        return [left for there, left in self.states[first:] if there <= last]
 
     def judge_next(self, room, left):
         """The program opens what is left, changes nothing of it, and does the same command again."""

@@ -92,9 +92,9 @@ class Browser:
 
 
 class Tab:
-    """A page of the browser in a window of this width, in a light or a dark scheme."""
+    """A page of the browser in a window of this width, in a light or a dark scheme, and in a time zone or that of this machine."""
 
-    def __init__(self, browser, width, height, scheme="light"):
+    def __init__(self, browser, width, height, scheme="light", zone=None):
         self.browser = browser
         self.target = browser.call("Target.createTarget", url="about:blank")["targetId"]
         self.session = browser.call("Target.attachToTarget", targetId=self.target, flatten=True)["sessionId"]
@@ -102,6 +102,8 @@ class Tab:
             self.call(f"{part}.enable")
         self.call("Emulation.setDeviceMetricsOverride", width=width, height=height, deviceScaleFactor=1, mobile=False)
         self.call("Emulation.setEmulatedMedia", features=[{"name": "prefers-color-scheme", "value": scheme}])
+        if zone:
+            self.call("Emulation.setTimezoneOverride", timezoneId=zone)
 
     def __enter__(self):
         return self

@@ -1,5 +1,6 @@
 """What a partner does after a session that broke, and what the station has to answer by the model of a station (checks/lib/model.py)."""
 
+import copy
 import subprocess
 import tomllib
 
@@ -14,6 +15,8 @@ from row_files import in_subrecords
 NAMES = {"dataset": "ASN.0001", "date": "20240131", "time": "1015300001", "destination": "O0013SUPPLIER", "originator": "O0177CARMAKER"}
 CARRIED = 125
 GREATEST = 10**17 - 1
+# How many octets of the partner the program reads at once, at most. All that they ask for is done before the first answer to them is sent.
+PIECE = 4_096
 
 
 class Wrong(Exception):
@@ -55,6 +58,15 @@ def register_of(found):
 def session_of(act, register):
     """The model's session for one of a row."""
     return Watched(book_of(act.book), register, act.role[-1] if act.role else None)
+
+
+def after_pieces(act, register):
+    """What is out and in the tables once so many pieces of a session's input were heard: before the first, after the first, and so on."""
+    octets = act.joined("in")
+    for heard in range(0, len(octets) + PIECE, PIECE):
+        session = session_of(act, copy.deepcopy(register))
+        model.play(session, octets[:heard])
+        yield sum(map(len, session.out)), session.register.tables()
 
 
 def compare(room, wanted):

@@ -37,6 +37,7 @@ class Given:
         self.is_bad = is_bad
         self.status = BAD if is_bad else 0
         self.output = None
+        self.is_unread = False
         self.most = None
         self.out = ""
         self.err = ""
@@ -48,12 +49,16 @@ class Given:
             self.words.append(octets_of(rest))
         elif first == "output":
             self.output = rest[0]
+        elif first == "unread":
+            self.is_unread = True
         elif first == "most":
             self.most = int(rest[0])
         elif first in ("out", "err"):
             setattr(self, first, f"{getattr(self, first)}{text}\n")
-        elif first == "help":
+        elif first == "help" and rest:
             self.err = (LINES / f"help_of_{rest[0]}.txt").read_text(encoding="utf-8")
+        elif first == "help":
+            self.out = (LINES / "help.txt").read_text(encoding="utf-8")
         elif first == "status":
             self.status = int(rest[0])
         elif first == "made":
@@ -85,18 +90,26 @@ class Given:
     def run(self, folder, left_out=()):
         """Runs the program with the arguments. It returns why the result differs, or None. Names that aren't given may have any content."""
         before = found_in(folder, left_out)
-        with open(self.output or os.devnull, "wb") as output:
+        with self.opened() as output:
             done = subprocess.run(
                 [PROGRAM, *self.words],
                 cwd=folder,
-                stdout=output if self.output else subprocess.PIPE,
+                stdout=output if self.output or self.is_unread else subprocess.PIPE,
                 stderr=subprocess.PIPE,
                 preexec_fn=self.limit,
-                restore_signals=False,  # so that a file that gets too long is an error of its write
+                restore_signals=self.most is None,  # if there is a limit, a file that gets too long is an error of its write
                 timeout=SECONDS,
                 check=False,
             )
         return self.why_otherwise(done) or self.why_changed(before, found_in(folder, left_out), left_out)
+
+    def opened(self):
+        """The file that is standard output, or a pipe that nobody reads."""
+        if not self.is_unread:
+            return open(self.output or os.devnull, "wb")
+        reader, writer = os.pipe()
+        os.close(reader)
+        return os.fdopen(writer, "wb")
 
     def limit(self):
         if self.most is not None:
@@ -355,7 +368,7 @@ def usages(commands):
     usage = ["", "Usage:", *(f"  {command.usage()}" for command in commands)]
     return [
         bad_line("no words", [], "error: a command is missing", *usage),
-        bad_line("help behind no command", ["--help"], "error: unknown command '--help'", *usage),
+        bad_line("an unknown command", ["listens", "--help"], "error: unknown command 'listens'", *usage),
     ]
 
 

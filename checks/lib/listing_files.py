@@ -23,9 +23,8 @@ MORE = ("fields", "field_up_to", "behind", "behind_up_to", "unfinished", "in_pie
 # ---- what a database holds, as it is shown
 
 
-def shown(database):
-    """The objects of each list, built from what stock sqlite3 reads."""
-    left = tables.read(database)
+def shown(left):
+    """The objects of each list, built from the rows of the tables."""
     kinds = {row["no"]: row["kind"] for row in left["issued"]}
     numbers = {identity_of(file): file["no"] for file in left["out_file"]}
     notes = {note["no"]: note for note in left["received_note"]}
@@ -69,8 +68,12 @@ def shown_file(file, sizes):
 
 
 def body_of(database, target):
-    """The JSON text that a target has to return."""
-    lists = shown(database)
+    """The JSON text that a target has to return, by what stock sqlite3 reads."""
+    return body_in(shown(tables.read(database)), target)
+
+
+def body_in(lists, target):
+    """The JSON text of these lists that a target has to return."""
     if target == "/responses":
         value = of(lists, "issued received")
     else:
@@ -82,8 +85,13 @@ def body_of(database, target):
 
 def check_report(database, kind, text):
     """The report, read by another CSV reader, has the content of the database."""
+    compare_report(shown(tables.read(database)), kind, text)
+
+
+def compare_report(lists, kind, text):
+    """The report, read by another CSV reader, has the content of these lists."""
     heading, *rows = csv.reader(io.StringIO(text, newline=""))
-    wanted = [[said(entry[name]) for name in heading] for entry in shown(database)[kind]]
+    wanted = [[said(entry[name]) for name in heading] for entry in lists[kind]]
     expect(rows, wanted, f"the report of {kind}, read by csv")
 
 
@@ -153,9 +161,9 @@ def reply_of(status, body):
     return "".join(f"{line}\r\n" for line in lines).encode() + body
 
 
-def ask(service, pieces, is_over=False):
+def ask(service, pieces, is_over=False, port=None):
     """The reply to these pieces. The caller keeps its side open, or ends its output."""
-    with service.caller() as caller:
+    with service.caller(port=port) as caller:
         caller.setsockopt(socket.IPPROTO_TCP, socket.TCP_NODELAY, 1)
         for piece in pieces:
             caller.sendall(piece)

@@ -126,6 +126,13 @@ class Register:
         if file and file["state"] in ("closing", "handed"):
             file["state"] = {"EERP": "delivered", "NERP": "returned"}[kind]
 
+    def copied(self):
+        """Another one with the same entries."""
+        copy = Register()
+        for table, entries in vars(self).items():
+            setattr(copy, table, [{**entry, "rows": [*entry["rows"]]} if "rows" in entry else {**entry} for entry in entries])
+        return copy
+
     def tables(self):
         """The rows of the tables for it."""
         files = ("in_file", "out_file")
@@ -140,6 +147,16 @@ class Register:
         return found
 
 
+def register_of(found):
+    """The register in these tables."""
+    register = Register()
+    register.in_file, register.out_file = ([{**file, "rows": tables.bodies(found, table, file["no"])} for file in found[table]] for table in ("in_file", "out_file"))
+    register.issued = [{**row} for row in found["issued"]]
+    notes = {row["no"]: row for row in found["received_note"]}
+    register.received = [{"creator": "", "note": "", **row, **notes.get(row["no"], {})} for row in found["received"]]
+    return register
+
+
 def without(entry, *names):
     return {name: value for name, value in entry.items() if name not in names}
 
@@ -150,6 +167,20 @@ def units(rows):
 
 def identity_of(fields):
     return {name: fields[name] for name in IDENTITY}
+
+
+# -- a book
+
+
+def text_of(book, address="127.0.0.1:1"):
+    """A book in the program's form, with this address for each partner."""
+    word = "true" if book["restart"] == "Y" else "false"
+    station = f"[station]\ncode = '{book['code']}'\nbuffer = {book['buffer']}\ncredit = {book['credit']}\nrestart = {word}\n"
+    lines = [station]
+    for code, partner in book["partners"].items():
+        words = "".join(f"{name} = '{value}'\n" for name, value in {"code": code, **partner, "address": address}.items())
+        lines.append(f"\n[[partner]]\n{words}")
+    return "".join(lines)
 
 
 # -- the content of files
@@ -536,20 +567,40 @@ STEPS = {
 TURNS = {"greets": Session.greet, "speaks": Session.speak, "sends": Session.send_next}
 
 
+class Hearing:
+    """A session that hears the octets of its partner in pieces, and takes each command once it is whole."""
+
+    def __init__(self, session):
+        self.session = session
+        self.octets = b""
+        self.at = 0
+
+    def hear(self, octets):
+        self.octets += octets
+        while self.session.end is None:
+            try:
+                command = next_command(self.octets, self.at)
+            except Fault as fault:
+                self.session.end_by(fault.reason)
+                return
+            if command is None:
+                return
+            self.at += 4 + len(command)
+            self.take(command)
+
+    def take(self, command):
+        self.session.take(command)
+
+    def ends(self):
+        """How it has ended if there are no more octets."""
+        return f"end: {' '.join(self.session.end or ['input'])}"
+
+
 def play(session, octets):
     """A session over all octets of a stream. It returns the line for its end."""
-    at = 0
-    while session.end is None:
-        try:
-            command = next_command(octets, at)
-        except Fault as fault:
-            session.end_by(fault.reason)
-            break
-        if command is None:
-            return "end: input\n"
-        at += 4 + len(command)
-        session.take(command)
-    return f"end: {' '.join(session.end)}\n"
+    hearing = Hearing(session)
+    hearing.hear(octets)
+    return f"{hearing.ends()}\n"
 
 
 # -- an operator's commands

@@ -7,7 +7,7 @@ import itertools
 import json
 import re
 import unicodedata
-from datetime import datetime, timedelta
+from datetime import datetime, timedelta, timezone
 from typing import NamedTuple, Optional
 
 US = "O0013SUPPLIER"
@@ -39,6 +39,11 @@ RETURNED_FOR = ["31", "04", "77", "35", "09", "11"]
 
 
 # ---- lists
+
+
+def utc_now():
+    """Now in UTC, as which the page reads the files' dates and times."""
+    return datetime.now(timezone.utc).replace(tzinfo=None)
 
 
 def stamp(moment, counter=1):
@@ -207,6 +212,7 @@ OUTGOING = {
     "handed": ("Handed over", "wait"),
     "delivered": ("Delivered", "good"),
     "refused": ("Refused by the partner", "bad"),
+    "duplicate": ("Refused as a duplicate", "act"),
     "returned": ("Returned (NERP)", "bad"),
 }
 RECEIVED = {"EERP": ("Delivered (EERP)", "good"), "NERP": ("Returned (NERP)", "bad")}
@@ -269,11 +275,11 @@ def about_file(file, partner):
 def shown(lists, now):
     """The rows of each view, newest first."""
     issues = {it["no"]: it for it in lists.issued}
-    negatives = {it["file"]: it for it in lists.received if it["kind"] == "NERP"}
+    responses = {it["file"]: it for it in lists.received}
     files = {it["no"]: it for it in lists.incoming}
     views = {
         "in": [shown_incoming(it, issues.get(it["no"])) for it in lists.incoming],
-        "out": [shown_outgoing(it, negatives.get(it["no"]), now) for it in lists.outgoing],
+        "out": [shown_outgoing(it, responses.get(it["no"]), now) for it in lists.outgoing],
         "received": [shown_received(it) for it in lists.received],
         "issued": [shown_issued(it, files[it["no"]]) for it in lists.issued],
     }
@@ -298,8 +304,10 @@ def shown_outgoing(file, response, now):
         state = "partly"
     if state == "closing" and (moment_of(file) or now) < now - timedelta(hours=1):
         state = "stuck"
+    if state == "refused" and file["reason"] == "13":
+        state = {"EERP": "delivered", "NERP": "returned"}[response["kind"]] if response else "duplicate"
     reason = note = None
-    if state == "refused":
+    if state in ("refused", "duplicate"):
         reason = reason_of(file["reason"], START_REASONS)
     elif state == "returned" and response:
         reason, note = reason_of(response["reason"], NEGATIVE_REASONS), plain(response["note"]) or None
@@ -327,6 +335,7 @@ def to_do(views):
         ("in", "To be released"): "to be released",
         ("out", "Not confirmed for long"): "not confirmed for long",
         ("out", "Refused by the partner"): "refused by a partner",
+        ("out", "Refused as a duplicate"): "refused as a duplicate",
         ("out", "Returned (NERP)"): "returned by a partner",
     }
     counts = {key: sum(row.words == key[1] for row in views[key[0]]) for key in sums}

@@ -78,21 +78,42 @@ def twice(held):
 # ---- what two stations promise
 
 
-def by_identity(held, table):
-    return {tuple(entry[name] for name in IDENTITY): entry for entry in held[table]}
+def is_between(entry, codes):
+    """Whether a file goes from the one code to the other; any does if no codes are given."""
+    return codes is None or (entry["originator"], entry["destination"]) == codes
 
 
-def promised(sender, receiver):
-    """Why the promise of two stations doesn't hold in this direction, or None. The first two checks are the promise; the third goes
-    further."""
-    there = by_identity(receiver, "in_file")
-    for identity, file in by_identity(sender, "out_file").items():
+def by_identity(held, table, codes=None):
+    return {tuple(entry[name] for name in IDENTITY): entry for entry in held[table] if is_between(entry, codes)}
+
+
+def promised(sender, receiver, codes=None):
+    """Why the promise of two stations doesn't hold in this direction, or None. Where they have other partners, it is of the files between
+    their two codes. The first two checks are the promise; the third goes further."""
+    there = by_identity(receiver, "in_file", codes)
+    for identity, file in by_identity(sender, "out_file", codes).items():
         came = there.pop(identity, None)
         why = content(sender, file, receiver, came) or responses(file, receiver, came) or beginning(sender, file, receiver, came)
         if why:
             return f"{why}: {file}, and there {came}"
     for came in there.values():
         return f"a file came that wasn't sent: {came}"
+    return None
+
+
+def left_of_promise(sender, receiver, codes, is_sender_new):
+    """Why what is left of the promise doesn't hold, or None, where one of the two has begun a new database: the sender, and then what it has as
+    handed over and as answered is so, or the receiver, and then what is whole there is the sender's."""
+    there, files = by_identity(receiver, "in_file", codes), by_identity(sender, "out_file", codes)
+    for identity, file in files.items() if is_sender_new else []:
+        came = there.get(identity)
+        why = file["state"] in ("handed", "delivered", "returned") and (content(sender, file, receiver, came) or responses(file, receiver, came))
+        if why:
+            return f"{why}: {file}, and there {came}"
+    for identity, came in there.items() if not is_sender_new else []:
+        file = files.get(identity)
+        if came["state"] == "whole" and (file is None or content(sender, file, receiver, came)):
+            return f"whole, and not the sender's: {came}, and here {file}"
     return None
 
 
@@ -123,12 +144,12 @@ def beginning(sender, file, receiver, came):
     return None if rows_here(sender, "out_file", file)[: len(kept)] == kept else "the rows kept don't begin the file"
 
 
-def answered(sender, receiver):
-    """Why a received response isn't one that was issued, word by word, or None."""
+def answered(sender, receiver, codes=None):
+    """Why a received response to a file, between these codes if any are given, isn't one that was issued, word by word, or None."""
     files = by_identity(receiver, "in_file")
     issued = {row["no"]: row for row in receiver["issued"]}
     notes = {row["no"]: (row["creator"], row["note"]) for row in sender["received_note"]}
-    for row in sender["received"]:
+    for row in (it for it in sender["received"] if is_between(it, codes)):
         came = files.get(tuple(row[name] for name in IDENTITY))
         there = issued.get(came["no"]) if came else None
         if there is None or (row["kind"], row["reason"]) != (there["kind"], there["reason"]):

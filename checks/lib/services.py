@@ -4,6 +4,7 @@ import collections
 import itertools
 import os
 import socket
+import struct
 import subprocess
 import time
 from pathlib import Path
@@ -16,6 +17,8 @@ BOOK = ROWS / "books/usual.toml"
 CARMAKER = "O0177CARMAKER"
 # The time limit for anything on a loaded machine.
 LONG = 60
+# What a station says to a command whose request it will read.
+READY = b"1"
 
 
 class Wrong(Exception):
@@ -84,8 +87,8 @@ class Service:
         self.program.kill()
         self.program.wait()
 
-    def caller(self, host="127.0.0.1", is_narrow=False):
-        """A connection to the service, which may not listen yet; a narrow one buffers few octets."""
+    def caller(self, host="127.0.0.1", is_narrow=False, port=None):
+        """A connection to the service, which may not listen yet, or to another port of it; a narrow one buffers few octets."""
         begin = time.monotonic()
         while True:
             caller = socket.socket(socket.AF_INET6 if ":" in host else socket.AF_INET)
@@ -94,7 +97,7 @@ class Service:
                 caller.setsockopt(socket.IPPROTO_TCP, socket.TCP_MAXSEG, 536)
                 caller.setsockopt(socket.SOL_SOCKET, socket.SO_RCVBUF, 4096)
             try:
-                caller.connect((host, self.port))
+                caller.connect((host, port or self.port))
                 return caller
             except ConnectionRefusedError:
                 caller.close()
@@ -178,6 +181,14 @@ class Resident(Service):
             client.connect(path)
         return client
 
+    def asked(self, book, content, *words):
+        """A connection through which a command has asked, by the octets of its book and of its file."""
+        client = self.client()
+        expect(client.recv(1), READY, "the first octet to a command")
+        parts = [book, content, *(word.encode() for word in words)]
+        client.sendall(struct.pack(">I", len(parts)) + b"".join(struct.pack(">I", len(part)) + part for part in parts))
+        return client
+
 
 class Short:
     """A short path to a file: through a descriptor of its folder, which is open meanwhile."""
@@ -199,3 +210,13 @@ def rest_of(connection):
     while piece := connection.recv(65536):
         octets += piece
     return octets
+
+
+def answer_to(client):
+    """The answer to a command: what goes to each outlet, and the exit status, which is None where the answer is cut off."""
+    octets, outlets = rest_of(client), {}
+    while octets[:1] not in (b"", b"\0"):
+        outlet, size = struct.unpack(">BI", octets[:5])
+        outlets[outlet] = outlets.get(outlet, b"") + octets[5 : 5 + size]
+        octets = octets[5 + size :]
+    return outlets, octets[1] if len(octets) == 2 else None

@@ -90,6 +90,14 @@ def is_heard(port):
     return f" 0100007F:{port:04X} 00000000:0000 0A " in Path("/proc/net/tcp").read_text()
 
 
+def is_asleep(process):
+    """Whether a process waits for something. Behind its listening, a service takes descriptors before it waits for the first time."""
+    try:
+        return Path(f"/proc/{process}/stat").read_text().rpartition(")")[2].split()[0] == "S"
+    except (FileNotFoundError, ProcessLookupError):
+        return False
+
+
 # ---- services
 
 
@@ -101,9 +109,9 @@ class Stays:
     callers = 0
 
     def begin(self):
-        """Waits until it listens, and notes its descriptors and memory before its first caller."""
+        """Waits until it listens and does nothing more, and notes its descriptors and memory before its first caller."""
         until = time.monotonic() + LONG
-        while not is_heard(self.port):
+        while not (is_heard(self.port) and is_asleep(self.program.pid)):
             if self.program.poll() is not None or time.monotonic() > until:
                 raise Wrong(f"{self.command} isn't heard")
             time.sleep(0.01)

@@ -3,8 +3,8 @@
 
     checks/lint/bounds.py
 
-A line of BOUNDS names a document, a pattern that finds the sentence there, and for each number in it where the code has it. A sentence that isn't
-found fails too. The last line is `N passed, M failed`.
+A line of BOUNDS names a document, a pattern that finds the sentence there, and for each number in it where the code has it, or where the table of
+crates in docs/PERFORMANCE.md does. A sentence that isn't found fails too. The last line is `N passed, M failed`.
 """
 
 import re
@@ -75,11 +75,30 @@ PATIENCE = constant(LINE, "MOST_PATIENCE")
 CALLERS = constant(LINE, "MOST_CALLERS")
 INTERVAL = constant(LINE, "MOST_INTERVAL")
 
+LONGEST_FRAME = constant("oftp_engine/src/conversation.rt", "LONGEST_FRAME")
+
 COMMANDS = variants("oftp_wire/src/command.rt", "Command")
 CHANGES = variants("oftp_register/src/change.rt", "Change")
 TABLES = count("CREATE TABLE", "oftp_tables/src/make.rt")
-DURABLE = count(r"^pub fn", "oftp_durable/src/**/*.rt") - count(r"^pub fn", "oftp_durable/src/laws.rt")
+DURABLE = count(r"^pub fn", "oftp_durable/src/**/*.rt") - sum(count(r"^pub fn", f"oftp_durable/src/{it}.rt") for it in ("laws", "life"))
 TAKE = clauses("oftp_vfile/src/taking.rt", "pub fn take(")
+
+
+def verified():
+    """The minutes that `rt ci` takes for a crate: what docs/PERFORMANCE.md has for the crate and for all below it."""
+    text = (ROOT / "docs/PERFORMANCE.md").read_text(encoding="utf-8")
+    seconds = {crate: int(taken.replace(",", "")) for crate, taken in re.findall(r"^\| (oftp_\w+) (?:\|[ \d,]*){4}\| ([\d,]+) \|$", text, re.M)}
+    lines = (ROOT / "crates.txt").read_text(encoding="utf-8").splitlines()
+    uses = {line.split(":")[0]: [it for it in line.split()[1:] if it in seconds] for line in lines}
+
+    def below(crate):
+        return {crate}.union(*(below(it) for it in uses[crate]))
+
+    return {crate: round(sum(seconds[it] for it in below(crate)) / 60) for crate in seconds}
+
+
+MINUTES = verified()
+MEASURED = [f"oftp_{it}" for it in ("register", "tables", "session", "store", "engine", "durable")]
 
 N = rf"([\d,]+|{'|'.join(WORDS)})"
 BOUNDS = [
@@ -119,6 +138,9 @@ BOUNDS = [
     ("docs/PROOF-MAP.md", rf"the {N} tables are made in one transaction", (TABLES,)),
     ("docs/PROMISES.md", rf"the contracts of {N} calls of crates/oftp_durable", (DURABLE,)),
     ("docs/CONTRIBUTING.md", rf"three of its {N} clauses", (TAKE,)),
+    ("docs/PROMISES.md", rf"a frame of more than {N} octets is refused", (LONGEST_FRAME,)),
+    ("docs/PROMISES.md", rf"named here {N} to {N} minutes of a processor", (MINUTES["oftp_register"], MINUTES["oftp_durable"])),
+    *(("docs/PERFORMANCE.md", rf"\b{N}\s+for {crate}\b", (MINUTES[crate],)) for crate in MEASURED),
 ]
 
 

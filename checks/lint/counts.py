@@ -3,8 +3,8 @@
 
     checks/lint/counts.py
 
-It counts rows, command lines, texts of books, files of rows/listing, worked examples, tests and wrong bodies, so that a lost one is
-noticed. A smaller number fails, because something was lost. A greater one fails too, until it is written down. The last line is `N passed, M
+It counts rows, command lines, texts of books, files of rows/listing, rows of schedules, worked examples, tests and wrong bodies, so that a lost
+one is noticed. A smaller number fails, because something was lost. A greater one fails too, until it is written down. The last line is `N passed, M
 failed`.
 """
 
@@ -18,6 +18,7 @@ import book_texts
 import line_files
 from program import ROOT
 from row_files import ROWS
+from schedule_rows import PARTS, SCHEDULES, headed
 
 WRITTEN = ROOT / "checks/lint/counts.txt"
 
@@ -51,6 +52,7 @@ def counted():
         "rows": len(list(ROWS.glob("*/*.row"))),
         "command lines": count_lines(),
         "listing files": len(list(ROWS.glob("listing/*.listing"))),
+        "rows of schedules": sum(len(headed(path, "row")) for path in SCHEDULES.glob("*.schedule") if path != PARTS),
         "texts of books": len(list(book_texts.cases())),
         "worked examples": calls,
         "lines that they answer": answers,

@@ -5,8 +5,9 @@
 
 The holder is a session of the program that waits for its partner, or this script, which takes the locks of SQLite as the program does. A
 second command waits for the database. If it is released within ten seconds, the command is carried out. Otherwise the command ends with
-`fault: 6 store 1`, and the holder's session goes on undisturbed. Meanwhile stock sqlite3 finds the database locked. All cases run in
-parallel, so it takes some twelve seconds. The last line is `N passed, M failed`.
+`fault: 6 store 1`, and the holder's session goes on undisturbed. Meanwhile stock sqlite3 finds the database locked. A command that waits for
+who writes or reads its pipe holds no database. All cases run in parallel, so it takes some twelve seconds. The last line is `N passed, M
+failed`.
 """
 
 import fcntl
@@ -23,6 +24,7 @@ sys.path.insert(0, str(Path(__file__).resolve().parents[1] / "lib"))
 
 import row_files
 from program import PROGRAM
+from services import free_port
 
 BOOK = row_files.ROWS / "books/usual.toml"
 # Where SQLite's locks on a database file are: the pending, the reserved and the shared ones.
@@ -136,6 +138,94 @@ def is_locked_for_others(holder, _command, _seconds):
         connection.close()
 
 
+def expect_free(database):
+    """Another command finds the database free, long before it would give up. It returns the report of the outgoing files."""
+    begin = time.monotonic()
+    done = subprocess.run([PROGRAM, "report", "--db", database, "out"], capture_output=True, timeout=PATIENCE + SLACK, check=False)
+    if (done.returncode, done.stderr) != (0, b"") or time.monotonic() - begin > PATIENCE - 1:
+        raise Wrong(f"a report beside it: status {done.returncode}, {done.stderr!r}, after {time.monotonic() - begin:.1f} s")
+    return done.stdout
+
+
+def begun(*words):
+    return subprocess.Popen([PROGRAM, *words], stdin=subprocess.PIPE, stdout=subprocess.PIPE, stderr=subprocess.PIPE)
+
+
+def submitting(database, book, file="/dev/stdin"):
+    """A command that submits a file, or what is written to it."""
+    identity = ["--dataset", "INV.1", "--date", "20240201", "--time", "0800000001", "--to", "O0177CARMAKER", "--format", "U"]
+    return begun("submit", "--db", database, "--book", book, *identity, file)
+
+
+def expect_ended(program, wanted, written=b""):
+    """It ends so, once this was written to it."""
+    out, err = program.communicate(written, timeout=PATIENCE + SLACK)
+    if (program.returncode, out, err) != wanted:
+        raise Wrong(f"{program.args[1]} ended with status {program.returncode}, {out!r}, {err!r}")
+
+
+def expect_submitted(database):
+    if b",U,1,2,0,waiting," not in expect_free(database):
+        raise Wrong(f"it submitted {expect_free(database)!r}")
+
+
+def submits_what_comes(room):
+    """`submit` reads a pipe before it opens the database. Its errors are told in the usual order."""
+    database = room / "database"
+    submit = submitting(database, BOOK)
+    time.sleep(1)
+    expect_free(database)
+    expect_ended(submit, (0, b"done: submit 1\n", b""), b"hi")
+    expect_submitted(database)
+    expect_ended(submitting(database, room / "none", room), (1, b"", b"fault: 7 file\n"))
+    expect_ended(submitting(database, BOOK, room), (1, b"", b"fault: 7 file\n"))
+    holds = ScriptHolds(database)
+    for program in [submitting(database, BOOK, room), submitting(database, BOOK)]:
+        expect_ended(program, (1, b"", b"fault: 6 store 1\n"), b"hi")
+    holds.give_up()
+
+
+def submits_beside_who_comes(room):
+    """What came from the pipe is submitted by a station that has started meanwhile."""
+    database = room / "database"
+    submit = submitting(database, BOOK)
+    time.sleep(1)
+    station = begun("run", "--db", database, "--book", BOOK, "--port", str(free_port()))
+    try:
+        line = station.stdout.readline()
+        if line != b"ready\n":
+            raise Wrong(f"the station told {line!r}, {station.stderr.read()!r}")
+        expect_ended(submit, (0, b"done: submit 1\n", b""), b"hi")
+    finally:
+        station.kill()
+        station.communicate()
+    expect_submitted(database)
+
+
+def fetches_into_a_pipe(room):
+    """`fetch` closes the database before it opens a pipe, which waits for a reader."""
+    database, given, pipe = room / "database", room / "given", room / "pipe"
+    given.write_bytes(row_files.Row(row_files.ROWS / "receiving/one_octet.row").sessions()[0].joined("in"))
+    expect_ended(begun("feed", "--db", database, "--book", BOOK, given, "/dev/null"), (0, b"end: partner 00\n", b""))
+    os.mkfifo(pipe)
+    expect_ended(begun("fetch", "--db", database, "2", pipe), (1, b"refused: 2 unknown\n", b""))
+    fetch = begun("fetch", "--db", database, "1", pipe)
+    try:
+        time.sleep(1)
+        expect_free(database)
+        if pipe.read_bytes() != b"A":
+            raise Wrong("another file was fetched")
+        expect_ended(fetch, (0, b"done: fetch 1\n", b""))
+    finally:
+        fetch.kill()
+        fetch.communicate()
+
+
+def pipe(run, _command, _seconds):
+    with tempfile.TemporaryDirectory() as room:
+        run(Path(room))
+
+
 CASES = [
     (case, SessionHolds, ["report", "in"], None),
     (case, ScriptHolds, ["init"], None),
@@ -144,6 +234,9 @@ CASES = [
     (case, ScriptHolds, ["report", "out"], 4),
     (case, ScriptHolds, ["backup", "nowhere/copy"], None),
     (is_locked_for_others, SessionHolds, ["sqlite3"], 0),
+    (pipe, submits_what_comes, ["submit"], 0),
+    (pipe, submits_beside_who_comes, ["submit"], 0),
+    (pipe, fetches_into_a_pipe, ["fetch"], 0),
 ]
 
 
@@ -152,6 +245,8 @@ def told(what):
     run, holder, command, seconds = what
     until = "until it ends" if seconds is None else f"for {seconds} s"
     name = f"{command[0]} over a database that {holder.__name__.replace('Holds', '').lower()} holds {until}"
+    if run is pipe:
+        name = holder.__name__.replace("_", " ")
     for _ in range(TIMES):
         try:
             run(holder, command, seconds)

@@ -1,22 +1,31 @@
 #!/usr/bin/env python3
 """Compares the documents with the program: the commands and options, and what README.md and the first day show.
 
-    checks/scenarios/documents.py
+    checks/scenarios/documents.py [--verify]
 
-The commands of docs/COMMANDS.md are those of the program, and its line for each names the options in its `--help`. Its reasons are those of
-oftp_wire. Its table of the partner book has the keys that a book needs, and its table of reports the columns that are printed. Its keys of the
-JSON objects are those of rows/listing, which `listing.py` compares with the program. README.md and the table of docs/ARCHITECTURE.md name all
-crates. The blocks below README's heading "A day .." and below "The first day" of docs/OPERATING.md are typed as they are, each in a folder of
-its own, with free ports: what follows a `$` prints the lines below it. Without stunnel the first day ends before it. README's three lines for
-a service are typed too, in a folder that takes the place of /usr/local and /etc, without systemd. If `rt` is installed, the documents name its
-logic. The last line is `N passed, M failed`.
+The commands of docs/COMMANDS.md are those of the program, and its line for each names the options in its `--help`. CHANGELOG.md has the
+program's version. The reasons of docs/COMMANDS.md are those of oftp_wire. Its table of the partner book has the keys that a book needs, and
+its table of reports the columns that are printed. Its keys of the JSON objects are those of rows/listing, which `listing.py` compares with
+the program. README.md and the table of docs/ARCHITECTURE.md name all crates, and its picture has each above those that it uses. The blocks
+below README's heading "A day .." and below "The first day" of docs/OPERATING.md are typed as they are, each in a folder of its own, with
+free ports: what follows a `$` prints the lines below it. Without stunnel the first day ends before it. README's three lines for a service
+are typed too, in a folder that takes the place of /usr/local and /etc, without systemd. So are the change of the year of docs/OPERATING.md,
+with two stations between which something is open at first, and its restore. Each folder that a unit of examples/service needs is made
+there, and its book leads to the tunnel. Each speed of README.md stands in docs/PERFORMANCE.md. The definitions that docs/PROMISES.md quotes
+are in the crates, and each promise there is verified by `rt ci` of a crate that there is, or by the gate. If `rt` is installed, the
+documents name its logic. With `--verify`, what docs/PROMISES.md shows of `rt ci` is typed too, at the top of the repository, and ends as
+shown. That is a proof of a small crate: 21 seconds, or 3 where it has passed before. The last line is `N passed, M failed`.
 """
 
+import argparse
+import contextlib
 import json
 import os
 import re
+import shlex
 import shutil
 import signal
+import sqlite3
 import subprocess
 import sys
 import tempfile
@@ -34,6 +43,8 @@ README = ROOT / "README.md"
 COMMANDS = ROOT / "docs/COMMANDS.md"
 OPERATING = ROOT / "docs/OPERATING.md"
 ARCHITECTURE = ROOT / "docs/ARCHITECTURE.md"
+PROMISES = ROOT / "docs/PROMISES.md"
+PERFORMANCE = ROOT / "docs/PERFORMANCE.md"
 # A command's line of the table: its name, and the rest.
 LINE = re.compile(r"^\| `\./oftp_station ([a-z]+)((?:[^`|]|\\\|)*)` \|", re.M)
 OPTION = re.compile(r"--[a-z][a-z-]*")
@@ -42,6 +53,8 @@ REASON = re.compile(r"\b(\d\d) ([a-z][a-z' ]*?)(?= and \d\d|[,.]|$)", re.M)
 # A key of the partner book, and the book of the example.
 KEY = re.compile(r"^\| `(station|partner)\.(\w+)` \|", re.M)
 BOOK = ROOT / "examples/supplier/book.toml"
+CHANGELOG = ROOT / "CHANGELOG.md"
+SERVICE = ROOT / "examples/service"
 # A report with its columns, and the sentence on further keys of the JSON objects.
 REPORT = re.compile(r"^\| `(\w+)` \| `([\w,]+)` \|$", re.M)
 MORE_KEYS = re.compile(r"Files also have ([^.]*), and responses that were received have (`\w+`)")
@@ -49,6 +62,10 @@ MORE_KEYS = re.compile(r"Files also have ([^.]*), and responses that were receiv
 REPLY = re.compile(r"^ask GET /(\w+)[/\d]* HTTP/1\.1\n200 (.*)$", re.M)
 # The ports that the documents name.
 PORT = re.compile(r"\b(?:3305|3306|8080|6619|13305)\b")
+# A time or a rate.
+SPEED = re.compile(r"\b([\d.,]+)(?: \|)? (ms|s|MB/s)\b")
+# How a promise is verified.
+VERIFIED = re.compile(r"\*Verify\*:\s+(.*?)(?:\. |\.$)", re.S | re.M)
 # The end of a text that a command gets in the lines below it.
 HERE = re.compile(r"<<'?(\w+)'?$")
 
@@ -73,6 +90,17 @@ def options_are_told():
         expect(set(OPTION.findall(words)), options, f"the options of {name} in docs/COMMANDS.md")
 
 
+def version_is_told():
+    """The version is that of the changelog's first entry, and the schema that of a new database."""
+    entry = re.search(r"^## (\d+\.\d+\.\d+)", CHANGELOG.read_text(encoding="utf-8"), re.M)
+    expect(bool(entry), True, "CHANGELOG.md begins with a version")
+    with tempfile.TemporaryDirectory() as room:
+        expect(said("init", "--db", Path(room) / "db"), "done: init\n", "a new database")
+        with contextlib.closing(sqlite3.connect(Path(room) / "db")) as database:
+            schema = database.execute("SELECT schema FROM about").fetchone()[0]
+    expect(said("version"), f"oftp_station {entry[1]}, schema {schema}\n", "the version")
+
+
 def crates_are_told():
     """The crates of the documents are those of crates.txt."""
     crates = set(re.findall(r"^(\w+):", (ROOT / "crates.txt").read_text(encoding="utf-8"), re.M))
@@ -80,6 +108,26 @@ def crates_are_told():
     expect(table, crates, "the crates of docs/ARCHITECTURE.md")
     layout = README.read_text(encoding="utf-8").partition("\n## Layout")[2].partition("\n## ")[0]
     expect(set(re.findall(r"oftp_\w+", layout)), crates, "the crates of README.md")
+
+
+def picture_is_in_order():
+    """The picture of docs/ARCHITECTURE.md has each crate but those of tests, in a line above the crates that it uses, and whole boxes alone."""
+    lines = part_of(ARCHITECTURE, "The crates").split("```")[1].splitlines()
+    uses = {line.split(":")[0]: line.split(":")[1].split() for line in (ROOT / "crates.txt").read_text(encoding="utf-8").splitlines() if ":" in line}
+    at = {crate: number for number, line in enumerate(lines) for crate in re.findall(r"oftp_\w+", line)}
+    expect(set(at), {it for it in uses if not it.startswith("oftp_test_")}, "the crates of the picture in docs/ARCHITECTURE.md")
+    wrong = [(crate, used) for crate in at for used in uses[crate] if used in at and at[used] <= at[crate]]
+    expect(wrong, [], "crates of that picture beside or above those that use them")
+    expect(list(stray_edges(["", *lines, ""])), [], "edges of that picture that are no top or bottom of a box")
+
+
+def stray_edges(lines):
+    """The edges of a picture that aren't an edge of just one box, each with the number of its line."""
+    for number, line in enumerate(lines):
+        for it in re.finditer(r"\+-+\+", line):
+            near = (lines[number - 1], lines[number + 1])
+            if sum(text[it.start() : it.end()].startswith("|") and text[it.end() - 1 : it.end()] == "|" for text in near) != 1:
+                yield number, it[0]
 
 
 def part_of(path, heading):
@@ -222,6 +270,15 @@ class Typist:
         """A text of the documents with the ports and the folder of this typist."""
         return PORT.sub(lambda it: str(self.ports.setdefault(it[0], free_port())), text).replace("/tmp/", f"{self.path}/")
 
+    def await_ready(self, command):
+        """Waits until a service in the background has printed `ready` to the file that it writes to."""
+        lines = self.path / command.rpartition(">")[2].removesuffix("&").strip()
+        until = time.monotonic() + LONG
+        while not (lines.is_file() and lines.read_text(encoding="utf-8").startswith("ready\n")):
+            if time.monotonic() > until:
+                raise Wrong(f"{command}: it isn't ready")
+            time.sleep(0.02)
+
     def type(self, command, wanted):
         """Types a command. One that ends in `&` runs in the background. A station without a named port has its default one."""
         if " run --db" in command and " --port " not in command:
@@ -230,7 +287,7 @@ class Typist:
         if command.endswith("&"):
             words[2] = f"exec {words[2][:-1]}"
             self.services.append(subprocess.Popen(words, cwd=self.path, env=self.environment, stderr=subprocess.DEVNULL))
-            time.sleep(1)
+            self.await_ready(words[2])
             return
         done = subprocess.run(words, cwd=self.path, env=self.environment, capture_output=True, text=True, timeout=LONG, check=False)
         if wanted is None:
@@ -285,6 +342,144 @@ def first_day_goes_as_shown():
                 typist.type(command, wanted)
 
 
+def folders_of_units_are_made():
+    """The folders that the units of examples/service need are made by a command of docs/OPERATING.md, and their user can't log in."""
+    lines = [line.strip() for line in OPERATING.read_text(encoding="utf-8").splitlines() if re.match(r"    (install -d|useradd) ", line)]
+    made = {word for line in lines for word in line.split() if word.startswith("/")}
+    wanted = set()
+    for unit in SERVICE.glob("*.service"):
+        text = unit.read_text(encoding="utf-8")
+        for words in re.findall(r"^(?:ReadWritePaths|WorkingDirectory)=(.*)$", text, re.M):
+            wanted.update(words.split())
+    expect(wanted - made, set(), "folders of units that docs/OPERATING.md doesn't make")
+    users = [line for line in lines if line.startswith("useradd ")]
+    expect([line for line in users if " --shell /usr/sbin/nologin " not in line], [], "users that can log in")
+
+
+def book_of_service_leads_to_tunnel():
+    """The book for a service is accepted, has the largest buffer and credit, and calls no station but through the tunnels of stunnel.conf."""
+    path = SERVICE / "book.toml"
+    book = tomllib.loads(path.read_text(encoding="utf-8"))
+    expect(said("check", "--book", path), f"ok: {len(book['partner'])} partners\n", "the book for a service")
+    expect((book["station"]["buffer"], book["station"]["credit"]), (16384, 99), "its buffer and its credit")
+    conf = (SERVICE / "stunnel.conf").read_text(encoding="utf-8")
+    tunnels = re.findall(r"^client = yes\naccept = (\S+)$", conf, re.M)
+    own = re.search(r" --port (\d+)", (SERVICE / "oftp-run.service").read_text(encoding="utf-8"))[1]
+    addresses = [partner["address"] for partner in book["partner"]]
+    expect([it for it in addresses if it not in tunnels or it.endswith(f":{own}")], [], "addresses that aren't those of a tunnel")
+
+
+def block_with(heading, first):
+    """The block of docs/OPERATING.md below a heading that begins with this text, as its lines."""
+    found = [block for block in blocks_below(OPERATING, heading, 1) if block[0].startswith(first)]
+    expect(len(found), 1, f"blocks below {heading!r} that begin with {first!r}")
+    return found[0]
+
+
+class Administrator(Typist):
+    """Types commands for the station's user in folders that take the place of its own. `sudo` gives what it is given to that user, in name."""
+
+    def __enter__(self):
+        super().__enter__()
+        sudo = self.path / "bin/sudo"
+        sudo.write_text('#!/bin/sh\n[ "$1 $2" = "-u oftp" ] || exit 9\nshift 2\nexec "$@"\n', encoding="utf-8")
+        sudo.chmod(0o755)
+        for folder in ("var/lib/oftp", "var/backups/oftp"):
+            (self.path / folder).mkdir(parents=True)
+        return self
+
+    def as_here(self, text):
+        return re.sub(r"(?<![\w/])/var/", f"{self.path}/var/", super().as_here(text))
+
+    def printed_by(self, lines):
+        """What these lines print on standard output, typed one after another."""
+        words = ["bash", "-ec", self.as_here("\n".join(lines))]
+        done = subprocess.run(words, cwd=self.path, env=self.environment, capture_output=True, text=True, timeout=LONG, check=False)
+        expect((done.returncode, done.stderr), (0, ""), f"{lines}, which said {done.stdout}")
+        return done.stdout.splitlines()
+
+
+# The database of the station whose year ends, and that of its partner, with their books.
+OWN = ["--db", "var/lib/oftp/station.db", "--book", "examples/supplier/book.toml"]
+OTHER = ["--db", "carmaker.db", "--book", "examples/carmaker/book.toml"]
+
+
+def enabled_units():
+    """The units of examples/service that docs/OPERATING.md enables."""
+    lines = re.findall(r"systemctl enable --now (.*)", (ROOT / "docs/OPERATING.md").read_text(encoding="utf-8"))
+    return set(re.findall(r"oftp-[\w@-]+\.(?:service|timer|path)", " ".join(lines).replace("@$(systemd-escape O0177CARMAKER)", "@")))
+
+
+def year_ends_as_shown():
+    """The change to a new database, typed as it is. Each response and file that is still open is named, and the change comes once none is. Then
+    both sides have the response of each file."""
+    asked = block_with("A day, a week", "systemctl stop")
+    changed = block_with("A day, a week", "sudo -u oftp mv")
+    units = re.findall(r"oftp-[\w@-]+\.(?:service|timer|path)", " ".join(changed).replace("@$(systemd-escape O0177CARMAKER)", "@"))
+    expect([unit for unit in units if not (SERVICE / unit).is_file()], [], "units that aren't there")
+    expect(sorted(enabled_units() - {"oftp-listen.service", "oftp-http.service"} - set(units)), [], "units that are stopped and not started again")
+    with Administrator() as typist:
+
+        def given(*words):
+            return typist.printed_by([f"oftp_station {shlex.join(words)}"])
+
+        def open_now():
+            return typist.printed_by(asked[1:])
+
+        (typist.path / "content").write_text("content", encoding="utf-8")
+        for files, code in ((OWN, "O0177CARMAKER"), (OTHER, "O0013SUPPLIER")):
+            identity = ["--dataset", "YEAR.1", "--date", "20240201", "--time", "0600000001", "--to", code, "--format", "U", "content"]
+            expect(given("submit", *files, *identity), ["done: submit 1"], "a file each way")
+        station = Between(typist)
+        station.session()
+        came = "1,YEAR.1,20240201,0600000001,O0177CARMAKER,U,1,7,whole,"
+        went = "1,YEAR.1,20240201,0600000001,O0177CARMAKER,U,1,7,0,"
+        expect(open_now(), [f"{came}none", f"{went}handed,"], "what is open with a file each way")
+        expect(given("release", *OWN, "1"), ["done: release 1"], "the release here")
+        expect(open_now(), [f"{went}handed,", "1,EERP,,no"], "what is open with a response to be sent")
+        expect(given("release", *OTHER, "1"), ["done: release 1"], "the release there")
+        station.session()
+        expect(open_now(), [], "what is open at the end")
+        typist.printed_by(["cd /var/lib/oftp", *[line for line in changed if not line.startswith("systemctl ")]])
+        expect(given("report", "--db", "carmaker.db", "out")[1:], [f"{went.replace('CARMAKER', 'X').replace('O0177X', 'O0013SUPPLIER')}delivered,"], "there")
+        expect(given("report", "--db", "var/lib/oftp/station-2026.db", "out")[1:], [f"{went}delivered,"], "here, in the old database")
+        station.session()
+        expect(given("report", "--db", "var/lib/oftp/station.db", "in")[1:], [], "the new database")
+
+
+class Between:
+    """The station whose year ends, which runs only while its partner calls it."""
+
+    def __init__(self, typist):
+        self.typist = typist
+
+    def session(self):
+        """The partner's call, with a session each way of files and of responses."""
+        words = [self.typist.path / "bin/oftp_station", "run", *OWN, "--port", self.typist.as_here("3306")]
+        with subprocess.Popen(words, cwd=self.typist.path, stdout=subprocess.PIPE, text=True) as station:
+            expect(station.stdout.readline(), "ready\n", "the station")
+            try:
+                said_by = self.typist.printed_by([f"oftp_station call {shlex.join(OTHER)} --partner O0013SUPPLIER"])
+            finally:
+                station.kill()
+        expect(said_by[0] in ("end: own 00", "end: partner 00"), True, f"the end of the session, {said_by}")
+
+
+def restore_is_tried_as_shown():
+    """The backup and the trial of a restore, typed as they are. Only the station's user may read them, so each command is that user's."""
+    if not shutil.which("sqlite3"):
+        print("NOT TRIED without sqlite3: the restore of docs/OPERATING.md")
+        return
+    backup, trial = block_with("Backup, and moving", "sudo -u oftp oftp_station backup"), block_with("Backup, and moving", "sudo -u oftp mkdir")
+    expect([line for line in [*backup, *trial] if not line.startswith("sudo -u oftp ")], [], "commands of another user")
+    with Administrator() as typist:
+        expect(typist.printed_by(["oftp_station init --db /var/lib/oftp/station.db"]), ["done: init"], "the database")
+        expect(typist.printed_by(backup), ["done: backup"], "the backup")
+        heads = said("report", "--db", typist.path / "var/lib/oftp/station.db", "in").splitlines()
+        expect(typist.printed_by(trial), [*heads, "ok"], "the restore")
+        expect((typist.path / "restore").exists(), False, "whether the copy is left")
+
+
 def kit_is_told():
     """The documents name the logic that `rt` has."""
     if not shutil.which("rt"):
@@ -297,21 +492,64 @@ def kit_is_told():
         expect(named, {logic}, f"the toolchain of {name}")
 
 
+def definitions_are_quoted():
+    """The definitions that docs/PROMISES.md quotes are in the crates as they are there."""
+    specs = " ".join(" ".join(it.read_text(encoding="utf-8").split()) for it in ROOT.glob("crates/*/specs/*.antt"))
+    for block in blocks_below(PROMISES, "The headline, phrase by phrase", 2):
+        expect(" ".join(" ".join(block).split()) in specs, True, f"specs/ of a crate has the definition that docs/PROMISES.md quotes: {block[0]}")
+
+
+def speeds_are_measured():
+    """Each time and rate of README's section on speed stands in docs/PERFORMANCE.md."""
+    told = set(SPEED.findall(part_of(README, "Speed")))
+    expect(len(told) > 2, True, "README.md has times and rates")
+    expect(told - set(SPEED.findall(PERFORMANCE.read_text(encoding="utf-8"))), set(), "the speeds of README.md that docs/PERFORMANCE.md doesn't have")
+
+
+def promises_are_verified():
+    """Each promise is verified by `rt ci` of crates that there are, or by the gate."""
+    crates = set(re.findall(r"^(\w+):", (ROOT / "crates.txt").read_text(encoding="utf-8"), re.M))
+    text = part_of(PROMISES, "Promises")
+    told = VERIFIED.findall(text)
+    expect(len(told), text.count("\n### P") - 1, "the promises of docs/PROMISES.md, without the last, that say how they are verified")
+    commands = {command for it in told for command in re.findall(r"`([^`]+)`", it)}
+    expect(commands - {".ci/run", *(f"rt ci {crate}" for crate in crates)}, set(), "other commands that verify a promise of docs/PROMISES.md")
+
+
+def verification_ends_as_shown():
+    """What docs/PROMISES.md shows of `rt ci` ends as shown, typed at the top of the repository by a reader, so CI isn't set: where it is, `rt`
+    takes no names. How many passed may differ."""
+    if not shutil.which("rt"):
+        print("NOT TRIED without rt: how a promise is verified")
+        return
+    block = next(it for it in blocks_below(PROMISES, "Promises", 1) if it[0].startswith("$ rt "))
+    environment = {name: value for name, value in os.environ.items() if name != "CI"}
+    for command, wanted in typed(block):
+        done = subprocess.run(command.split(), cwd=ROOT, env=environment, capture_output=True, text=True, timeout=600, check=False)
+        ended, shown = (re.sub(r"^\d+ passed", "N passed", (text.splitlines() or [""])[-1]) for text in (done.stdout, wanted))
+        expect(ended, shown, command)
+
+
 CASES = [
-    *(commands_are_told, options_are_told, crates_are_told, reasons_are_told, keys_are_told, columns_are_told),
-    *(day_goes_as_shown, first_day_goes_as_shown, example_prints_what_is_shown, service_is_installed_as_shown, kit_is_told),
+    *(commands_are_told, options_are_told, version_is_told, crates_are_told, reasons_are_told, keys_are_told, columns_are_told),
+    *(day_goes_as_shown, first_day_goes_as_shown, example_prints_what_is_shown, service_is_installed_as_shown),
+    *(folders_of_units_are_made, book_of_service_leads_to_tunnel, year_ends_as_shown, restore_is_tried_as_shown, kit_is_told),
+    *(picture_is_in_order, definitions_are_quoted, speeds_are_measured, promises_are_verified),
 ]
 
 
 def main():
+    parser = argparse.ArgumentParser(description=__doc__.splitlines()[0])
+    parser.add_argument("--verify", action="store_true")
+    cases = [*CASES, verification_ends_as_shown] if parser.parse_args().verify else CASES
     failed = 0
-    for case in CASES:
+    for case in cases:
         try:
             case()
         except Wrong as why:
             failed += 1
             print(f"{case.__name__}: {why}")
-    print(f"{len(CASES) - failed} passed, {failed} failed")
+    print(f"{len(cases) - failed} passed, {failed} failed")
     return 1 if failed else 0
 
 

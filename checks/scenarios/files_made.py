@@ -44,6 +44,11 @@ def run(room, *words, mask=0o022, how=None):
     return done.returncode, done.stdout.decode(), done.stderr.decode()
 
 
+def copy_program(to):
+    """Copies the program by a process of its own: one that another thread begins meanwhile would have the copy open, and it couldn't be run."""
+    subprocess.run(["cp", PROGRAM, to], check=True)
+
+
 def expect_done(told, line):
     expect(told, (0, f"{line}\n", ""), line)
 
@@ -123,7 +128,7 @@ def replaced_with_its_owner(room):
     expect((about.st_uid, about.st_gid, mode_of(fetched)), (FOREIGN, OTHER_GROUP, 0o640), "the file of another user")
     with tempfile.TemporaryDirectory(dir="/tmp") as path:
         home = Path(path)
-        shutil.copy(PROGRAM, home / "program")
+        copy_program(home / "program")
         for name in ("db", "db-wal"):
             shutil.copy(room / name, home / name)
             os.chown(home / name, USER, GROUP)
@@ -167,7 +172,7 @@ def copied_with_its_owner(room):
     expect((about.st_uid, about.st_gid, mode_of(room / "copy")), (USER, GROUP, 0o600), "the copy")
     with tempfile.TemporaryDirectory(dir="/tmp") as path:
         home = Path(path)
-        shutil.copy(PROGRAM, home / "program")
+        copy_program(home / "program")
         (home / "program").chmod(0o755)
         (home / "own").mkdir()
         for name in ("db", "db-wal"):
@@ -274,7 +279,7 @@ def drafts_of_another_user(room):
     with tempfile.TemporaryDirectory(dir="/tmp") as path:
         home = Path(path)
         home.chmod(0o777)
-        shutil.copy(PROGRAM, home / "program")
+        copy_program(home / "program")
         (home / "program").chmod(0o755)
         own, foreign = home / f"{DRAFT}1", home / f"{DRAFT}2"
         for name in ("db", "db-wal"):
@@ -300,6 +305,8 @@ def logs_of_drafts(room):
         fcntl.flock(living, fcntl.LOCK_EX)
         expect_done(run(room, "backup", "--db", "db", "copy"), "done: backup")
         expect(drafts_in(room), [f"{DRAFT}2", f"{DRAFT}2-wal"], "the drafts beside a backup")
+        # Another thread's new process may still have the file open, and with it the lock.
+        fcntl.flock(living, fcntl.LOCK_UN)
     expect_done(run(room, "fetch", "--db", "db", "1", "fetched"), "done: fetch 1")
     expect(drafts_in(room), [], "the drafts at the end")
 

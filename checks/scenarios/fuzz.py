@@ -7,29 +7,43 @@
 
 A life is a database, or a register in memory, and what is done to it: sessions in both roles with three partners, whose commands follow
 what the model of the station sends, with mistakes of every kind; and submissions, releases, refusals and fetches between them. The octets
-of a session are then changed here and there, and given to `feed` in a file, or through a pipe in pieces of random sizes. Each time the
-octets out, the lines, the exit status and the tables have to be the model's. A life has a seed of its own. If something differs, the seed
-is printed, with all that was done in words, and `--seed N --sessions 1` plays that life again. The check goes on beyond its time until each
-step of the step tables was made, unless `--sessions` gives their number, and fails if another five minutes leave one out.
+of a session are then changed here and there. Each time the octets out, the lines, the exit status and the tables have to be the model's.
+A life has a seed of its own. If something differs, the seed is printed, with all that was done in words, and `--seed N --sessions 1` plays
+that life again. The check goes on beyond its time until each step of the step tables was made, and until each thing was done that can be
+done beside a session or to it, unless `--sessions` gives their number. It fails if another five minutes leave one out.
 
-Half of the lives over a database use the book of services that run from life to life: partners call that `listen` over a socket, and that
-`http` gets a request between two acts. Their memory and descriptors at the end are compared with those at the beginning
-(checks/lib/staying.py). The last line is `N passed, M failed`, which counts sessions.
+There are three kinds of lives. In the first one the octets are given to `feed` in a file, or through a pipe in pieces of random sizes.
+
+In the second one the book is that of services that run from life to life: partners call that `listen` over a socket, and that `http` gets a
+request between two acts.
+
+The third one is lived by one `run`, from its first act to its last. Partners call it, and it is asked to call them. The octets come in pieces.
+Between two pieces reports, fetches and requests have to show what the model has at that moment: once the station has said all that it has
+to, and also before, where it may be any of several. Orders (submissions, releases and refusals) have to wait for the session's end, and to be
+done then, in their order, unless the command is gone. An order beside a caller who isn't let in yet is done at once. Some sessions are cut
+off, by a close or by a reset: what is left has to be what the model had after the last change of which an octet of the answer was read, or
+after a later one. At the end the station is killed, or ended by SIGTERM, some within a session. A life in which one of several registers was
+left may go on otherwise when it is played again.
+
+The memory and descriptors of services and stations at the end are compared with those at the beginning (checks/lib/staying.py). The last
+line is `N passed, M failed`, which counts sessions.
 """
 
 import argparse
 import collections
 import contextlib
-import copy
+import itertools
 import multiprocessing
 import os
 import random
+import socket
 import subprocess
 import sys
 import tempfile
 import threading
 import time
 from pathlib import Path
+from typing import Callable, NamedTuple
 
 sys.path.insert(0, str(Path(__file__).resolve().parents[1] / "lib"))
 
@@ -37,19 +51,19 @@ import acts
 import model
 import oftp
 import tables
+from listing_files import END, ask, body_in, compare_report, reply_of, shown
+from partner import RECORDS, STATION, TEXTS, Partner, change
 from program import PROGRAM
-from services import Wrong
-from staying import Services, converse
+from ready import ready_to_read
+from services import LONG, Wrong, answer_to, expect
+from staying import OPENS, Services, StayingStation, converse, frame, held_port
+from talk import CUT_ENDS, UNMADE, Talk
 
-STATIONS = ["O0013SUPPLIER"] * 30 + ["O0013"]
+STATIONS = [STATION] * 30 + ["O0013"]
 PARTNERS = {"O0177CARMAKER": "CARPW", "O0099OTHER": "", "A-(B&C)/D.9": "12345678"}
 SIZES = [0, 1, 2, 62, 63, 64, 65, 125, 126, 127, 250, 1023, 1024, 1025, 2047, 2048, 2049, 2500, 2500, 3000, 4096, 5000]
-RECORDS = [1, 2, 3, 3, 10, 62, 63, 64, 65, 127, 128, 300, 2000, 16384]
-# How often a session breaks in a phase.
-BREAKS = {"receives": 0.08, "sends": 0.1, "awaits EFPA": 0.3, "awaits RTR": 0.1, "offers": 0.05}
-TEXTS = ["", "", "", "OK", "NO PLANT", "ü€\U0001f600", "a" * 999, "€" * 333, "\n\x1b[2J\x7f", "'; DROP TABLE in_file; --"]
-# What has to occur: each step of the step tables, these answers and turns, and these changes of a file's state. If some of it hasn't when
-# the time is up, sessions follow for at most this many seconds more.
+# What has to occur: each step of the step tables, these answers and turns, these changes of a file's state, and what is done beside a session
+# or to it. If some of it hasn't when the time is up, sessions follow for at most this many seconds more.
 LONGEST = 300
 # One call of `Played.play` uses fewer seeds than this.
 SEEDS = 10**7
@@ -63,258 +77,32 @@ CHANGES = [
     *("SFNA: closing to handed", "SFNA: waiting to refused", "SFNA: closing to refused", "EFNA: closing to waiting"),
     *("EERP: handed to delivered", "NERP: handed to returned"),
 ]
-WANTED = {*(f"{phase}: {kind}" for phase, kind in model.STEPS), *TURNS, *REFUSALS, *CHANGES}
+BESIDE = [
+    *("an order waits for the end", "an order is given up", "an order before the partner is let in", "a look-up shows what the model has"),
+    *("a look-up shows one of several", "close", "reset", "kill", "one of several is left", "an order behind a cut"),
+]
+WANTED = {*(f"{phase}: {kind}" for phase, kind in model.STEPS), *TURNS, *REFUSALS, *CHANGES, *BESIDE}
 
 
 class Differs(Exception):
     """The program differs from the model."""
 
 
-# -- what a partner sends
+class Order(NamedTuple):
+    """An operator's command that changes something: its words, the octets of its file where it has one, and what it does to a register of
+    the model, which returns a number or refuses."""
 
+    act: str
+    words: list
+    content: bytes
+    do: Callable
 
-class Partner:
-    """The other side of a session. It follows the model of the station, except for its mistakes."""
-
-    def __init__(self, chance, session, code):
-        self.chance = chance
-        self.session = session
-        self.code = code
-        self.station = session.book["code"]
-        self.mistakes = chance.choice([0, 0, 0, 0.02, 0.1])
-        self.patience = chance.choice([3, 10, 30, 80])
-        self.left = 0
-
-    def talk(self):
-        """The commands that it sends."""
-        spoken = []
-        while self.session.end is None and len(spoken) < self.patience and not self.breaks():
-            command = self.mistake() if self.chance.random() < self.mistakes else self.next_command()
-            spoken.append(command)
-            self.session.take(command)
-        if self.session.end is None and self.chance.random() < 0.8:
-            spoken.append(self.spell("ESID", reason=self.chance.choice(["00", "00", "08", "99"]), text=self.chance.choice(TEXTS)))
-        return spoken
-
-    def breaks(self):
-        """A transfer breaks more often once a part of the file is stored, or covered by credit."""
-        session = self.session
-        is_kept = session.phase == "receives" and session.taker.file["rows"] or session.phase == "sends" and session.file["mark"]
-        return self.chance.random() < BREAKS.get(session.phase, 0) * (4 if is_kept else 1)
-
-    def spell(self, kind, **fields):
-        return oftp.spell(kind, {name: value if isinstance(value, (str, bytes)) else str(value) for name, value in fields.items()})
-
-    def next_command(self):
-        kinds = [kind for phase, kind in model.STEPS if phase == self.session.phase]
-        if self.session.phase == "listens":
-            kinds = ["SFID"] * 5 + ["EERP"] * 2 + ["NERP"] * 2 + ["CD"] * 3 + ["ESID"]
-        elif self.session.phase == "receives":
-            kinds = ["DATA" if self.left > 0 or self.session.taker.is_open else "EFID"]
-        return self.command(self.chance.choice(kinds))
-
-    def command(self, kind):
-        return getattr(self, kind.lower(), lambda: self.spell(kind))()
-
-    def any_command(self):
-        kind = self.chance.choice([*oftp.KINDS, "?"])
-        if kind == "?":
-            return self.chance.randbytes(self.chance.choice([1, 2, 3, 18, 19, 110, 165, 200]))
-        if kind in ("DATA", "EFID") and self.session.phase != "receives":
-            return self.spell(kind, payload=b"\x80") if kind == "DATA" else self.spell(kind, records=0, units=0)
-        return self.command(kind)
-
-    def mistake(self):
-        command = self.chance.choice([self.any_command, self.next_command])()
-        return command if self.chance.random() < 0.4 else change_field(self.chance, command)
-
-    # a command of each kind that has fields
-
-    def ssid(self):
-        chance = self.chance
-        agreed = chance.random() < 0.9
-        other = {} if agreed else {name: chance.choice("NY") for name in ("compression", "logic", "authentication")}
-        return self.spell(
-            "SSID",
-            code=self.code,
-            password=PARTNERS[self.code] if chance.random() < 0.97 else chance.choice(["", "carpw".upper(), "X" * 8]),
-            buffer=chance.choice([128, 129, 190, 193, 500, 2048, 2048, 16384, 99999]),
-            credit=chance.choice([1, 1, 1, 1, 2, 2, 3, 5, 99, 999]),
-            mode="B" if chance.random() < 0.9 else chance.choice("SR"),
-            restart=chance.choice("YYYYN"),
-            level=5 if agreed else chance.choice([4, 5, 9]),
-            **other,
-        )
-
-    def names(self):
-        chance = self.chance
-        stamp = chance.choice([("20240131", "1015300001"), ("00000000", "9999999999")])
-        dataset = chance.choice([f"ASN.{chance.randrange(30)}"] * 5 + ["A" * 26, "Z/-.&()"]) if chance.random() < 0.97 else ""
-        return {"dataset": dataset, "date": stamp[0], "time": stamp[1]}
-
-    def sfid(self):
-        chance = self.chance
-        known = [file for file in self.session.register.in_file if file["originator"] == self.code]
-        begun = [file for file in known if file["state"] == "open"]
-        if known and chance.random() < (0.7 if begun else 0.2):
-            file = chance.choice([file for file in begun if file["rows"]] or begun or known)
-        else:
-            file = {**self.names(), "format": chance.choice("FVUT"), "longest": chance.choice(RECORDS), "rows": []}
-            file["longest"] *= file["format"] in "FV" or chance.random() < 0.03
-        if chance.random() < (0.3 if file["rows"] else 0.1):
-            other = [file["format"]] * 2 + ["F", "V"]
-            file = {**file, "format": chance.choice(other), "longest": chance.choice([0, 1, 3, 64, 300, 16384, 16385, 99999])}
-            file["longest"] *= file["format"] in "FV"
-        kept = len(file["rows"])
-        names = {name: file[name] for name in ("dataset", "date", "time", "format", "longest")}
-        self.left = chance.choice([0, 1, 2, 3, 8, 20, 20])
-        asked = {"size": chance.choice([65536, 65537])} if chance.random() < 0.03 else {}
-        if chance.random() < 0.03:
-            asked[chance.choice(["security", "cipher"])] = "01"
-        return self.spell(
-            "SFID",
-            **names,
-            destination=self.station if chance.random() < 0.98 else self.code,
-            originator=self.code if chance.random() < 0.98 else chance.choice(["", *PARTNERS]),
-            restart=chance.choice([0, kept, kept, kept + 1, max(kept - 1, 0), 99999999999999999]),
-            description=chance.choice(TEXTS),
-            **asked,
-        )
-
-    def response(self, kind, **said):
-        chance = self.chance
-        sent = [file for file in self.session.register.out_file if file["destination"] == self.code]
-        file = chance.choice(sent) if sent and chance.random() < 0.8 else self.names()
-        names = {name: file[name] for name in ("dataset", "date", "time")}
-        destination = self.station if chance.random() < 0.98 else chance.choice(["", "O0013SUPPLIE", self.code])
-        return self.spell(kind, **names, destination=destination, originator=self.code, **said)
-
-    def eerp(self):
-        return self.response("EERP", user=self.chance.choice(["", "USER", "&&&&&&&&"]))
-
-    def nerp(self):
-        creator = self.chance.choice(["", self.code, "X" * 25])
-        return self.response("NERP", creator=creator, reason=self.chance.choice(["00", "09", "99"]), text=self.chance.choice(TEXTS))
-
-    def data(self):
-        """Subrecords that fit the file received so far, within the buffer."""
-        chance = self.chance
-        self.left -= 1
-        form, longest = self.session.taker.file["format"], self.session.taker.file["longest"]
-        size = len(self.session.taker.tail)
-        most = chance.choice([1, 2, 65, 127] + [min(self.session.buffer, 3000) - 1] * 4)
-        payload, is_last = b"", False
-        while len(payload) < most and not is_last and chance.random() < 0.97:
-            room = min(63, most - len(payload) - 1, longest - size if form in "FV" else 63)
-            count = chance.choice([room, room, chance.randint(0, room), min(room, 1)])
-            is_last = chance.random() < 0.5 or self.left <= 0
-            if form in "UT":
-                is_last = self.left <= 0 and len(payload) + 1 + count >= most
-            elif form == "F":
-                is_last = size + count == longest
-            payload += bytes([count | (0x80 if is_last else 0)]) + chance.randbytes(count)
-            size = 0 if is_last else size + count
-            is_last = is_last and (form in "UT" or (self.left <= 0 and chance.random() < 0.5))
-        if chance.random() < 0.02:
-            payload = b"\x80" * chance.choice([self.session.buffer - 1, self.session.buffer])
-        return self.spell("DATA", payload=payload)
-
-    def efid(self):
-        taker = self.session.taker
-        records, octets = taker.records(), taker.units()
-        if self.chance.random() < 0.15:
-            records, octets = self.chance.choice([(records + 1, octets), (records, octets + 1), (0, octets), (10**17 - 1, 0)])
-        return self.spell("EFID", records=records, units=octets)
-
-    def sfpa(self):
-        offered = self.session.offered if self.session.phase == "offers" else 0
-        chance = self.chance
-        return self.spell("SFPA", count=chance.choice([offered] * 10 + [0, chance.randint(0, offered), max(offered - 1, 0), offered + 1]))
-
-    def sfna(self):
-        chance = self.chance
-        is_closing = self.session.phase == "offers" and self.session.file["state"] == "closing"
-        if chance.random() < 0.6 and not is_closing:
-            return self.sfpa()
-        return self.spell("SFNA", reason=chance.choice(["13", "13", "02", "99"]), retry=chance.choice("YN"), text=chance.choice(TEXTS))
-
-    def efpa(self):
-        return self.spell("EFPA", change=self.chance.choice("NNNY"))
-
-    def efna(self):
-        if self.chance.random() < 0.5:
-            return self.efpa()
-        return self.spell("EFNA", reason=self.chance.choice(["10", "11", "99"]), text=self.chance.choice(TEXTS))
-
-    def esid(self):
-        return self.spell("ESID", reason=self.chance.choice(["00", "00", "01", "99"]), text=self.chance.choice(TEXTS))
-
-
-# -- changes of its octets
-
-
-def change_field(chance, command):
-    """A command with one field at a boundary, of another form, or of another length."""
-    kind = oftp.KIND_OF.get(command[:1].decode("latin-1"), "DATA")
-    at = 0
-    places = []
-    for _, form, size in oftp.KINDS[kind]:
-        if form == "payload":
-            more = [b"", b"\x00", b"\x80", b"\x40", b"\xc1a", b"\x3f", b"\x81ab", chance.randbytes(99)]
-            return command[:1] + chance.choice(more) + command[1:]
-        places.append((form, at, at + size))
-        at += size
-        if form == "text" and command[at - size : at].isdigit():
-            length = int(command[at - size : at])
-            places += [("octets", at, at + length)] * 2
-            at += length
-    form, begin, end = chance.choice(places)
-    old, size = command[begin:end], end - begin
-    station = STATIONS[0].encode().ljust(size)[:size]
-    new = {
-        "const": [b"?" * size, old.lower()],
-        "name": [b" " * size, b"A" * size, b" " * (size - 1) + b"A", old.lower(), old[:-1] + b"\xff", old[:-1] + b"\0", station],
-        "letter": [letter.encode() for letter in "YNSRBFVUTyn 0"] + [b"\0", b"\xff"],
-        "nothing": [b"\0\1", b"\1\0", b"\xff\xff", b"  "],
-        "return": [b"\r", b"\x8d", b"\n", b" "],
-        "reserved": [bytes(size), b"\xff" * size],
-        "octets": [b"\xff" * size, b"\xc3" * size, (b"a" * size + b"\xed\xa0\x80")[-size:] if size else b"a", bytes(size)],
-    }
-    numbers = [b"0" * size, b"9" * size, b" " * size, old[:-1] + b"x", *(number.rjust(size, b"0") for number in (b"1", b"-1", b"+1"))]
-    if old.isdigit():
-        numbers += [str(max(int(old) + step, 0)).rjust(size, "0").encode()[-size:] for step in (-1, 1)]
-    return command[:begin] + chance.choice(new.get(form, numbers)) + command[end:]
-
-
-def change(chance, partner, frames):
-    """Frames in which something is changed."""
-    at = chance.randrange(len(frames))
-    other = chance.randrange(len(frames))
-    frame = frames[at]
-    place = chance.randrange(len(frame))
-    how = chance.choice(["field", "field", "field", "field", "insert", "remove", "double", "swap", "flip", "length", "truncate", "glue", "octets"])
-    if how == "field":
-        frames[at] = oftp.frame(change_field(chance, frame[4:]))
-    elif how == "insert":
-        frames.insert(at, oftp.frame(partner.any_command()))
-    elif how == "remove":
-        del frames[at]
-    elif how == "double":
-        frames.insert(at, frame)
-    elif how == "swap":
-        frames[at], frames[other] = frames[other], frame
-    elif how == "flip":
-        frames[at] = frame[:place] + bytes([frame[place] ^ 1 << chance.randrange(8)]) + frame[place + 1 :]
-    elif how == "length":
-        length = max(len(frame) + chance.choice([-1, 1, -4, 4, -len(frame), 100003 - len(frame), 100004 - len(frame), 1 << 16]), 0)
-        frames[at] = chance.choice([b"\x10", b"\x10", b"\x10", b"\x11", b"\x20", b"\0"]) + length.to_bytes(3, "big") + frame[4:]
-    elif how == "truncate":
-        frames[at:] = [frame[: place + 1]]
-    elif how == "glue":
-        frames[at] = oftp.frame(frame[4:] + frames[other][4:])
-    else:
-        frames.insert(at, chance.randbytes(chance.randrange(1, 9)))
-    return frames
+    def line(self, register):
+        """What it prints once it is done to this register, and its exit status."""
+        try:
+            return f"done: {self.act} {self.do(register)}\n", 0
+        except model.Refused as why:
+            return f"refused: {why}\n", 1
 
 
 # -- a life
@@ -332,165 +120,180 @@ def draw_book(chance, is_whole=False):
     return {"code": code, "buffer": buffer, "credit": credit, "restart": restart, "partners": partners}
 
 
-def text_of(book):
-    """A book in the program's form."""
-    word = "true" if book["restart"] == "Y" else "false"
-    station = f"[station]\ncode = '{book['code']}'\nbuffer = {book['buffer']}\ncredit = {book['credit']}\nrestart = {word}\n"
-    lines = [station]
-    for code, partner in book["partners"].items():
-        words = "".join(f"{name} = '{value}'\n" for name, value in {"code": code, **partner, "address": "127.0.0.1:1"}.items())
-        lines.append(f"\n[[partner]]\n{words}")
-    return "".join(lines)
-
-
 class Staying:
-    """The long-running services, each pair with a book, in the folder of a process for its lives. A seed determines the book."""
+    """The long-running services, each pair with a book, in the folder of a process for its lives. A seed determines the book. Beside them, the
+    ports of the stations that live there, one after another, and of each its callers, and by how many KiB its memory grew."""
 
     def __init__(self, room, stack):
         self.room = room
         self.stack = stack
         self.there = {}
+        self.ports = [stack.enter_context(held_port()).getsockname()[1] for _ in range(2)]
+        self.stations = []
 
     def of(self, seed):
         """The services for the life of a seed, and their book. They are started for the first such life."""
         name = f"book {seed // SEEDS_OF_BOOKS} {seed % BOOKS}"
         if name not in self.there:
             book = draw_book(random.Random(name), is_whole=True)
-            (self.room / name).write_text(text_of(book))
+            (self.room / name).write_text(model.text_of(book))
             self.there[name] = self.stack.enter_context(Services(self.room, self.room / name)), book
         return self.there[name]
 
     def settle(self):
         """The memory and descriptors of each, in words, and why that is too much."""
         came = [services.settle() for services, _ in self.there.values()]
-        return [line for told, _ in came for line in told], [why for _, whys in came for why in whys]
+        lines = [line for told, _ in came for line in told]
+        if self.stations:
+            callers, grown = zip(*self.stations)
+            lines.append(f"run: {len(callers)} lives with {sum(callers)} callers, and at most {max(grown)} KiB of memory more at the end of one")
+        return lines, [why for _, whys in came for why in whys]
 
 
 class Life:
-    """A register of the program and one of the model, and what is done to both; or ten sessions in memory."""
+    """A register of the program and one of the model, and what is done to both, or ten sessions in memory. Sessions are given to `feed`."""
 
     def __init__(self, seed, room, staying):
         self.chance = random.Random(seed)
         self.seed = seed
         self.staying = staying
-        self.services = None
         self.room = room
         self.database = room / "database"
+        # The address of each partner.
+        self.address = "127.0.0.1:1"
         self.register = model.Register()
         self.told = []
         self.steps = collections.Counter()
         self.sessions = 0
-        for end in ("", "-wal"):
+        for end in ("", "-wal", "-station"):
             Path(f"{self.database}{end}").unlink(missing_ok=True)
 
     def live(self):
-        chance = self.chance
-        if chance.random() < 0.3:
-            self.take_book()
+        self.take_book(draw_book(self.chance))
+        if self.chance.random() < 0.45:
             for _ in range(10):
                 self.register = model.Register()
-                self.hold_session(None)
-            return
-        if chance.random() < 0.5:
-            self.services, self.book = self.staying.of(self.seed)
-            self.give("init", "--db", "database")
-        self.take_book()
-        for _ in range(chance.choice([3, 10, 25, 50])):
-            if chance.random() < 0.05:
-                self.take_book()
-            whole = [file["no"] for file in self.register.in_file if file["state"] == "whole"]
-            unanswered = [number for number in whole if not self.register.find("issued", no=number)]
-            if unanswered and chance.random() < 0.3:
-                self.answer_file(chance.choice(["release", "refuse"]), chance.choice(unanswered))
-            elif chance.random() < 0.1:
-                self.answer_file(chance.choice(["release", "refuse", "fetch"]), chance.randint(1, len(self.register.in_file) + 1))
-            elif chance.random() < 0.3:
-                self.submit()
-            else:
-                self.hold_session(self.database)
-            self.compare_tables()
-            if self.services and chance.random() < 0.2:
-                self.services.meet_request(chance)
+                self.hold_session_over([None], 0.1)
+        else:
+            self.act_often()
 
-    def take_book(self):
-        """Another book from now on. Long-running services keep theirs."""
-        if not self.services:
-            self.book = draw_book(self.chance)
-        (self.room / "book").write_text(text_of(self.book))
-        book = self.book
+    def act_often(self):
+        """Sessions, what an operator does between them, and another book now and then."""
+        for _ in range(self.chance.choice([3, 10, 25, 50])):
+            if self.chance.random() < 0.05:
+                self.change_book()
+            self.act()
+            self.compare_tables()
+            self.look_up_between()
+
+    def act(self):
+        chance = self.chance
+        unanswered = self.unanswered()
+        if unanswered and chance.random() < 0.3:
+            self.carry_out(self.draw_answer(chance.choice(unanswered)))
+        elif chance.random() < 0.1:
+            number = chance.randint(1, len(self.register.in_file) + 1)
+            if chance.random() < 0.3:
+                expect(self.fetch(number), fetched_of(self.register, number), "what is fetched")
+            else:
+                self.carry_out(self.draw_answer(number))
+        elif chance.random() < 0.3:
+            self.carry_out(self.draw_submission())
+        else:
+            self.hold_session()
+
+    def unanswered(self):
+        """The numbers of the files that may be released or refused."""
+        whole = [file["no"] for file in self.register.in_file if file["state"] == "whole"]
+        return [number for number in whole if not self.register.find("issued", no=number)]
+
+    def take_book(self, book):
+        """A book for all that follows: `served` is that by which callers are served."""
+        self.book = self.served = book
+        (self.room / "book").write_text(model.text_of(book, self.address))
         modes = " ".join(partner["mode"] for partner in book["partners"].values())
-        self.told.append(f"the book{' of services' if self.services else ''}: {book['code']}, buffer {book['buffer']}, credit {book['credit']}")
+        self.told.append(f"the book: {book['code']}, buffer {book['buffer']}, credit {book['credit']}")
         self.told.append(f"    restart {book['restart']}, {' '.join(book['partners'])}: {modes}")
 
+    def change_book(self):
+        self.take_book(draw_book(self.chance))
+
+    def look_up_between(self):
+        """What is asked between two acts beside them."""
+
     def give(self, *words, **how):
-        return subprocess.run([PROGRAM, *words], capture_output=True, check=False, timeout=60, cwd=self.room, **how)
+        return subprocess.run([PROGRAM, *words], capture_output=True, check=False, timeout=LONG, cwd=self.room, **how)
 
     # sessions
 
-    def hold_session(self, database):
-        """A session over the database, if there is one; over an empty register also in memory."""
+    def hold_session(self):
+        """A session over the database; over an empty register also in memory."""
+        is_empty = not any(map(any, (self.register.in_file, self.register.out_file, self.register.received)))
+        self.hold_session_over([None, self.database] if is_empty else [self.database], 0.5)
+
+    def hold_session_over(self, places, share):
+        """A session, played in each of these places: over a database, or in memory."""
+        called, book, octets = self.draw_session(share)
+        session = model.Session(book, self.register, called)
+        self.follow(session, octets)
+        line = model.play(session, octets)
+        self.told.append(f"    {line.strip()}")
+        for place in places:
+            self.compare_session(session, place, octets, line)
+        self.sessions += 1
+
+    def draw_session(self, share):
+        """Whom the station calls, as it does in a share of the sessions; the book; and the octets of the partner."""
         chance = self.chance
         code = chance.choice([*PARTNERS] + [*PARTNERS][:1] * 4)
-        called = code if code in self.book["partners"] and chance.random() < (0.5 if database else 0.1) else None
-        partner = Partner(chance, model.Session(self.book, copy.deepcopy(self.register), called), code)
+        called = code if code in self.book["partners"] and chance.random() < share else None
+        book = self.book if called else self.served
+        partner = Partner(chance, model.Session(book, self.register.copied(), called), code, PARTNERS)
         frames = [oftp.frame(command) for command in partner.talk()]
         for _ in range(chance.choice([0, 0, 0, 0, 0, 1, 1, 3])):
             frames = change(chance, partner, frames) if frames else frames
-        octets = b"".join(frames)
-        is_empty = not any(map(any, (self.register.in_file, self.register.out_file, self.register.received)))
-        session = model.Session(self.book, self.register, called)
-        line = self.play(session, octets)
-        role = ["--role", "initiator", "--partner", called] if called else []
-        wanted = b"".join(session.out)
-        for over in [database] if database and not is_empty else [None, database] if database else [None]:
-            if over and self.services and not called:
-                self.compare_call(octets, line, wanted)
-            else:
-                self.compare_session(role, over, octets, line, wanted)
-        self.sessions += 1
+        return called, book, b"".join(frames)
 
-    def play(self, session, octets):
-        """The model executes the octets. What it does is noted in words, and counted."""
+    def follow(self, session, octets):
+        """What the model does with these octets is noted in words, and counted."""
         self.told.append(f"session, {'the station calls ' + session.called if session.called else 'called'}, {len(octets)} octets come")
         self.note(session, 0)
         take = session.take
 
         def noted(command):
-            phase, states, shown = session.phase, self.states(), len(session.out)
+            phase, states, shown_so_far = session.phase, self.states(), len(session.out)
             self.told.append(f"    in   {oftp.shown(oftp.frame(command))[:150]}")
             take(command)
-            self.note(session, shown)
+            self.note(session, shown_so_far)
             kind = oftp.KIND_OF.get(command[:1].decode("latin-1"))
             changed = {f"{kind}: {states[file]} to {state}" for file, state in self.states().items() if states.get(file, state) != state}
             self.steps.update([f"{phase}: {kind}", *changed])
 
         session.take = noted
-        line = model.play(session, octets)
-        self.told.append(f"    {line.strip()}")
-        return line
 
     def states(self):
         return {(side, file["no"]): file["state"] for side in ("in_file", "out_file") for file in getattr(self.register, side)}
 
-    def note(self, session, shown):
+    def note(self, session, shown_so_far):
         """The octets that were sent."""
-        for frame in session.out[shown:]:
-            kind, fields = oftp.read(frame[4:])
+        for spelled in session.out[shown_so_far:]:
+            kind, fields = oftp.read(spelled[4:])
             is_later = fields.get("count", fields.get("restart", "0")) not in "0YN"
             detail = fields.get("change") or fields.get("reason") or ("later" if is_later else "")
             self.steps.update([f"{kind} {detail}".strip()])
-            self.told.append(f"    out  {oftp.shown(frame)[:150]}")
+            self.told.append(f"    out  {oftp.shown(spelled)[:150]}")
 
-    def compare_session(self, role, database, octets, line, wanted):
+    def compare_session(self, session, database, octets, line):
         answer = self.room / "answer"
         answer.unlink(missing_ok=True)
+        role = ["--role", "initiator", "--partner", session.called] if session.called else []
         words = ["feed", *(["--db", database] if database else []), "--book", "book", *role]
         if self.chance.random() < 0.5:
             (self.room / "given").write_bytes(octets)
             done = self.give(*words, "given", answer)
         else:
             source, sink = os.pipe2(os.O_DIRECT)
-            most = self.chance.choice([1, 5, 200, 4096]) if len(octets) < 3000 else 4096
+            most = self.longest_piece(octets)
             sizes = random.Random(self.chance.random())
             writer = threading.Thread(target=write_pieces, args=(sink, octets, sizes, most))
             writer.start()
@@ -501,18 +304,10 @@ class Life:
         got = acts.octets_in(answer)
         if (done.stdout.decode(), done.stderr, done.returncode) != (line, b"", 0):
             raise Differs(f"{where} it ends by {done.stdout!r}, {done.stderr!r}, status {done.returncode}, and not by {line!r}")
-        self.compare_octets(where, got, wanted)
+        self.compare_octets(where, got, b"".join(session.out))
 
-    def compare_call(self, octets, line, wanted):
-        """The session goes over a socket to the long-running service."""
-        most = self.chance.choice([1, 5, 200, 4096]) if len(octets) < 3000 else 4096
-        sizes = random.Random(self.chance.random())
-        got = converse(self.services.listen, octets, lambda: sizes.randint(1, most))
-        told = self.services.listen.either()
-        if f"{told}\n" != line:
-            raise Differs(f"over a socket it ends by {told!r}, and not by {line!r}")
-        self.compare_octets("over a socket", got, wanted)
-        self.services.listen.look()
+    def longest_piece(self, octets):
+        return self.chance.choice([1, 5, 200, 4096]) if len(octets) < 3000 else 4096
 
     def compare_octets(self, where, got, wanted):
         for number, (want, found) in enumerate(zip([*oftp.frames_of(wanted), b""], [*oftp.frames_of(got), b""]), 1):
@@ -523,7 +318,7 @@ class Life:
 
     # an operator
 
-    def submit(self):
+    def draw_submission(self):
         chance = self.chance
         form = chance.choice("FVUT")
         longest = chance.choice(RECORDS) if form in "FV" else 0
@@ -539,47 +334,407 @@ class Life:
             wrong = {"dataset": ["a", "A" * 27], "date": ["2024020"], "time": ["080000000X"], "to": ["O0013"], "longest": [0, 7, 16385]}
             name = chance.choice([*wrong, "description", "format"])
             fields[name] = chance.choice({**wrong, "description": ["a" * 1000], "format": [*"FVUT"]}[name])
-        (self.room / "content").write_bytes(content)
         words = [word for name, value in fields.items() for word in (f"--{name}", str(value))]
-        shown = " ".join(f"{name}={str(value)[:40]!r}" for name, value in fields.items())
-        self.told.append(f"submit {shown}, {len(content)} octets")
-        self.compare_line("submit", lambda: model.submit(self.register, self.book, fields, content), *words, "content", book=True)
+        told = " ".join(f"{name}={str(value)[:40]!r}" for name, value in fields.items())
+        self.told.append(f"submit {told}, {len(content)} octets")
+        book = self.book
+        return Order("submit", words, content, lambda register: model.submit(register, book, fields, content))
 
-    def answer_file(self, act, number):
+    def draw_answer(self, number):
+        """A release or a refusal of the file of this number."""
         chance = self.chance
-        if act == "release":
+        if chance.random() < 0.5:
             self.told.append(f"release {number}")
-            self.compare_line(act, lambda: model.issue(self.register, number, "EERP"), str(number), book=True)
-        elif act == "refuse":
-            reason, text = chance.choice(["00", "09", "99"]), chance.choice([*TEXTS, "a" * 1000])
-            self.told.append(f"refuse {number} {reason} {text[:40]!r}")
-            self.compare_line(act, lambda: model.issue(self.register, number, "NERP", reason, text), str(number), reason, text, book=True)
-        else:
-            fetched = self.room / "fetched"
-            fetched.unlink(missing_ok=True)
-            self.told.append(f"fetch {number}")
-            self.compare_line(act, lambda: (model.fetch(self.register, number), number)[1], str(number), "fetched")
-            wanted = model.fetch(self.register, number) if fetched.exists() else None
-            if fetched.exists() and fetched.read_bytes() != wanted:
-                raise Differs(f"{len(fetched.read_bytes())} octets are fetched, and not those of the file, {len(wanted)}")
+            return Order("release", [str(number)], b"", lambda register: model.issue(register, number, "EERP"))
+        reason, text = chance.choice(["00", "09", "99"]), chance.choice([*TEXTS, "a" * 1000])
+        self.told.append(f"refuse {number} {reason} {text[:40]!r}")
+        return Order("refuse", [str(number), reason, text], b"", lambda register: model.issue(register, number, "NERP", reason, text))
 
-    def compare_line(self, act, do, *words, book=False):
-        try:
-            line, status = f"done: {act} {do()}\n", 0
-        except model.Refused as why:
-            line, status = f"refused: {why}\n", 1
+    def carry_out(self, order):
+        """An order is given, and its line is the model's."""
+        file = []
+        if order.act == "submit":
+            (self.room / "content").write_bytes(order.content)
+            file = ["content"]
+        line, status = order.line(self.register)
         self.told.append(f"    {line.strip()}")
-        done = self.give(act, "--db", "database", *(["--book", "book"] if book else []), *words)
+        done = self.give(order.act, "--db", "database", "--book", "book", *order.words, *file)
         if (done.stdout.decode(), done.stderr, done.returncode) != (line, b"", status):
             raise Differs(f"it tells {done.stdout!r}, {done.stderr!r}, status {done.returncode}, and not {line!r}")
 
+    def fetch(self, number):
+        """What the command tells, its exit status, and what it writes."""
+        fetched = self.room / "fetched"
+        fetched.unlink(missing_ok=True)
+        self.told.append(f"fetch {number}")
+        done = self.give("fetch", "--db", "database", str(number), "fetched")
+        return done.stdout, done.stderr, done.returncode, fetched.read_bytes() if fetched.exists() else None
+
     def compare_tables(self):
-        found, wanted = tables.read(self.database), self.register.tables()
-        for table in tables.TABLES:
-            pairs = [*zip(wanted[table], found[table]), (len(wanted[table]), len(found[table]))]
-            for want, got in pairs:
-                if want != got:
-                    raise Differs(f"in {table} is left {str(got)[:400]}, and not {str(want)[:400]}")
+        why = unlike(tables.read(self.database), self.register)
+        if why:
+            raise Differs(why)
+
+
+def fetched_of(register, number):
+    """What `fetch` tells, its exit status, and what it writes, by a register of the model."""
+    try:
+        return f"done: fetch {number}\n".encode(), b"", 0, model.fetch(register, number)
+    except model.Refused as why:
+        return f"refused: {why}\n".encode(), b"", 1, None
+
+
+def unlike(found, register):
+    """How the tables that are found differ from those of a register, or None."""
+    wanted = register.tables()
+    for table in tables.TABLES:
+        for want, got in [*zip(wanted[table], found[table]), (len(wanted[table]), len(found[table]))]:
+            if want != got:
+                return f"in {table} is left {str(got)[:400]}, and not {str(want)[:400]}"
+    return None
+
+
+class ServedLife(Life):
+    """A life over the database of long-running services, by their book."""
+
+    def live(self):
+        self.services, book = self.staying.of(self.seed)
+        self.give("init", "--db", "database")
+        self.take_book(book)
+        self.act_often()
+
+    def change_book(self):
+        """The services keep theirs."""
+
+    def compare_session(self, session, database, octets, line):
+        """A session of a caller goes over a socket to the long-running service."""
+        if session.called or not database:
+            super().compare_session(session, database, octets, line)
+            return
+        most = self.longest_piece(octets)
+        sizes = random.Random(self.chance.random())
+        got = converse(self.services.listen, octets, lambda: sizes.randint(1, most))
+        told = self.services.listen.either()
+        if f"{told}\n" != line:
+            raise Differs(f"over a socket it ends by {told!r}, and not by {line!r}")
+        self.compare_octets("over a socket", got, b"".join(session.out))
+        self.services.listen.look()
+
+    def look_up_between(self):
+        if self.chance.random() < 0.2:
+            self.services.meet_request(self.chance)
+
+
+# -- the life of a station that keeps its database open
+
+
+class ResidentLife(Life):
+    """A life of one `run`, from its first act to its last."""
+
+    def live(self):
+        port, self.requests = self.staying.ports
+        with contextlib.ExitStack() as stack:
+            self.post = stack.enter_context(socket.create_server(("127.0.0.1", 0)))
+            self.post.settimeout(LONG)
+            self.address = f"127.0.0.1:{self.post.getsockname()[1]}"
+            self.take_book(draw_book(self.chance))
+            book = self.room / "served"
+            book.write_text(model.text_of(self.served))
+            words = ["--http-port", str(self.requests)]
+            self.station = stack.enter_context(StayingStation(self.room, self.have_tasks_done, *words, book=book, port=port))
+            self.station.begin()
+            self.act_often()
+            self.compare_memory()
+            self.end()
+            self.compare_tables()
+            self.look_up_without()
+
+    def change_book(self):
+        """The operator takes another one, and calls by it. The station serves callers by the one that it read first."""
+        served = self.served
+        super().change_book()
+        self.served = served
+
+    def have_tasks_done(self, station):
+        """What changes nothing: a session, and a request."""
+        converse(station, OPENS + frame("ESID", reason="00"), lambda: len(OPENS))
+        station.either()
+        ask(station, [b"GET /in/1 HTTP/1.1\r\n\r\n"], port=self.requests)
+
+    def compare_memory(self):
+        before = self.station.memory
+        _, whys = self.station.compared()
+        if whys:
+            raise Wrong(whys[0])
+        self.staying.stations.append((self.station.callers, max(now - then for then, now in zip(before, self.station.memory))))
+
+    def end(self):
+        """The end of the station, in some lives within a session. It has told nothing but the lines that were read."""
+        how = self.chance.choice(["terminate", "kill", "kill within a session"])
+        self.told.append(f"the end of the station: {how}")
+        if how == "kill within a session":
+            self.hold_session(is_last=True)
+        getattr(self.station.program, how.split()[0])()
+        expect(self.station.rest(), [b"", b""], "what the station told besides its lines")
+
+    def look_up_without(self):
+        """A report without a station shows the same."""
+        why = self.report()(self.register)
+        if why:
+            raise Differs(why)
+
+    # sessions
+
+    def hold_session(self, is_last=False):
+        """A session over a socket, of which some are cut off. In the last one the station is killed."""
+        chance = self.chance
+        called, book, octets = self.draw_session(0.3)
+        cut = "kill" if is_last else chance.choice([None, None, None, "close", "reset"])
+        if cut:
+            octets = octets[: chance.randint(0, len(octets))]
+        session = model.Session(book, self.register, called)
+        self.follow(session, octets)
+        # The orders that wait for its end, each with its connection.
+        self.waiting = []
+        with contextlib.ExitStack() as self.beside:
+            talk = Talk(self.beside.enter_context(self.connected(called)), session)
+            self.say_all(talk, octets)
+            if cut == "kill" and not session.end:
+                self.kill_within(talk)
+            elif cut in ("close", "reset"):
+                self.cut_off(talk, cut)
+            else:
+                self.finish(talk)
+        self.sessions += 1
+        if not is_last:
+            self.station.look()
+
+    def connected(self, called):
+        """The connection of a partner who calls, or of one whom the station is asked to call."""
+        if not called:
+            return self.station.caller()
+        words = [PROGRAM, "call", "--db", "database", "--book", "book", "--partner", called]
+        self.calling = subprocess.Popen(words, stdout=subprocess.PIPE, stderr=subprocess.PIPE, cwd=self.room)
+        self.beside.callback(self.calling.kill)
+        connection = self.post.accept()[0]
+        connection.settimeout(LONG)
+        return connection
+
+    def say_all(self, talk, octets):
+        """Says these octets in pieces, and stops at some places."""
+        chance = self.chance
+        most = self.longest_piece(octets)
+        ends = [*itertools.accumulate(map(len, oftp.frames_of(octets)))] or [0]
+        stops = sorted({chance.choice([chance.choice(ends), chance.randint(0, len(octets))]) for _ in range(chance.choice([0, 0, 1, 2, 4]))})
+        at = 0
+        for stop in [*stops, len(octets)]:
+            while at < stop:
+                size = min(chance.randint(1, most), stop - at)
+                talk.say(octets[at : at + size])
+                at += size
+            if stop in stops:
+                stops.remove(stop)
+                self.chance.choice([self.stop_within, self.stop_within, self.look_up_at_once])(talk)
+
+    def look_up_at_once(self, talk):
+        """A look-up while the station may not have heard all: it shows what the model had after the last change of which an answer was read, or
+        after a later one."""
+        talk.read_what_is_there()
+        if not talk.session.end:
+            self.told.append(f"    where {len(talk.got)} of {len(talk.wanted())} octets of answers were read:")
+            registers = talk.may_be_left()
+            self.look_up(registers)
+            self.steps.update(["a look-up shows one of several"] if len(registers) > 1 else [])
+
+    def stop_within(self, talk):
+        """Once the station has said all that it has to, things are looked up and orders are given."""
+        self.wait(talk)
+        if talk.session.end:
+            return
+        is_let_in = hasattr(talk.session, "partner") or talk.session.called and talk.got
+        for _ in range(self.chance.choice([1, 1, 2, 3])):
+            if self.chance.random() < 0.6 or talk.session.called and not is_let_in:
+                self.look_up([self.register])
+                self.steps.update(["a look-up shows what the model has"])
+            elif is_let_in:
+                self.order_within()
+            else:
+                self.carry_out(self.draw_order())
+                self.steps.update(["an order before the partner is let in"])
+        if any(ready_to_read([client for _, client in self.waiting], 0)):
+            raise Differs("an order is answered within a session")
+        talk.begin()
+
+    def wait(self, talk):
+        """The station has said what it has to by now."""
+        talk.wait()
+        self.compare_octets("in a part of a session", talk.got, talk.wanted())
+
+    def finish(self, talk):
+        """The partner says no more, and hears the rest."""
+        talk.finish()
+        self.compare_octets("over a socket", talk.got, talk.wanted())
+        told = self.station.either()
+        if told != line_of(talk):
+            raise Differs(f"the session ends by {told!r}, and not by {line_of(talk)!r}")
+        self.told.append(f"    {told}")
+        self.compare_call(talk, told)
+        self.settle([self.register])
+
+    def cut_off(self, talk, how):
+        """Cuts the session off, half of the times once all is answered. Then it is known what was heard, where the connection is closed."""
+        if self.chance.random() < 0.5:
+            self.wait(talk)
+        is_known = talk.is_answered() and how == "close"
+        self.compare_beginning(talk)
+        talk.cut(is_reset=how == "reset")
+        told = self.station.either()
+        self.told.append(f"    {how} where {len(talk.got)} of {len(talk.wanted())} octets of answers were read: {told}")
+        if is_known and told != line_of(talk) or told not in [line_of(talk), *lines_of_a_cut(talk)]:
+            raise Differs(f"a session that is cut off ends by {told!r}, and not by {line_of(talk)!r}")
+        self.compare_call(talk, told)
+        registers = [self.register] if talk.session.end and told == line_of(talk) else talk.may_be_left()
+        self.steps.update([how, *["one of several is left"] * (len(registers) > 1), *["an order behind a cut"] * bool(self.waiting)])
+        self.settle(registers)
+
+    def kill_within(self, talk):
+        """Kills the station. What waits for the end of the session isn't done."""
+        self.station.program.kill()
+        self.station.program.wait()
+        talk.finish()
+        self.compare_beginning(talk)
+        self.told.append(f"    killed where {len(talk.got)} of {len(talk.wanted())} octets of answers went out")
+        self.steps.update(["kill"])
+        self.waiting = []
+        self.settle(talk.may_be_left())
+
+    def compare_beginning(self, talk):
+        """What was read is the beginning of what the station has to say."""
+        if not talk.wanted().startswith(talk.got):
+            self.compare_octets("before a cut", talk.got, talk.wanted())
+
+    def compare_call(self, talk, told):
+        """The command that had the station call tells how the session ended."""
+        if talk.session.called:
+            out, err = self.calling.communicate(timeout=LONG)
+            line = f"{told.partition(': ')[2]}\n".encode()
+            expect((self.calling.returncode, out, err), (1, b"", line) if line.startswith(b"fault:") else (0, line, b""), "the command `call`")
+
+    def settle(self, registers):
+        """The orders that waited were done to one of these registers, which is then that of the model."""
+        answers = [answer_to(client) for _, client in self.waiting]
+        found = tables.read(self.database) if len(registers) > 1 else None
+        whys = []
+        for register in reversed(registers):
+            lines = [order.line(register) for order, _ in self.waiting]
+            wanted = [({1: line.encode()}, status) for line, status in lines]
+            why = f"orders are answered {answers}, and not {wanted}" if answers != wanted else found and unlike(found, register)
+            if not why:
+                self.register = register
+                self.told += [f"    done behind it: {line.strip()}" for line, _ in lines]
+                return
+            whys.append(why)
+        raise Differs("; or ".join(whys))
+
+    # an operator beside it
+
+    def draw_order(self):
+        chance = self.chance
+        unanswered = self.unanswered()
+        if unanswered and chance.random() < 0.5:
+            return self.draw_answer(chance.choice(unanswered))
+        if chance.random() < 0.2:
+            return self.draw_answer(chance.randint(1, len(self.register.in_file) + 1))
+        return self.draw_submission()
+
+    def order_within(self):
+        """An order that has to wait for the end of the session. Some commands are gone before that: nothing is done for them. The look-up
+        shows nothing of it; it is answered only once the station has heard the order."""
+        order = self.draw_order()
+        file = ["f"] if order.act == "submit" else []
+        book = (self.room / "book").read_bytes()
+        client = self.beside.enter_context(self.station.asked(book, order.content, order.act, "--db=d", "--book=b", *order.words, *file))
+        if self.chance.random() < 0.15:
+            self.told.append("    which is given up within the session")
+            self.steps.update(["an order is given up"])
+            client.close()
+        else:
+            self.told.append("    which waits for the end of the session")
+            self.steps.update(["an order waits for the end"])
+            self.waiting.append((order, client))
+        self.look_up([self.register])
+
+    def look_up_between(self):
+        if self.chance.random() < 0.2:
+            self.look_up([self.register])
+
+    def look_up(self, registers):
+        """A look-up, which shows what one of these registers has."""
+        judge = self.chance.choice([self.report, self.fetch_any, self.request, self.request])()
+        whys = [judge(register) for register in registers]
+        if all(whys):
+            raise Differs("; or ".join(whys))
+
+    # Each of these asks, and returns what says of a register how it differs, or None.
+
+    def report(self):
+        kind = self.chance.choice(["in", "out", "issued", "received"])
+        self.told.append(f"report {kind}")
+        done = self.give("report", "--db", "database", kind)
+        expect((done.returncode, done.stderr), (0, b""), "the report")
+        return lambda register: why_not(compare_report, shown(register.tables()), kind, done.stdout.decode())
+
+    def fetch_any(self):
+        whole = [file["no"] for file in self.register.in_file if file["state"] == "whole"]
+        number = self.chance.choice(whole or [1]) if self.chance.random() < 0.8 else self.chance.randint(1, len(self.register.in_file) + 1)
+        found = self.fetch(number)
+        return lambda register: why_not(expect, found, fetched_of(register, number), f"fetch {number}")
+
+    def request(self):
+        chance = self.chance
+        numbers = [f"/{side}/{chance.randint(1, len(getattr(self.register, f'{side}_file')) + 1)}" for side in ("in", "out")]
+        target = chance.choice(["/in", "/out", "/responses", *numbers])
+        self.told.append(f"GET {target}")
+        reply = ask(self.station, [f"GET {target} HTTP/1.1".encode() + END + END], port=self.requests)
+        return lambda register: why_not(expect, reply, reply_for(register, target), f"the reply for {target}")
+
+
+def why_not(test, *given):
+    """Why a test fails, or None."""
+    try:
+        test(*given)
+    except Wrong as why:
+        return str(why)
+    return None
+
+
+def reply_for(register, target):
+    """The reply for a target, by a register of the model."""
+    try:
+        return reply_of("200", body_in(shown(register.tables()), target).decode())
+    except IndexError:
+        return reply_of("404", "")
+
+
+def line_of(talk):
+    """The line of a session that has heard all."""
+    return f"{whose(talk)}: {talk.ends()}"
+
+
+def whose(talk):
+    session = talk.session
+    return f"session {session.called} out" if session.called else f"session {getattr(session, 'partner', '-')} in"
+
+
+def lines_of_a_cut(talk):
+    """The lines of a session whose connection broke. A caller who has read no more than the greeting may not have been let in, and a call of
+    which nothing was read may not have been seen as made."""
+    names, ends = [whose(talk)], CUT_ENDS
+    if talk.session.called and not talk.got:
+        ends = [*CUT_ENDS, UNMADE]
+    elif not talk.session.called and len(talk.got) <= len(talk.session.out[0]):
+        names.append("session - in")
+    return [f"{name}: {end}" for name in names for end in ends]
 
 
 def write_pieces(sink, octets, sizes, most):
@@ -597,8 +752,8 @@ def write_pieces(sink, octets, sizes, most):
 
 
 def play_life(seed, room, staying):
-    """Plays the life of a seed. It returns the life, and what differs, in words, or None."""
-    life = Life(seed, room, staying)
+    """Plays the life of a seed, which determines its kind. It returns the life, and what differs, in words, or None."""
+    life = random.Random(f"kind {seed}").choice([Life, ServedLife, ResidentLife])(seed, room, staying)
     try:
         life.live()
     except (Differs, Wrong, tables.Damaged, subprocess.SubprocessError, OSError, LookupError, ValueError) as why:

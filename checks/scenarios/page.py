@@ -5,18 +5,19 @@
     checks/scenarios/page.py [--pictures FOLDER] --base URL                  the page and the lists of another server
 
 The page is crates/oftp_resident/src/page.html, or FILE. Most lists are made (`checks/lib/page_lists.py`): a server in this script returns
-both, and counts the requests. In two cases the built program answers, from databases of rows/listing: `http` returns the lists, and `run`
-also the page. The browser resolves no address but this machine's. `--pictures` writes screenshots. Without a browser nothing is tried. The
-last line is `N passed, M failed`; before it comes the time for 10,000 files.
+both, and counts the requests. In three cases the built program answers, in two of them from databases of rows/listing: `http` returns the
+lists, and `run` also the page. The browser resolves no address but this machine's. `--pictures` writes screenshots. Without a browser
+nothing is tried. The last line is `N passed, M failed`; before it comes the time for 10,000 files.
 """
 
 import argparse
+import subprocess
 import sys
 import tempfile
 import threading
 import time
 import urllib.request
-from datetime import datetime, timedelta
+from datetime import timedelta
 from http.server import BaseHTTPRequestHandler, ThreadingHTTPServer
 from pathlib import Path
 
@@ -25,10 +26,10 @@ sys.path.insert(0, str(Path(__file__).resolve().parents[1] / "lib"))
 import page_lists
 from browser import Browser, Failed, Tab, chromium
 from listing_files import Listing, Request
-from page_lists import HOSTILE, VIEWS, Lists, Shown
-from program import ROOT
+from page_lists import HOSTILE, VIEWS, Lists, Shown, utc_now
+from program import PROGRAM, ROOT
 from row_files import ROWS, Bad
-from services import Resident, Service, Wrong, expect, free_port
+from services import BOOK, CARMAKER, Resident, Service, Wrong, expect, free_port
 
 PAGE = ROOT / "crates/oftp_resident/src/page.html"
 WIDTHS = (1024, 400)
@@ -222,13 +223,13 @@ def no_file(browser, picture):
         for width in WIDTHS:
             with opened(browser, server, width) as tab:
                 picture(tab, f"no_file_{width}")
-                expect_shown(tab, server.lists, datetime.now())
+                expect_shown(tab, server.lists, utc_now())
                 expect_quiet(tab, server)
 
 
 def every_state(browser, picture):
     """30 files each way in all states, with all responses, in a light and in a dark scheme."""
-    now = datetime.now()
+    now = utc_now()
     lists = page_lists.in_every_state(30, now)
     said = [{row.words for row in page_lists.shown(lists, now)[view]} for view in VIEWS]
     expect(said, [set(words) for words in page_lists.WORDS.values()], "states that the files are in")
@@ -245,7 +246,7 @@ def every_state(browser, picture):
 
 def hostile_texts(browser, picture):
     """Texts that would be executed, be loaded or change their surroundings are shown as texts, and a long one stays within its row."""
-    now = datetime.now()
+    now = utc_now()
     kinds = {"tr", "th", "td", "bdi", "span", "time", "details", "summary"}
     with Server(page_lists.hostile(now)) as server:
         for width in WIDTHS:
@@ -280,7 +281,7 @@ def chosen_by_text(tab):
 
 def many_files(browser, picture):
     """10,000 files each way: the visible ones are drawn, more as somebody scrolls there, and quickly."""
-    now = datetime.now()
+    now = utc_now()
     watch = """
     new MutationObserver((_, watch) => {
       if (document.querySelector("#list tbody tr")) {
@@ -334,7 +335,7 @@ def more_as_one_comes(tab):
 
 def filter_is_kept(browser, _picture):
     """The filter finds what it says, in each list; the address keeps it, and so does a page that renews itself."""
-    now = datetime.now()
+    now = utc_now()
     with Server(page_lists.in_every_state(30, now)) as server, opened(browser, server, 1024) as tab:
         wanted = page_lists.shown(server.lists, now)
         partner, words = page_lists.PARTNERS[1], "Refused by the partner"
@@ -376,7 +377,7 @@ def set_value(tab, control, value):
 
 def renews_itself(browser, _picture):
     """The page renews itself: rows that say the same stay, what is open stays open, and the row and the field in use keep their place."""
-    now = datetime.now()
+    now = utc_now()
     with Server(page_lists.in_every_state(60, now)) as server, opened(browser, server, 1024) as tab:
         tab.value('document.querySelector("details").open = true')
         tab.value('document.querySelector("details summary").focus()')
@@ -412,7 +413,7 @@ def watched(tab):
 
 def says_when_it_cannot(browser, picture):
     """If a station can't be reached, or replies with an error or something else, the page says so, and what was shown stays."""
-    now = datetime.now()
+    now = utc_now()
     faults = [
         ((503, '{"error":503}'), "it answered with error 503"),
         ((200, '[{"dataset":'), "its answer isn't what it should be"),
@@ -443,7 +444,7 @@ def says_when_it_cannot(browser, picture):
 
 def by_keyboard(browser, _picture):
     """Everything can be done by keyboard, each control has a name, and a table has its role at either width."""
-    now = datetime.now()
+    now = utc_now()
     with Server(page_lists.in_every_state(30, now)) as server:
         for width in WIDTHS:
             with opened(browser, server, width) as tab:
@@ -494,7 +495,7 @@ def of_the_program(browser, picture):
                 with Server(lists) as server:
                     for width in WIDTHS:
                         with opened(browser, server, width) as tab:
-                            expect_shown(tab, page_lists.read_lists(lists.answer), datetime.now())
+                            expect_shown(tab, page_lists.read_lists(lists.answer), utc_now())
                             picture(tab, f"program_{name}_{width}")
                             expect_quiet(tab, server)
 
@@ -525,13 +526,13 @@ def served_by_run(browser, picture):
         answer = Elsewhere(there.url).answer
         with Resident(room, "--http-port", str(port), port=own) as station, opened(browser, there, 400) as tab:
             expect(answer("/"), PAGE.read_text(encoding="utf-8"), "the page")
-            expect_shown(tab, page_lists.read_lists(answer), datetime.now())
+            expect_shown(tab, page_lists.read_lists(answer), utc_now())
             (room / "content").write_bytes(b"content")
             station.submit(room / "content")
             renewed(tab)
             choose(tab, "out")
             expect([row.name for row in rows_of(tab)[0]], ["INV.1"], "the outgoing files")
-            expect_shown(tab, page_lists.read_lists(answer), datetime.now())
+            expect_shown(tab, page_lists.read_lists(answer), utc_now())
             expect_quiet(tab, there)
             station.program.kill()
             station.program.wait()
@@ -540,8 +541,48 @@ def served_by_run(browser, picture):
             with Resident(room, "--http-port", str(port), port=own):
                 tab.value(f"void ({RENEW})")
                 tab.until('document.querySelector("#trouble").hidden')
-                expect_shown(tab, page_lists.read_lists(answer), datetime.now())
+                expect_shown(tab, page_lists.read_lists(answer), utc_now())
                 picture(tab, "served_by_run")
+
+
+def after_a_restore(browser, picture):
+    """A station that starts from a backup sends a file again, which its partner has. The page doesn't say to submit it once more, and calls it
+    delivered once its EERP has come."""
+    with tempfile.TemporaryDirectory() as name:
+        room, partner, port = Path(name), Path(name) / "partner", free_port()
+        partner.mkdir()
+        theirs, book, database = ROOT / "examples/carmaker/book.toml", room / "book", room / "database"
+        (room / "content").write_bytes(b"content")
+
+        def given(*words):
+            return subprocess.run([PROGRAM, *words], capture_output=True, text=True, timeout=60, check=False).stdout
+
+        def call():
+            given("call", "--db", database, "--book", book, "--partner", CARMAKER)
+
+        with Service(partner, "listen", "--sessions", "9", book=theirs) as other:
+            other.caller().close()
+            book.write_text(BOOK.read_text(encoding="utf-8").replace("127.0.0.1:3305", f"127.0.0.1:{other.port}"), encoding="utf-8")
+            identity = ["--dataset", "INV.1", "--date", "20240201", "--time", "0800000001", "--to", CARMAKER, "--format", "U"]
+            expect(given("submit", "--db", database, "--book", book, *identity, room / "content"), "done: submit 1\n", "the file")
+            expect(given("backup", "--db", database, room / "backup"), "done: backup\n", "the backup")
+            call()
+            (room / "database-wal").unlink()
+            (room / "backup").rename(database)
+            there = There(f"http://127.0.0.1:{port}/")
+            with Resident(room, "--http-port", str(port), book=book), opened(browser, there, 400) as tab:
+                choose(tab, "out")
+                expect(rows_of(tab)[0][0].words, "Waiting to be sent", "the file in the backup")
+                call()
+                renewed(tab)
+                picture(tab, "after_a_restore")
+                expect(rows_of(tab)[0][0].words, "Refused as a duplicate", "the file that was sent again")
+                expect(says_of(tab, 1, "with another date or time"), False, "whether it is to be submitted again")
+                expect(given("release", "--db", other.database, "--book", theirs, "1"), "done: release 1\n", "the release there")
+                call()
+                renewed(tab)
+                expect(rows_of(tab)[0][0].words, "Delivered", "the file once its EERP has come")
+                expect_quiet(tab, there)
 
 
 def renewed(tab):
@@ -553,7 +594,7 @@ def renewed(tab):
 
 def closing_for_long(browser, _picture):
     """A file that is younger than an hour stands out once the page has seen it closing for ten minutes, and not before."""
-    now = datetime.now()
+    now = utc_now()
     file = page_lists.outgoing(1, now - timedelta(minutes=2), "closing")
     with Server(Lists(outgoing=[file])) as server, opened(browser, server, 1024) as tab:
         choose(tab, "out")
@@ -568,9 +609,57 @@ def closing_for_long(browser, _picture):
         expect_quiet(tab, server)
 
 
+def other_time_zones(browser, _picture):
+    """Dates and times of files are read as UTC, whatever the browser's time zone is."""
+    for zone in ("Europe/Berlin", "America/Mexico_City"):
+        now = utc_now()
+        files = [page_lists.outgoing(no, now - timedelta(minutes=minutes), "closing") for no, minutes in ((1, 65), (2, 55), (3, 2))]
+        with Server(Lists(outgoing=files)) as server, opened(browser, server, 1024, zone=zone) as tab:
+            expect(tab.value("Intl.DateTimeFormat().resolvedOptions().timeZone"), zone, "the browser's time zone")
+            choose(tab, "out")
+            wanted = ["Sent, not yet confirmed", "Sent, not yet confirmed", "Not confirmed for long"]
+            expect([row.words for row in rows_of(tab)[0]], wanted, f"files of 2, 55 and 65 minutes in {zone}")
+            expect_shown(tab, server.lists, now)
+            expect_quiet(tab, server)
+
+
+def refused_as_duplicate(browser, picture):
+    """A file that the partner has already isn't to be sent again. It is what its response says, if one is here or comes."""
+    now = utc_now()
+    files = [page_lists.outgoing(no, now, "refused", reason="13" if no < 4 else "05") for no in (1, 2, 3, 4)]
+    responses = [
+        page_lists.received(1, files[1]),
+        page_lists.received(2, files[2], "NERP", "34", note="Part number 4711 isn't ours"),
+        page_lists.received(3, files[3]),
+    ]
+    with Server(Lists(outgoing=files, received=responses)) as server:
+        for width in WIDTHS:
+            server.lists.received = responses
+            with opened(browser, server, width) as tab:
+                expect_shown(tab, server.lists, now)
+                choose(tab, "out")
+                picture(tab, f"refused_as_duplicate_{width}")
+                wanted = ["Refused by the partner", "Returned (NERP)", "Delivered", "Refused as a duplicate"]
+                expect([row.words for row in rows_of(tab)[0]], wanted, "what is said of files 4, 3, 2 and 1")
+                asked = [says_of(tab, no, "don't send it again before asking") for no in (4, 3, 2, 1)]
+                expect(asked, [False, False, False, True], "which files aren't to be sent again before asking")
+                again = [says_of(tab, no, "submit it with another date or time") for no in (4, 3, 2, 1)]
+                expect(again, [True, True, False, False], "which files are to be submitted again")
+                server.lists.received = [*responses, page_lists.received(4, files[0])]
+                renewed(tab)
+                expect(rows_of(tab)[0][-1].words, "Delivered", "what is said of file 1 once its EERP has come")
+                expect_shown(tab, server.lists, now)
+                expect_quiet(tab, server)
+
+
+def says_of(tab, no, words):
+    """Whether the row of this file says these words."""
+    return tab.value(f"""document.querySelector('#list tbody tr[data-no="{no}"] .state').textContent.includes("{words}")""")
+
+
 CASES = [
-    *(no_file, every_state, closing_for_long, hostile_texts, many_files, filter_is_kept, renews_itself, says_when_it_cannot, by_keyboard),
-    *(of_the_program, served_by_run),
+    *(no_file, every_state, closing_for_long, other_time_zones, refused_as_duplicate, hostile_texts, many_files, filter_is_kept, renews_itself, says_when_it_cannot, by_keyboard),
+    *(of_the_program, served_by_run, after_a_restore),
 ]
 
 
@@ -581,7 +670,7 @@ def at_base(url):
         lists = page_lists.read_lists(Elsewhere(url).answer)
         for width in WIDTHS:
             with opened(browser, There(url), width) as tab:
-                expect_shown(tab, lists, datetime.now())
+                expect_shown(tab, lists, utc_now())
                 picture(tab, f"served_{width}", is_whole=True)
                 expect_quiet(tab, There(url))
 

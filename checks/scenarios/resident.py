@@ -29,9 +29,9 @@ import row_files
 import staying
 import tables
 from passage import Passage
-from program import PROGRAM
+from program import PROGRAM, ROOT
 from ready import ready_to_read
-from services import BOOK, CARMAKER, LONG, NotTried, Resident, Wrong, expect, free_port, port_of_ipv6, rest_of
+from services import BOOK, CARMAKER, LONG, NotTried, Resident, Service, Wrong, expect, free_port, port_of_ipv6, rest_of
 
 # What may be added to any time on a machine with other work.
 SOON = 25
@@ -791,6 +791,30 @@ def calls(room):
         expect((done.returncode, done.stdout, done.stderr), (1, b"refused: 2 unknown\n", b""), "the call of a stranger")
 
 
+def book_of_a_call(room):
+    """`call` reads the book itself, and a station at its start: a change holds for the partner's calls only once the station is started again."""
+    port, book, theirs, folder = free_port(), room / "book", room / "theirs", room / "partner"
+    folder.mkdir()
+    theirs.write_text((ROOT / "examples/carmaker/book.toml").read_text().replace("127.0.0.1:3306", f"127.0.0.1:{port}"))
+    back = [PROGRAM, "call", "--db", folder / "own", "--book", theirs, "--partner", "O0013SUPPLIER"]
+    with Service(folder, "listen", "--sessions", "9", book=theirs) as partner:
+        partner.caller().close()
+        right = BOOK.read_text().replace("127.0.0.1:3305", f"127.0.0.1:{partner.port}")
+        book.write_text(right.replace("CARPW", "OLDPW"))
+        with Resident(room, book=book, port=port) as service:
+            book.write_text(right)
+            with call(service, book) as program:
+                expect(told(program), (0, b"end: partner 00\n", b""), "the call by the new book")
+            expect(service.line(), f"session {CARMAKER} out: end: partner 00", "its line")
+            done = subprocess.run(back, capture_output=True, timeout=LONG, check=False)
+            expect((done.returncode, done.stdout), (0, b"end: partner 04\n"), "the partner's call, by the old book")
+            expect(service.line(), "session - in: end: own 04", "its line")
+        with Resident(room, book=book, port=port) as service:
+            done = subprocess.run(back, capture_output=True, timeout=LONG, check=False)
+            expect((done.returncode, done.stdout), (0, b"end: partner 00\n"), "the partner's call by the new book")
+            expect(service.line(), f"session {CARMAKER} in: end: own 00", "its line")
+
+
 def traced(room):
     """The trace has each session with its end: of a partner, of one who isn't let in, and of one who is called. It has no password."""
     trace, session = room / "trace", session_of("calling/initiator_alone")
@@ -1375,6 +1399,77 @@ def office_that_fails(room):
     expect(tables.unfit(tables.read(service.database)), None, "the tables")
 
 
+def filled_station(room):
+    """A database with an incoming file, and so much else that a station doesn't keep all of its pages in memory."""
+    large = room / "large"
+    large.write_bytes(bytes(12 << 20))
+    with Resident(room) as service:
+        play(service, ONE_OCTET)
+        expect(given(service, "submit", *IDENTITY, large), (0, b"done: submit 1\n", b""), "submit")
+
+
+def let_no_file_be_read(service):
+    """From now on the station reads nothing more of its database, as on a disk that is gone."""
+    for ending in ("", "-wal"):
+        os.truncate(f"{service.database}{ending}", 0)
+
+
+def request_for_an_office_that_fails(room):
+    """A request for which the database can't be read gets 503, or 405, and ends the station with `fault: 3 office`: between two sessions, and
+    within one."""
+    filled_station(room)
+    port = free_port()
+    copies = {name: (room / name).read_bytes() for name in ("database", "database-wal")}
+    with Resident(room, "--http-port", str(port)) as service:
+        let_no_file_be_read(service)
+        expect(get(port, "/in"), (503, b'{"error":503}'), "the reply")
+        service.ends(1, b"fault: 3 office\n")
+        expect(service.socket.exists(), False, "whether the socket is left")
+    for name, octets in copies.items():
+        (room / name).write_bytes(octets)
+    with Resident(room, "--http-port", str(port)) as service, service.caller() as caller:
+        caller.sendall(SSID)
+        heard(caller, OPENED)
+        let_no_file_be_read(service)
+        expect(ask(port, b"POST /in/1 HTTP/1.1\r\n\r\n").split()[1], b"405", "the reply within a session")
+        expect(service.line(), f"session {CARMAKER} in: fault: 3 office", "the line")
+        caller.close()
+        service.ends(1, b"fault: 3 office\n")
+    for name, octets in copies.items():
+        (room / name).write_bytes(octets)
+    with Resident(room, "--http-port", str(port)) as service:
+        expect(get(port, "/in/1")[0], 200, "the file that came before")
+
+
+def commands_that_are_interrupted(room):
+    """A command that is interrupted while it waits for the end of a session has done nothing. One that isn't, is carried out."""
+    file = room / "file"
+    file.write_bytes(b"A")
+    other = [word.replace("INV.1", "INV.2") for word in IDENTITY]
+    with socket.create_server(("127.0.0.1", 0)) as partner, Resident(room) as service, service.caller() as caller:
+        book = book_with(room, f"127.0.0.1:{partner.getsockname()[1]}")
+        play(service, ONE_OCTET)
+        caller.sendall(SSID)
+        heard(caller, OPENED)
+        waiting = [
+            started(service, "submit", *IDENTITY, file),
+            started(service, "refuse", "1", "12", "no"),
+            call(service, book),
+            started(service, "submit", *other, file),
+        ]
+        time.sleep(3)
+        expect([program.poll() for program in waiting], [None] * 4, "whether they wait")
+        for program in waiting[:3]:
+            program.send_signal(signal.SIGINT)
+            program.communicate(timeout=LONG)
+        caller.sendall(NOTHING_WAITING.joined("in")[len(SSID) :])
+        expect(service.line() + "\n", f"session {CARMAKER} in: {NOTHING_WAITING.end[1]}", "the line")
+        expect(told(waiting[3]), (0, b"done: submit 1\n", b""), "the submit that goes on")
+        expect(given(service, "report", "out")[1].count(b"\n"), 2, "the lines of the report of outgoing files")
+        expect(given(service, "report", "in")[1].strip()[-5:], b",none", "the response of the incoming file")
+        expect(ready_to_read([partner], 1), [], "whether the partner is called")
+
+
 def killed_within_a_command(room):
     """A command whose station is killed within it says so, and doesn't say that anything is done."""
     with socket.create_server(("127.0.0.1", 0)) as partner, Resident(room) as service:
@@ -1633,6 +1728,7 @@ CASES = [
     backup_of_who_is_gone,
     backup_that_takes_too_long,
     calls,
+    book_of_a_call,
     traced,
     call_that_is_a_job,
     partner_who_does_not_answer,
@@ -1659,6 +1755,8 @@ CASES = [
     partner_who_reads_nothing,
     session_without_memory,
     office_that_fails,
+    request_for_an_office_that_fails,
+    commands_that_are_interrupted,
     killed_within_a_command,
     killed_before_it_hears_a_command,
     answers_that_are_cut,

@@ -29,6 +29,7 @@ import oftp
 import row_files
 import tables
 from program import PROGRAM, ROOT
+from ready import ready_to_read
 from services import BOOK, CARMAKER, LONG, NotTried, Service, Wrong, expect, free_port, port_of_ipv6, rest_of
 
 # Where SQLite's locks on a database file are: the pending, the reserved and the shared ones.
@@ -324,6 +325,63 @@ def no_descriptor_for_a_caller(room):
         time.sleep(1)
         resource.prlimit(service.program.pid, resource.RLIMIT_NOFILE, before)
         play(service, "receiving/one_octet")
+        service.ends()
+
+
+def no_descriptor_for_the_database(room):
+    """Strangers who take all descriptors leave those that the database of a partner needs, who is let in."""
+    steps, end = steps_of("receiving/one_octet")
+    with Service(room, "listen", "--sessions", "100") as service, contextlib.ExitStack() as stack:
+        partner = stack.enter_context(service.caller())
+        expect(receive(partner, len(steps[0][1])), steps[0][1], "the greeting")
+        before = resource.prlimit(service.program.pid, resource.RLIMIT_NOFILE)
+        resource.prlimit(service.program.pid, resource.RLIMIT_NOFILE, (40, before[1]))
+        strangers = [stack.enter_context(service.caller()) for _ in range(60)]
+        # The last of them aren't greeted.
+        expect(receive(strangers[0], len(steps[0][1])), steps[0][1], "the greeting of a stranger")
+        time.sleep(1)
+        expect(ready_to_read(strangers[-5:], 0), [], "whether all have a descriptor")
+        converse(partner, steps[1:])
+        expect(service.line() + "\n", end, "the line of the partner")
+        for stranger in strangers:
+            stranger.close()
+        expect({service.either() for _ in strangers} - {"end: input", "fault: 1 read"}, set(), "the lines of the strangers")
+        play(service, "opening/wrong_password")
+
+
+def no_descriptor_at_all(room):
+    """Where no descriptor is left to a service, a partner who is let in waits for one, ten seconds at most, and the service goes on."""
+    steps, end = steps_of("receiving/one_octet")
+    with Service(room, "listen", "--sessions", "2") as service:
+        before = resource.prlimit(service.program.pid, resource.RLIMIT_NOFILE)
+        for seconds in (11, 2):
+            partner = service.caller()
+            expect(receive(partner, len(steps[0][1])), steps[0][1], "the greeting")
+            resource.prlimit(service.program.pid, resource.RLIMIT_NOFILE, (0, before[1]))
+            partner.sendall(steps[1][1])
+            time.sleep(seconds)
+            expect(service.program.poll(), None, "whether it has ended")
+            if seconds == 11:
+                expect((service.fault(), rest_of(partner)), ("fault: 6 store 1", b""), "the fault, and what the partner gets")
+            resource.prlimit(service.program.pid, resource.RLIMIT_NOFILE, before)
+        converse(partner, steps[2:])
+        expect(service.line() + "\n", end, "the line")
+        service.ends()
+
+
+def no_descriptor_for_a_reply(room):
+    """Nor does that end `http`."""
+    with Service(room, "http", "--requests", "2") as service:
+        before = resource.prlimit(service.program.pid, resource.RLIMIT_NOFILE)
+        for _ in range(2):
+            with service.caller() as client:
+                client.sendall(b"GET /in HT")
+                time.sleep(1)
+                resource.prlimit(service.program.pid, resource.RLIMIT_NOFILE, (0, before[1]))
+                client.sendall(b"TP/1.1\r\n\r\n")
+                time.sleep(2)
+                resource.prlimit(service.program.pid, resource.RLIMIT_NOFILE, before)
+                expect(rest_of(client)[:12], b"HTTP/1.1 200", "the reply")
         service.ends()
 
 
@@ -633,6 +691,9 @@ CASES = [
     stopped_within_a_session,
     traced,
     no_descriptor_for_a_caller,
+    no_descriptor_for_the_database,
+    no_descriptor_at_all,
+    no_descriptor_for_a_reply,
     nothing_to_print_to,
     nothing_to_print_faults_to,
     operator_while_it_listens,

@@ -36,6 +36,8 @@ OTHER = "O0099OTHER"
 OFF = 0.0002
 # How many small files are added before anything is measured.
 CAME = 20
+# How many times as often as it should an act is done, as long as it takes too long.
+ROUNDS = 4
 
 
 class Pace(NamedTuple):
@@ -170,10 +172,13 @@ def shown(first, second):
 
 
 def held_to(pace, empty, full):
-    """Whether an act takes no longer over the full register than it may. It prints what it took."""
-    turns = [(taken_for(pace, empty, at), taken_for(pace, full, at)) for at in range(pace.often)]
-    first, second = (least(column) for column in zip(*turns))
-    is_well = second[pace.is_by_processor] <= pace.most * first[pace.is_by_processor] + OFF
+    """Whether an act takes no longer over the full register than it may. It prints what it took. Other work on the machine can only make a time
+    longer, so an act that took too long is done again, and the least of all its times counts."""
+    turns, is_well = [], False
+    while not is_well and len(turns) < ROUNDS * pace.often:
+        turns += [(taken_for(pace, empty, at), taken_for(pace, full, at)) for at in range(len(turns), len(turns) + pace.often)]
+        first, second = (least(column) for column in zip(*turns))
+        is_well = second[pace.is_by_processor] <= pace.most * first[pace.is_by_processor] + OFF
     line = f"  {pace.name:<18} clock {shown(first.clock, second.clock)}; processor {shown(first.processor, second.processor)}"
     line += f"; {pace.wanted} ms are wanted on the clock" if pace.wanted else ""
     print(line if is_well else f"{line}: TOO MUCH, it may be {pace.most} times", flush=True)

@@ -11,6 +11,8 @@
         reports whether each edit can be applied to the text that it changes
     checks/wrong_bodies/wrong_bodies.py --ledger
         reports whether each crate with edits is what it was when all of them were refused
+    checks/wrong_bodies/wrong_bodies.py [--jobs N] --stale
+        tries all of each crate that isn't what the ledger says, N crates at once, and writes those whose edits were all refused into it
     checks/wrong_bodies/wrong_bodies.py --of-the-day
         tries some of one crate, another each day, whatever the ledger says
 
@@ -50,6 +52,7 @@ import shutil
 import subprocess
 import sys
 import tempfile
+from concurrent.futures import ThreadPoolExecutor
 from pathlib import Path
 
 sys.path.insert(0, str(Path(__file__).resolve().parents[1] / "lib"))
@@ -438,16 +441,33 @@ def crates_with_edits():
     return sorted({Edit.crate_of(it) for it in edits_of([])})
 
 
+def stale():
+    """The crates that differ from the ledger."""
+    lines = lines_of_ledger()
+    return [it for it in crates_with_edits() if lines.get(it, [])[::2] != [str(len(edits_of([it]))), sum_of(it)]]
+
+
 def held_to_ledger():
     """Reports the crates that differ from the ledger."""
-    lines, crates = lines_of_ledger(), crates_with_edits()
-    lost = [it for it in crates if lines.get(it, [])[::2] != [str(len(edits_of([it]))), sum_of(it)]]
+    crates, lost = crates_with_edits(), stale()
     for it in lost:
         print(f"{it} changed since all its wrong bodies were refused, or never were: run checks/wrong_bodies/wrong_bodies.py {it}")
-    gone = sorted({*lines} - {*crates})
+    gone = sorted({*lines_of_ledger()} - {*crates})
     for it in gone:
         print(f"{it} stands in the ledger and has no edits")
     return len(crates) + len(gone), len(lost) + len(gone)
+
+
+def try_stale(jobs):
+    """Tries the edits of each crate that differs from the ledger, as many crates at once as there are jobs, and writes those into it of which
+    all were refused."""
+    crates = stale()
+    with ThreadPoolExecutor(jobs) as pool:
+        tried = list(pool.map(lambda crate: try_crate(crate, 1), crates))
+    for crate, (_, failed) in zip(crates, tried):
+        if not failed:
+            write_line(crate)
+    return tried
 
 
 def crate_of_the_day():
@@ -469,7 +489,7 @@ def try_and_write(named, jobs, is_recording):
 
 
 # The words that begin with two dashes. Any other prints what is above.
-OPTIONS = {"--jobs", "--record", "--fits", "--ledger", "--of-the-day"}
+OPTIONS = {"--jobs", "--record", "--fits", "--ledger", "--stale", "--of-the-day"}
 
 
 def main(words):
@@ -480,6 +500,8 @@ def main(words):
     named = [it for it in words if not it.startswith("--")]
     if "--fits" in words or "--ledger" in words:
         tried = [call() for word, call in (("--fits", fit), ("--ledger", held_to_ledger)) if word in words]
+    elif "--stale" in words:
+        tried = try_stale(jobs) or [(1, 0)]  # the ledger, if it has them all
     elif "--of-the-day" in words:
         tried = [try_crate(crate_of_the_day(), jobs, is_of_the_day=True)]
     else:

@@ -32,3 +32,10 @@ pub record BeginsRequest (heard : List ℕ) : Type 0 where
   pub rest : List ℕ
   pub request : IsRequest words
   pub spelled : heard ≡ spelled_request words ++ rest
+
+-- as many more octets complete a request, and fewer complete none
+pub record Lacks (heard : List ℕ) (count : ℕ) : Type 0 where
+  pub more : List ℕ
+  pub many : length more ≡ count
+  pub enough : BeginsRequest (heard ++ more)
+  pub least : (fewer : List ℕ) → BeginsRequest (heard ++ fewer) → count ≤ length fewer

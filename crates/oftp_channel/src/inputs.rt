@@ -52,22 +52,10 @@ pub(crate) fn read_octet<R: Read>(alloc: Global, reader: &mut Port<R>) -> Result
 }
 
 // The number that four octets encode.
-fn number_of(octets: [u8; 4]) -> u32
+pub(crate) fn number_of(octets: [u8; 4]) -> u32
     ensures { to_be_bytes w32 result ≡ octets }
 {
     u32::from_be_bytes(octets)
-}
-
-// The number at the beginning of the octets, and the octets after it.
-pub(crate) fn number_at(octets: &[u8]) -> Option<(u32, &[u8])>
-    ensures some { IfSome result (λ it. octets.now ≡ to_be_bytes w32 it.0 ++ it.1.now) }
-    ensures small { IfSome result (λ it. it.0 < 2 ^ 32) }
-    ensures none { result ≡ None → length octets.now < 4 }
-{
-    match octets {
-        [a, b, c, d, behind @ ..] => Some((number_of([*a, *b, *c, *d]), behind)),
-        _ => None,
-    }
 }
 
 // Reads a number of four octets.

@@ -8,7 +8,7 @@ use Rattle.oftp_command_line.specs.Arguments.{taken}
 use Rattle.oftp_command_line.specs.FeedLine.{feed_app}
 use Rattle.oftp_command_line.specs.Files.{FilesSaid}
 use Rattle.oftp_command_line.specs.FolderLines.{collect_app, offer_app}
-use Rattle.oftp_command_line.specs.Line.{Said, line_named, line_of_words, said_backup, said_call, said_check, said_collect, said_feed, said_fetch, said_http, said_init, said_listen, said_migrate, said_offer, said_refuse, said_release, said_report, said_run, said_show, said_submit}
+use Rattle.oftp_command_line.specs.Line.{Said, line_named, line_of_words, said_backup, said_call, said_check, said_collect, said_feed, said_fetch, said_help, said_http, said_init, said_listen, said_migrate, said_offer, said_refuse, said_release, said_report, said_run, said_show, said_submit, said_version}
 use Rattle.oftp_command_line.specs.OperatorLines.{refuse_app, release_app, submit_app}
 use Rattle.oftp_command_line.specs.RegisterLines.{backup_app, fetch_app, report_app}
 use Rattle.oftp_command_line.specs.ServiceLines.{call_app, http_app, listen_app, run_app}
@@ -44,6 +44,34 @@ AreRead examples = map (λ (e : Example). line_of_words e.0) examples ≡ map (�
 -- the database d and the book b
 abbrev d_and_b : FilesSaid
 d_and_b = record { database = codes "d"; book = codes "b" }
+
+-- lines about the program itself
+program_lines : AreRead (
+    -- `help` asks for the usage of all commands
+    asks (codes "help") said_help
+    -- so does the option
+    ∷ asks (codes "--help") said_help
+    -- and its letter, whatever follows
+    ∷ asks (codes "-h submit --nothing") said_help
+    -- `version` asks for the version
+    ∷ asks (codes "version") said_version
+    -- so does the option
+    ∷ asks (codes "--version") said_version
+    -- and its letter, whatever follows
+    ∷ asks (codes "-V --db d --help") said_version
+    -- the words are in small letters
+    ∷ bad (codes "Help")
+    -- the letter of the version is large
+    ∷ bad (codes "-v")
+    -- an option has two minuses
+    ∷ bad (codes "-help")
+    -- a part of a word is no word
+    ∷ bad (codes "vers")
+    -- a word is required
+    ∷ ([], None)
+    ∷ [])
+unfolding line_named
+program_lines = refl
 
 -- lines of `init`
 init_lines : AreRead (

@@ -1,5 +1,6 @@
 -- The command line that the words make.
-use Rattle.std.specs.Prelude.{List, [], ◌∷◌, None, Option, Some, codes, option_and_then, option_map}
+use Rattle.std.specs.Prelude.{Bool, List, [], ◌∷◌, None, Option, Some, codes, false, option_and_then, option_map, true}
+use Rattle.std.specs.Option.{option_or}
 use Rattle.clap.specs.Words.{App, Row, Text}
 use Rattle.oftp_command_line.specs.Arguments.{given, named, taken}
 use Rattle.oftp_command_line.specs.FeedLine.{FeedSaid, feed_app, feed_in, feed_said}
@@ -15,6 +16,8 @@ use Rattle.oftp_command_line.specs.declared.line.commands.Name.TheVariants as na
 
 -- a command with its options and words, as plain values
 pub data Said : Type 0 where
+  said_help : Said
+  said_version : Said
   said_init : Text → Said
   said_migrate : Text → Said
   said_check : Text → Said
@@ -35,6 +38,8 @@ pub data Said : Type 0 where
 
 -- those of the command that was read
 abbrev pub said : Line → Said
+said line.Help = said_help
+said line.Version = said_version
 said (line.Init database) = said_init database.now
 said (line.Migrate database) = said_migrate database.now
 said (line.Check book) = said_check book.now
@@ -52,6 +57,11 @@ said (line.Run r) = said_run (run_said r)
 said (line.Listen l) = said_listen (listen_said l)
 said (line.Call c) = said_call (call_said c)
 said (line.Http h) = said_http (http_said h)
+
+-- what the first word asks of the program itself, whatever words follow it; `None` if it is another word
+abbrev pub asked_by : Text → Option Said
+asked_by = named ((codes "help", said_help) ∷ (codes "--help", said_help) ∷ (codes "-h", said_help)
+    ∷ (codes "version", said_version) ∷ (codes "--version", said_version) ∷ (codes "-V", said_version) ∷ [])
 
 -- the command with this name
 abbrev pub name_of : Text → Option Name
@@ -107,8 +117,17 @@ said_by name.Http rows = Some (said_http (http_with rows))
 unfoldable pub line_named : Name → List Text → Option Said
 line_named name words = option_and_then (said_by name) (taken (app_named name) words)
 
--- The command that the first word names, with the words after it. `None` if there is no word, no command has this name, or the command
--- doesn't accept the words.
+-- What the first word asks of the program itself, or the command that it names, with the words after it. `None` if there is no word, no
+-- command has this name, or the command doesn't accept the words.
 abbrev pub line_of_words : List Text → Option Said
 line_of_words [] = None
-line_of_words (first ∷ rest) = option_and_then (λ name. line_named name (first ∷ rest)) (name_of first)
+line_of_words (first ∷ rest) = option_or (asked_by first) (option_and_then (λ name. line_named name (first ∷ rest)) (name_of first))
+
+-- the command changes nothing but what its output says
+abbrev pub only_prints : Said → Bool
+only_prints said_help = true
+only_prints said_version = true
+only_prints (said_check book) = true
+only_prints (said_report report) = true
+only_prints (said_show input) = true
+only_prints command = false

@@ -5,5 +5,5 @@ mod line;
 
 pub use line::{
     Backup, Call, Collect, Entrance, Feed, Fetch, Files, Http, Line, LineFault, Listen, Offer,
-    Refuse, Release, Report, Run, SessionTerms, Side, Submit, line_of,
+    Refuse, Release, Report, Run, SessionTerms, Side, Submit, VERSION, help, line_of,
 };

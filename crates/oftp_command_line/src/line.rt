@@ -1,14 +1,16 @@
 //! Parses the command line, given by the arguments after the program's name.
-ghost use Rattle.std.specs.Prelude.{◌≡◌, IfErr, IfOk, None, Some, map, true};
+ghost use Rattle.std.specs.Prelude.{◌≡◌, IfErr, IfOk, None, Some, map, option_map, true};
 ghost use Rattle.std.specs.String.{string_bytes};
 ghost use Rattle.oftp_command_line.specs.Fault.{is_bad};
-ghost use Rattle.oftp_command_line.specs.Line.{line_named, line_of_words, said};
+ghost use Rattle.oftp_command_line.specs.Line.{asked_by, line_named, line_of_words, only_prints, said};
 ghost use Rattle.oftp_command_line.specs.declared.line.LineFault.TheVariants.{Memory};
 
 mod arguments;
 mod commands;
+mod usage;
 mod values;
 
+use commands::Name;
 pub use commands::feed::{Feed, Side};
 pub use commands::files::Files;
 pub use commands::folders::{Collect, Offer};
@@ -16,13 +18,18 @@ pub use commands::operators::{Refuse, Release, Submit};
 pub use commands::registers::{Backup, Fetch, Report};
 pub use commands::services::{Call, Http, Listen, Run};
 pub use commands::terms::{Entrance, SessionTerms};
-use commands::{NAMES, Name};
 use std::alloc::{AllocError, Global};
+pub use usage::{VERSION, help};
+use usage::{unknown_command, usage_after};
 use values::matched;
 
 /// A command with its options and words. The texts are borrowed from the arguments.
 #[derive(Clone, Copy)]
 pub enum Line<'a> {
+    /// Prints what each command takes and does.
+    Help,
+    /// Prints the version.
+    Version,
     /// Opens the database and creates its tables.
     Init {
         /// The database's file.
@@ -71,6 +78,22 @@ pub enum Line<'a> {
     Http(Http<'a>),
 }
 
+impl Line<'_> {
+    /// Whether the command changes nothing but what its output says.
+    pub fn only_prints(&self) -> bool
+        ensures { result ≡ only_prints (said self.now) }
+    {
+        match self {
+            Line::Help | Line::Version => true,
+            Line::Check { .. } | Line::Report(_) | Line::Show { .. } => true,
+            Line::Init { .. } | Line::Migrate { .. } | Line::Backup(_) => false,
+            Line::Submit(_) | Line::Release(_) | Line::Refuse(_) => false,
+            Line::Offer(_) | Line::Collect(_) | Line::Fetch(_) => false,
+            Line::Feed(_) | Line::Run(_) | Line::Listen(_) | Line::Call(_) | Line::Http(_) => false,
+        }
+    }
+}
+
 /// Why a command line isn't parsed.
 #[derive(Drop)]
 pub enum LineFault {
@@ -88,11 +111,22 @@ impl From<AllocError> for LineFault {
     }
 }
 
-/// Parses a command line. The first word names the command, and the others are its options and words.
+/// What the first word asks of the program itself, whatever words follow it.
+fn asked<'a>(word: &str) -> Option<Line<'a>>
+    ensures { option_map said result ≡ asked_by word.now }
+{
+    match word {
+        "help" | "--help" | "-h" => Some(Line::Help),
+        "version" | "--version" | "-V" => Some(Line::Version),
+        _ => None,
+    }
+}
+
+/// Parses a command line. The first word asks for the program's help or version, or names the command; the others are its options and words.
 ///
 /// # Errors
 ///
-/// - [`LineFault::Bad`]: the command line is invalid, or asks for help by `--help`. It has the text for standard error.
+/// - [`LineFault::Bad`]: the command line is invalid, or asks for a command's help by `--help`. It has the text for standard error.
 /// - [`LineFault::Memory`]: out of memory.
 pub fn line_of<'a>(alloc: Global, words: &'a [String]) -> Result<Line<'a>, LineFault>
     ensures ok { IfOk result (λ l. line_of_words (map string_bytes words.entry.now) ≡ Some (said l)) }
@@ -102,6 +136,9 @@ pub fn line_of<'a>(alloc: Global, words: &'a [String]) -> Result<Line<'a>, LineF
     let Some(first) = words.first() else {
         return Err(LineFault::Bad(usage_after(alloc, "error: a command is missing")?));
     };
+    if let Some(line) = asked(first.as_str()) {
+        return Ok(line);
+    }
     let Some(name) = Name::of(first.as_str()) else {
         return Err(LineFault::Bad(unknown_command(alloc, first.as_str())?));
     };
@@ -117,20 +154,4 @@ fn read_command<'a>(alloc: Global, name: Name, words: &'a [String]) -> Result<Li
     let command = name.command(alloc)?;
     let matches = matched(alloc, command, words)?;
     name.read(alloc, &matches)
-}
-
-/// The text for an unknown command.
-fn unknown_command(alloc: Global, name: &str) -> Result<String, AllocError> {
-    let error = format!(in alloc; "error: unknown command '{name}'")?;
-    usage_after(alloc, error.as_str())
-}
-
-/// An error with the usage of each command.
-fn usage_after(alloc: Global, error: &str) -> Result<String, AllocError> {
-    let mut text = format!(in alloc; "{error}\n\nUsage:\n")?;
-    for name in NAMES {
-        let usage = name.usage();
-        write!(text, "  {usage}\n")?;
-    }
-    Ok(text)
 }

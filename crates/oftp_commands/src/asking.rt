@@ -1,12 +1,13 @@
 //! Commands that ask the station over their database to carry them out. They read and write the files themselves.
 
 use crate::backups::DatabaseCopy;
+use crate::contents::Content;
 use crate::fetching::make_file_of;
 use crate::services::trace_of;
 use oftp_channel::{AnswerPart, HearFault, Outlet, fits, read_part, read_ready, write_request};
 use oftp_command_line::{Backup, Call, Fetch, Files, Submit};
 use oftp_engine::{Port, RunFault};
-use oftp_files::{Trace, read_book_octets, read_content};
+use oftp_files::{Trace, read_book_octets};
 use oftp_outcomes::{DONE, Fault, Outcome, tell};
 use oftp_sockets::SocketPlace;
 use std::alloc::Global;
@@ -36,18 +37,19 @@ impl<'a> Asking<'a> {
         Asking { rt, words, stream }
     }
 
-    /// Submits a file. Returns the exit status.
+    /// Submits a file with this content. Returns the exit status.
     ///
     /// # Errors
     /// [`Fault::Book`] or [`Fault::File`] if the book or the file can't be read; those of [`Asking::ask_alone`].
     pub fn submit(
         self,
         submit: &Submit<'_>,
+        content: &mut Content,
         out: &mut impl Write,
         err: &mut impl Write,
     ) -> Result<u8, Fault> {
         let (book, _) = read_book_octets(self.rt, submit.files.book)?;
-        let content = read_content(self.rt, submit)?;
+        let content = content.take(self.rt, submit)?;
         self.ask_line(book.as_slice(), content.as_slice(), out, err)
     }
 

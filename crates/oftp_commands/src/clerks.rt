@@ -1,14 +1,16 @@
 //! Access to a register for the commands over a folder: over the database that they open, or by the station that has it locked.
 
 use crate::asking::{Asking, reached};
-use crate::fetching::{fetch_and_tell, make_file_of};
-use oftp_command_line::{Fetch, Submit};
+use crate::fetching::pour;
+use oftp_command_line::Submit;
+use oftp_contents::{HOLDS, write_outgoing};
 use oftp_database::DatabaseOffice;
 use oftp_engine::{Operator, Port, RunFault, Submission, Told};
+use oftp_files::Comparison;
 use oftp_folders::{Clerk, Completion};
-use oftp_held::{HeldOffice, report_to};
-use oftp_listing::ReportKind;
-use oftp_outcomes::{DONE, Fault};
+use oftp_life::Life;
+use oftp_listing::{self as listing, ReportKind};
+use oftp_outcomes::{DONE, Fault, tell};
 use oftp_partners::Book;
 use oftp_vfile::Format;
 use std::alloc::{AllocError, Global};
@@ -43,9 +45,8 @@ fn completion_of(alloc: Global, is_done: bool, line: Vec<u8>) -> Result<Completi
 #[derive(Drop)]
 pub(crate) struct OwnClerk<'a> {
     pub(crate) rt: &'a HostRuntime,
-    pub(crate) database: &'a str,
     pub(crate) book: &'a Book,
-    pub(crate) office: DatabaseOffice,
+    pub(crate) life: Life<DatabaseOffice>,
 }
 
 impl OwnClerk<'_> {
@@ -54,9 +55,9 @@ impl OwnClerk<'_> {
         let alloc = self.rt.alloc();
         let mut port = Port::new(Vec::new(alloc), 0);
         let told = self
-            .office
-            .operate(alloc, self.book, operator, &mut port)
-            .map_err(Fault::Run)?;
+            .life
+            .order(alloc, self.book, operator, &mut port)
+            .map_err(|fault| Fault::Run(fault).in_memory())?;
         completion_of(alloc, matches!(told, Told::Done), port.into_inner())
     }
 }
@@ -65,20 +66,24 @@ impl Clerk for OwnClerk<'_> {
     fn report(&mut self, kind: ReportKind) -> Result<String, Fault> {
         let alloc = self.rt.alloc();
         let mut port = Port::new(Vec::new(alloc), 0);
-        report_to(alloc, &mut self.office, kind, &mut port)?;
+        listing::report(alloc, kind, &mut self.life, &mut port).map_err(|fault| Fault::from(
+            fault,
+        ).in_memory())?;
         text_of(port.into_inner())
     }
 
-    fn fetch(&mut self, no: u64, path: &str) -> Result<Completion, Fault> {
+    fn fetch(&mut self, no: u64, out: &mut impl Write) -> Result<Completion, Fault> {
         let alloc = self.rt.alloc();
-        let line = Fetch {
-            database: self.database,
-            no,
-            file: path,
-        };
         let mut told = Vec::new(alloc);
-        let status = fetch_and_tell(self.rt, &mut self.office, &line, &mut told)?;
+        let outcome = pour(alloc, &mut self.life, no, out)?;
+        let status = tell(outcome, &mut told).map_err(|fault| fault.in_memory())?;
         completion_of(alloc, status == DONE, told)
+    }
+
+    fn holds(&mut self, no: u64, content: &[u8]) -> Result<bool, Fault> {
+        let mut comparison = Comparison::with(content);
+        let is_there = write_outgoing(self.rt.alloc(), &mut self.life, no, &mut comparison)?;
+        Ok(is_there && comparison.is_equal())
     }
 
     fn release(&mut self, no: u64) -> Result<Completion, Fault> {
@@ -161,6 +166,11 @@ fn fetch_line(alloc: Global, no: u64) -> Result<String, AllocError> {
     format!(in alloc; "fetch --db=d {no} f")
 }
 
+/// The request whether an outgoing file has the content that goes with it.
+fn holds_line(alloc: Global, no: u64) -> Result<String, AllocError> {
+    format!(in alloc; "{} {no}", HOLDS)
+}
+
 /// The command line that releases a file.
 fn release_line(alloc: Global, no: u64) -> Result<String, AllocError> {
     format!(in alloc; "release --db=d --book=b {no}")
@@ -211,19 +221,20 @@ impl Clerk for StationClerk<'_> {
         }
     }
 
-    fn fetch(&mut self, no: u64, path: &str) -> Result<Completion, Fault> {
+    fn fetch(&mut self, no: u64, out: &mut impl Write) -> Result<Completion, Fault> {
         let alloc = self.rt.alloc();
-        let line = Fetch {
-            database: self.database,
-            no,
-            file: path,
-        };
         let mut content = Vec::new(alloc);
         let (is_done, printed) = self.ask(fetch_line(alloc, no), &[], &mut content)?;
-        if is_done {
-            make_file_of(self.rt, &line, content.as_slice())?;
+        if is_done && out.write_all(content.as_slice()).is_err() {
+            return Err(Fault::File);
         }
         completion_of(alloc, is_done, printed)
+    }
+
+    fn holds(&mut self, no: u64, content: &[u8]) -> Result<bool, Fault> {
+        let line = holds_line(self.rt.alloc(), no);
+        let (is_equal, _) = self.ask(line, content, &mut io::sink())?;
+        Ok(is_equal)
     }
 
     fn release(&mut self, no: u64) -> Result<Completion, Fault> {

@@ -1,57 +1,62 @@
 //! The command `fetch`, which writes an incoming file in its local form.
 
+use crate::contents::is_awaited;
 use oftp_command_line::Fetch;
-use oftp_database::{self as database, DatabaseOffice};
+use oftp_contents::entry_to_fetch;
+use oftp_database as database;
 use oftp_engine::{Port, RunFault, write_content};
 use oftp_files::{Place, draft_of, file_fault, place_of, settle};
-use oftp_held::{Errand, HeldOffice, entry_to_fetch};
-use oftp_outcomes::{Fault, Outcome, tell};
+use oftp_outcomes::{Fault, Outcome};
 use oftp_register::{IncomingEntry, Office};
 use std::alloc::Global;
 use std::fs::File;
 use std::io::Write;
 
-/// Writes a whole incoming file of a database to a file.
+/// Writes a whole incoming file of a database to a file. What isn't a regular file, such as a pipe, is opened and written once the database is
+/// closed again, since its reader may take long.
 ///
 /// # Errors
 /// [`Fault::Store`] if the database can't be opened; [`Fault::Run`] if the office failed; [`Fault::File`] if the file can't be written;
 /// [`Fault::MEMORY`]. The file is as it was then.
 pub fn fetch(rt: &HostRuntime, line: &Fetch<'_>) -> Result<Outcome, Fault> {
-    let mut office = database::open_shared(rt, line.database)?;
-    fetch_over(rt, &mut office, line)
+    let alloc = rt.alloc();
+    let mut life = database::live_shared(rt, line.database)?;
+    if !is_awaited(rt, line.file) {
+        return fetch_from(rt, line, &mut life);
+    }
+    let mut content = Vec::new(alloc);
+    let outcome = pour(alloc, &mut life, line.no, &mut content).map_err(content_fault)?;
+    drop(life);
+    if let Outcome::Fetched(_) = outcome {
+        make_file_of(rt, line, content.as_slice())?;
+    }
+    Ok(outcome)
 }
 
-/// Writes a whole incoming file of the office over a database to a file, and the line that reports it to `told`. It returns the exit status.
-pub(crate) fn fetch_and_tell(
-    rt: &HostRuntime,
-    office: &mut DatabaseOffice,
-    line: &Fetch<'_>,
-    told: &mut impl Write,
-) -> Result<u8, Fault> {
-    tell(fetch_over(rt, office, line)?, told)
+/// The error of content that is kept in memory, which fails as a file only where memory runs out.
+fn content_fault(fault: Fault) -> Fault {
+    match fault {
+        Fault::File => Fault::MEMORY,
+        other => other,
+    }
 }
 
-/// Writes a whole incoming file of the office over a database to a file.
-fn fetch_over(
-    rt: &HostRuntime,
-    office: &mut DatabaseOffice,
-    line: &Fetch<'_>,
+/// Writes the content of a whole incoming file to `out`.
+///
+/// # Errors
+/// [`Fault::Run`] if the office failed; [`Fault::File`] if `out` returned an error; [`Fault::MEMORY`].
+pub(crate) fn pour<O: Office>(
+    alloc: Global,
+    office: &mut O,
+    no: u64,
+    out: &mut impl Write,
 ) -> Result<Outcome, Fault> {
-    office.run(Fetching { rt, line })
-}
-
-/// The operation that fetches a file.
-struct Fetching<'a> {
-    rt: &'a HostRuntime,
-    line: &'a Fetch<'a>,
-}
-
-impl Errand for Fetching<'_> {
-    type Outcome = Result<Outcome, Fault>;
-
-    fn run<O: Office>(self, office: &mut O) -> Result<Outcome, Fault> {
-        let Fetching { rt, line } = self;
-        fetch_from(rt, line, office)
+    match entry_to_fetch(office, no)? {
+        Ok(entry) => {
+            write_to(alloc, office, &entry, out)?;
+            Ok(Outcome::Fetched(entry.no))
+        }
+        Err(refusal) => Ok(refusal),
     }
 }
 

@@ -23,13 +23,9 @@ pub fn offer(rt: &HostRuntime, line: &Offer<'_>, out: &mut impl Write) -> Result
         return Ok(status);
     }
     let folder = Folder::held(rt, line.folder)?;
-    let clerk = OwnClerk {
-        rt,
-        database: line.files.database,
-        book: &book,
-        office: database::open_shared(rt, line.files.database)?,
-    };
-    Ok(status_where(folders::offer(rt, line, &folder, clerk, out)?))
+    let outcome = offer_over(rt, line, &folder, &book, out);
+    folder.give_up(rt);
+    outcome
 }
 
 /// Offers files by the station that has the database locked. Returns the exit status.
@@ -47,7 +43,25 @@ pub fn offer_beside(rt: &HostRuntime, line: &Offer<'_>, out: &mut impl Write) ->
         database: line.files.database,
         book: octets.as_slice(),
     };
-    Ok(status_where(folders::offer(rt, line, &folder, clerk, out)?))
+    let outcome = folders::offer(rt, line, &folder, clerk, out);
+    folder.give_up(rt);
+    Ok(status_where(outcome?))
+}
+
+/// Offers files over the database from a folder that is locked.
+fn offer_over(
+    rt: &HostRuntime,
+    line: &Offer<'_>,
+    folder: &Folder,
+    book: &Book,
+    out: &mut impl Write,
+) -> Result<u8, Fault> {
+    let clerk = OwnClerk {
+        rt,
+        book,
+        life: database::live_shared(rt, line.files.database)?,
+    };
+    Ok(status_where(folders::offer(rt, line, folder, clerk, out)?))
 }
 
 /// The exit status if no file at all can be offered with this command line. The refusal is printed then.

@@ -1,31 +1,32 @@
 //! The commands `submit`, `release` and `refuse`, which are operator's calls.
 
+use crate::contents::Content;
 use oftp_command_line::{Files, Refuse, Release, Submit};
 use oftp_database::{self as database, DatabaseOffice};
 use oftp_engine::{Operator, Port, Submission, Told};
-use oftp_files::{read_book, read_content};
+use oftp_files::read_book;
+use oftp_life::Life;
 use oftp_outcomes::Fault;
 use oftp_partners::Book;
 use std::io::Write;
 
-/// Reads the book, and opens the office over the database.
-fn opened(rt: &HostRuntime, files: &Files<'_>) -> Result<(Book, DatabaseOffice), Fault> {
+/// Reads the book, opens the database, and begins a life with it.
+fn opened(rt: &HostRuntime, files: &Files<'_>) -> Result<(Book, Life<DatabaseOffice>), Fault> {
     let book = read_book(rt, files.book)?;
-    let office = database::open_shared(rt, files.database)?;
-    Ok((book, office))
+    let life = database::live_shared(rt, files.database)?;
+    Ok((book, life))
 }
 
-/// Does an operator's job with an office, writes its line, and closes the office.
+/// Carries out an operator's call, writes its line, and closes the database.
 fn call(
     rt: &HostRuntime,
-    mut office: DatabaseOffice,
+    mut life: Life<DatabaseOffice>,
     book: &Book,
     operator: &Operator<'_>,
     out: &mut impl Write,
 ) -> Result<Told, Fault> {
     let mut port = Port::new(out, 0);
-    office
-        .operate(rt.alloc(), book, operator, &mut port)
+    life.order(rt.alloc(), book, operator, &mut port)
         .map_err(Fault::Run)
 }
 
@@ -36,18 +37,23 @@ fn operate(
     operator: &Operator<'_>,
     out: &mut impl Write,
 ) -> Result<Told, Fault> {
-    let (book, office) = opened(rt, files)?;
-    call(rt, office, &book, operator, out)
+    let (book, life) = opened(rt, files)?;
+    call(rt, life, &book, operator, out)
 }
 
-/// Registers a file to be sent to a partner, and writes the line that says so.
+/// Registers a file with this content to be sent to a partner, and writes the line that says so.
 ///
 /// # Errors
 /// [`Fault::Book`], [`Fault::File`] or [`Fault::Store`] if the book, the file or the database can't be opened; those of
-/// [`DatabaseOffice::operate`].
-pub fn submit(rt: &HostRuntime, submit: &Submit<'_>, out: &mut impl Write) -> Result<Told, Fault> {
-    let (book, office) = opened(rt, &submit.files)?;
-    let content = read_content(rt, submit)?;
+/// [`Life::order`].
+pub fn submit(
+    rt: &HostRuntime,
+    submit: &Submit<'_>,
+    content: &mut Content,
+    out: &mut impl Write,
+) -> Result<Told, Fault> {
+    let (book, life) = opened(rt, &submit.files)?;
+    let content = content.take(rt, submit)?;
     let operator = Operator::Submit(Submission {
         dataset: submit.dataset,
         date: submit.date,
@@ -58,13 +64,13 @@ pub fn submit(rt: &HostRuntime, submit: &Submit<'_>, out: &mut impl Write) -> Re
         description: submit.description,
         content: content.as_slice(),
     });
-    call(rt, office, &book, &operator, out)
+    call(rt, life, &book, &operator, out)
 }
 
 /// Issues the End-to-End Response of an incoming file, and writes the line that says so.
 ///
 /// # Errors
-/// [`Fault::Book`], [`Fault::File`] or [`Fault::Store`] if the book or the database can't be opened; those of [`DatabaseOffice::operate`].
+/// [`Fault::Book`], [`Fault::File`] or [`Fault::Store`] if the book or the database can't be opened; those of [`Life::order`].
 pub fn release(
     rt: &HostRuntime,
     release: &Release<'_>,

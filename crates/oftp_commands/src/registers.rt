@@ -3,7 +3,7 @@
 use oftp_command_line::Report;
 use oftp_database::{self as database, PATIENCE};
 use oftp_engine::Port;
-use oftp_held::report_to;
+use oftp_listing::report;
 use oftp_outcomes::{Fault, Outcome};
 use std::io::Write;
 
@@ -28,13 +28,13 @@ pub fn migrate(rt: &HostRuntime, database: &str) -> Result<Outcome, Fault> {
 /// Writes a report of a database.
 ///
 /// # Errors
-/// Those of [`database::open_shared`] and [`report_to`].
+/// Those of [`database::live_shared`] and [`report`].
 pub fn write_report(
     rt: &HostRuntime,
     what: &Report<'_>,
     out: &mut impl Write,
 ) -> Result<(), Fault> {
-    let mut office = database::open_shared(rt, what.database)?;
-    report_to(rt.alloc(), &mut office, what.kind, &mut Port::new(out, 0))?;
+    let mut life = database::live_shared(rt, what.database)?;
+    report(rt.alloc(), what.kind, &mut life, &mut Port::new(out, 0))?;
     Ok(())
 }

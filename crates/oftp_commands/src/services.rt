@@ -61,9 +61,7 @@ pub fn listen(
         admission: admission_of(&line.entrance, &line.terms),
     };
     let station = station_of(&book, &line.terms, trace.as_ref());
-    let mut desk = Opened {
-        database: line.files.database,
-    };
+    let mut desk = Opened::new(rt, line.files.database);
     listen_on(rt, &reception, &station, &mut desk, out, err)
 }
 
@@ -81,9 +79,7 @@ pub fn call(rt: &HostRuntime, line: &Call<'_>) -> Result<Outcome, Fault> {
     let trace = trace_of(rt, &line.files, &line.terms)?;
     let station = station_of(&book, &line.terms, trace.as_ref());
     let stream = connected(rt, partner.address.as_str(), station.patience)?;
-    let mut desk = Opened {
-        database: line.files.database,
-    };
+    let mut desk = Opened::new(rt, line.files.database);
     dial(rt, stream, partner, &station, &mut desk).map(Outcome::Ended)
 }
 
@@ -94,8 +90,6 @@ pub fn call(rt: &HostRuntime, line: &Call<'_>) -> Result<Outcome, Fault> {
 pub fn http(rt: &HostRuntime, line: &Http<'_>, err: &mut impl Write) -> Result<(), Fault> {
     database::make(rt, line.database)?;
     let listener = bound(rt, line.address, line.port)?;
-    let mut replies = Opened {
-        database: line.database,
-    };
+    let mut replies = Opened::new(rt, line.database);
     http_on(rt, &listener, line.requests, &mut replies, err)
 }

@@ -2,15 +2,16 @@
 
 use oftp_command_line::{Feed, Side};
 use oftp_database::{self as database, DatabaseOffice, PATIENCE};
-use oftp_engine::{End, Port, Role, RunFault, serve_in_memory};
+use oftp_engine::{End, Port, Role, serve_in_memory};
 use oftp_files::{
     LIMITS, Trace, Traced, are_of_one_file, file_fault, is_at, is_of_database, open_input,
     open_trace, read_book,
 };
+use oftp_life::Life;
 use oftp_outcomes::{Fault, Outcome};
 use oftp_partners::{Book, Partner};
 use oftp_register::PlainOffice;
-use oftp_sockets::ports_of;
+use oftp_sockets::{Idle, Start, Trouble, ports_of, run_session};
 use std::fs::{self, File, Metadata, OpenFile};
 use std::io::ErrorKind;
 use std::rt::Files;
@@ -26,25 +27,33 @@ pub fn feed(rt: &HostRuntime, line: &Feed<'_>) -> Result<Outcome, Fault> {
         return Ok(Outcome::Unknown);
     };
     match line.database {
-        Some(path) => feed_durable(rt, line, &book, role, database::open(rt, path, PATIENCE)?),
+        Some(path) => feed_durable(rt, line, &book, role, database::live(rt, path, PATIENCE)?),
         None => feed_in_memory(rt, line, &book, role),
     }
 }
 
-/// Runs the session over a database, and closes it.
+/// Runs the session in a life over a database, and closes it.
 fn feed_durable(
     rt: &HostRuntime,
     line: &Feed<'_>,
     book: &Book,
     role: Role<'_>,
-    mut office: DatabaseOffice,
+    life: Life<DatabaseOffice>,
 ) -> Result<Outcome, Fault> {
     let input = open_input(rt, line.input)?;
     let trace = trace_of(rt, line)?;
     let (mut reader, mut writer) = ports(rt, line, input, trace.as_ref())?;
-    let alloc = rt.alloc();
-    let ended = office.serve(alloc, book, role, &mut reader, &mut writer);
-    outcome_of(ended, trace.as_ref())
+    let (life, ended) = run_session(
+        rt.alloc(),
+        life,
+        book,
+        Start::As(role),
+        &mut reader,
+        &mut writer,
+        &mut Idle,
+    );
+    drop(life);
+    outcome_of(ended.map_err(Trouble::fault), trace.as_ref())
 }
 
 /// Runs the session with a register in memory.
@@ -60,12 +69,11 @@ fn feed_in_memory(
     let alloc = rt.alloc();
     let mut office = PlainOffice::new(alloc, LIMITS);
     let ended = serve_in_memory(alloc, &mut office, book, role, &mut reader, &mut writer);
-    outcome_of(ended, trace.as_ref())
+    outcome_of(ended.map_err(Fault::Run), trace.as_ref())
 }
 
 /// The outcome of a session, which is also the last line of its trace.
-fn outcome_of(ended: Result<End, RunFault>, trace: Option<&Trace<'_>>) -> Result<Outcome, Fault> {
-    let ended = ended.map_err(Fault::Run);
+fn outcome_of(ended: Result<End, Fault>, trace: Option<&Trace<'_>>) -> Result<Outcome, Fault> {
     if let Some(trace) = trace {
         trace.tell_end(&ended);
     }

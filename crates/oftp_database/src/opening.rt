@@ -1,13 +1,21 @@
 //! Opens the database that a command line names.
 
+ghost use Rattle.std.specs.Prelude.{IfOk};
+ghost use Rattle.sqlite.specs.Files.{HoldsDatabase, over_files};
+ghost use Rattle.sqlite.specs.State.{HasCleanDisk};
+ghost use Rattle.sqlite.specs.WalFiles.{image_at};
+ghost use Rattle.oftp_store.specs.Opens.{HoldsTaken};
+ghost use Rattle.oftp_store.specs.Shown.{database_of};
+ghost use Rattle.oftp_database.specs.Attempts.{Takes};
+
 use crate::file::make_file;
 use crate::office::DatabaseOffice;
 use oftp_durable::open_durable;
 use oftp_files::LIMITS;
 use oftp_outcomes::Fault;
 use oftp_sockets::SocketPlace;
-use oftp_store::{PathFault, StoreFault, migrate_at};
-use sqlite::Unknown;
+use oftp_store::{PathFault, SqlOffice, StoreFault, migrate_at};
+use sqlite::{FileFrom, FileStore, Start, Unknown};
 use std::fs;
 use std::io::ErrorKind;
 use std::time::{Clock, Duration};
@@ -125,13 +133,32 @@ fn patiently(
 
 /// Tries once.
 fn attempt(rt: &HostRuntime, path: &str, how: Opening) -> Result<DatabaseOffice, PathFault> {
-    let opened = match how {
-        Opening::Open => open_durable(rt, path, LIMITS, Unknown),
-        Opening::Migrate => migrate_at(rt, path, LIMITS, Unknown),
-    };
-    match opened {
-        Ok(office) => Ok(DatabaseOffice::new(office)),
-        Err(refused) => Err(refused.into_fault()),
+    let office = office_at(rt, path, how, Unknown)?;
+    Ok(DatabaseOffice::new(rt.alloc(), office))
+}
+
+/// Opens the office over the files at a path, or migrates them. `S` stands for their content.
+///
+/// # Errors
+/// Those of [`open_durable`], or of [`migrate_at`].
+fn office_at<S: Start>(
+    rt: &HostRuntime,
+    path: &str,
+    how: Opening,
+    start: S,
+) -> Result<SqlOffice<FileStore<FileFrom<S>>>, PathFault>
+    // The files hold a database that is taken where it is opened in this way.
+    ensures known { IfOk result (λ o. HasCleanDisk (database_of over_files o) → HoldsTaken (Takes how) (HoldsDatabase (image_at S.Start))) }
+{
+    match how {
+        Opening::Open => match open_durable(rt, path, LIMITS, start) {
+            Ok(office) => Ok(office),
+            Err(refused) => Err(refused.into_fault()),
+        },
+        Opening::Migrate => match migrate_at(rt, path, LIMITS, start) {
+            Ok(office) => Ok(office),
+            Err(refused) => Err(refused.into_fault()),
+        },
     }
 }
 

@@ -1,26 +1,59 @@
-//! The offices for the sessions and requests of a service.
+//! The lives for the sessions and requests of a service, each of one session or one request.
 
+use crate::living::live_if_free;
 use crate::office::DatabaseOffice;
-use crate::opening::{PATIENCE, open_if_free};
-use oftp_engine::{End, Role};
-use oftp_held::answer_from;
-use oftp_listing::Reply;
+use crate::opening::PATIENCE;
+use crate::spare::{Spare, Supply};
+use oftp_engine::End;
+use oftp_life::Life;
+use oftp_listing::{Reply, answer};
 use oftp_outcomes::Fault;
-use oftp_sockets::{Desk, Replies, Station, Trouble, Wire};
+use oftp_sockets::{Desk, Idle, Replies, Start, Station, Trouble, Wire, run_session};
 use oftp_store::{PathFault, StoreFault};
+use std::alloc::Global;
 use std::io::{Read, Write};
+use std::time::{Clock, Duration};
+
+/// The pause before descriptors are asked for again, in milliseconds.
+const PAUSE: u64 = 50;
+
+/// The error for a database that one caller can't have now.
+const HELD: Trouble = Trouble::OfCaller(Fault::Store(StoreFault::Store));
 
 /// A database that is opened for each session and each request, and closed after it.
-#[derive(Clone, Copy)]
+#[derive(Drop)]
 pub struct Opened<'a> {
-    /// The database's file.
-    pub database: &'a str,
+    database: &'a str,
+    // The descriptors for the next opening.
+    spare: Spare,
 }
 
-impl Opened<'_> {
-    /// The office over the database. A database that stays locked is an error of this caller alone.
-    fn office(self, rt: &HostRuntime) -> Result<DatabaseOffice, Trouble> {
-        open_if_free(rt, self.database, PATIENCE).map_err(trouble_of)
+impl<'a> Opened<'a> {
+    /// The database in this file, which isn't opened yet.
+    pub fn new(rt: &HostRuntime, database: &'a str) -> Opened<'a> {
+        let mut spare = Spare::new(rt.alloc());
+        let _ = spare.hold(rt);
+        Opened { database, spare }
+    }
+
+    /// A life over the database. A database that stays locked, or for which there stays no descriptor, is an error of this caller alone.
+    fn life(&mut self, rt: &HostRuntime) -> Result<Life<DatabaseOffice>, Trouble> {
+        for _ in 0..PATIENCE {
+            if self.spare.hold(rt) == Supply::Enough {
+                self.spare.release();
+                match live_if_free(rt, self.database, PATIENCE) {
+                    Err(PathFault::Store(StoreFault::Store)) if self.is_wanting(rt) => {}
+                    opened => return opened.map_err(trouble_of),
+                }
+            }
+            rt.sleep(Duration::from_millis(PAUSE));
+        }
+        Err(HELD)
+    }
+
+    /// Whether there is no descriptor for the database, so that it can't be opened now.
+    fn is_wanting(&mut self, rt: &HostRuntime) -> bool {
+        self.spare.hold(rt) == Supply::Wanting
     }
 }
 
@@ -28,41 +61,68 @@ impl Desk for Opened<'_> {
     fn converse<R: Read + Drop, W: Write + Drop>(
         &mut self,
         rt: &HostRuntime,
-        role: Role<'_>,
+        start: Start<'_>,
         station: &Station<'_>,
         wire: Wire<'_, R, W>,
     ) -> Result<End, Trouble> {
-        self.office(rt)?.converse(rt, role, station, wire)
+        let served = match self.life(rt) {
+            Ok(life) => converse_once(rt, life, start, station, wire),
+            Err(trouble) => Err(trouble),
+        };
+        let _ = self.spare.hold(rt);
+        served
     }
 }
 
 impl Replies for Opened<'_> {
     fn reply_to(&mut self, rt: &HostRuntime, request: &[u8]) -> Result<Reply, Trouble> {
-        let mut office = self.office(rt)?;
-        answer_from(rt.alloc(), &mut office, request).map_err(|fault| Trouble::from(Fault::from(
-            fault,
-        )))
+        let reply = match self.life(rt) {
+            Ok(life) => answer_once(rt.alloc(), life, request),
+            Err(trouble) => Err(trouble),
+        };
+        let _ = self.spare.hold(rt);
+        reply
     }
 }
 
-impl Desk for DatabaseOffice {
-    fn converse<R: Read + Drop, W: Write + Drop>(
-        &mut self,
-        rt: &HostRuntime,
-        role: Role<'_>,
-        station: &Station<'_>,
-        wire: Wire<'_, R, W>,
-    ) -> Result<End, Trouble> {
-        let (mut reader, mut writer) = wire.into_ports();
-        let end = self.serve(rt.alloc(), station.book, role, &mut reader, &mut writer)?;
-        Ok(end)
+/// Runs the only session of a life.
+fn converse_once<R: Read + Drop, W: Write + Drop>(
+    rt: &HostRuntime,
+    life: Life<DatabaseOffice>,
+    start: Start<'_>,
+    station: &Station<'_>,
+    wire: Wire<'_, R, W>,
+) -> Result<End, Trouble> {
+    let (mut reader, mut writer) = wire.into_ports();
+    let (life, ended) = run_session(
+        rt.alloc(),
+        life,
+        station.book,
+        start,
+        &mut reader,
+        &mut writer,
+        &mut Idle,
+    );
+    drop(life);
+    ended
+}
+
+/// Answers the only request of a life.
+fn answer_once(
+    alloc: Global,
+    mut life: Life<DatabaseOffice>,
+    request: &[u8],
+) -> Result<Reply, Trouble> {
+    match answer(alloc, request, &mut life) {
+        Ok(reply) => Ok(reply),
+        Err(fault) => Err(Trouble::from(Fault::from(fault))),
     }
 }
 
 /// The kind of error for a database that can't be opened.
 fn trouble_of(fault: PathFault) -> Trouble {
     match fault {
-        PathFault::Held => Trouble::OfCaller(Fault::Store(StoreFault::Store)),
+        PathFault::Held => HELD,
         PathFault::Unkept => Trouble::OfService(Fault::Store(StoreFault::Store)),
         PathFault::Store(fault) => Trouble::OfService(Fault::Store(fault)),
     }

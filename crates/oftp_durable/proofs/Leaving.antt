@@ -173,12 +173,6 @@ module _ {W : Type 0} (contents : W → Option (List ℕ)) (x : View) (a b : Por
   session_alone setting given (Err fault.Office) h = tt
   session_alone setting given (Err fault.Memory) h = record { has = (h.stands, refl); left = h.left }
 
-  pub conversation_alone : (setting : Setting) (given : List ℕ) (talk : Dialogue) (result : Result (Option Ending) RunFault)
-      → ComesTo setting given talk (scene contents x a) (scene contents now b) result → ButForOffice result (LeavesAlone limits s (register_in limits s.now.trees))
-  conversation_alone setting given talk (Ok None) h = record { has = (h.all.stands, refl); left = h.all.left }
-  conversation_alone setting given talk (Ok (Some end)) h = record { has = (h.all.stands, refl); left = h.all.left }
-  conversation_alone setting given talk (Err f) h = session_alone setting given (Err f) h
-
   -- an operator's call
 
   module _ (book : BookData) (call : Operator) (sound : IsSound x.register) where

@@ -1,5 +1,7 @@
-mod Behind
 mod Counts
 mod Leaving
+mod LifeCounts
+pub mod LifeTables
 mod Limits
 mod Lists
+mod Passing

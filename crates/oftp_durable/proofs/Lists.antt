@@ -1,5 +1,5 @@
 -- What a list of jobs over a database leaves, from the contracts of the engine.
-use Rattle.std.proofs.Common.{◌≡◌, ◌∙◌, sym, ap, subst, refl, arith, ℕ, ◌+◌, ◌-◌, ◌≤◌, List, [], ◌∷◌, ◌++◌, length, take, Option, None, Result, Ok, Err, inl, inr, length-append}
+use Rattle.std.proofs.Common.{◌≡◌, ◌∙◌, sym, ap, subst, refl, arith, ℕ, ◌+◌, ◌-◌, ◌≤◌, List, [], ◌∷◌, ◌++◌, length, take, Option, None, Some, Result, Ok, Err, inl, inr, length-append}
 use Rattle.std.proofs.lemmas.List.{take_all}
 use Rattle.sqlite.specs.State.{State}
 use Rattle.oftp_vfile.specs.declared.format.Limits.{Limits}
@@ -10,6 +10,8 @@ use Rattle.oftp_register.specs.Changes.{apply_all}
 use Rattle.oftp_register.specs.Offices.{View}
 use Rattle.oftp_register.specs.Register.{Register}
 use Rattle.oftp_register.specs.Soundness.{IsSound}
+use Rattle.oftp_register.proofs.KeepLemmas.{apply_keeps}
+use Rattle.oftp_session.specs.Calls.{Makes}
 use Rattle.oftp_tables.specs.Stands.{IsContentOf}
 use Rattle.oftp_session.specs.Phases.{register_after}
 use Rattle.oftp_tables.specs.Tables.{register_in}
@@ -23,11 +25,14 @@ use Rattle.oftp_engine.specs.Parts.{BringsParts, File, IsLeft, JobLeaves, OfCall
 use Rattle.oftp_engine.specs.Runs.{run, started}
 use Rattle.oftp_engine.specs.declared.serving.Role.{Role}
 use Rattle.oftp_engine.specs.Served.{IsPrefix, setting_of}
-use Rattle.oftp_engine.proofs.Ending.{replay_all, take_past}
+use Rattle.oftp_engine.specs.TwoStations.{IfAny}
+use Rattle.oftp_engine.proofs.Ending.{replay_all, run_sound, take_past}
+use Rattle.oftp_engine.proofs.Orders.{IsOrder, deed_ordered}
 use Rattle.oftp_engine.proofs.Jobs.{replay_on, replay_one}
 use Rattle.oftp_engine.proofs.PartRuns.{IsSoIn, job_leaves}
 use Rattle.oftp_durable.specs.Headline.{ButForOffice, LeavesAlone, session_of}
-use Rattle.oftp_durable.specs.Lists.{BringAll, BringsLast, ListLeaves, beginning}
+use Rattle.oftp_durable.specs.Lists.{AllAreKept, BringAll, BringsLast, LastIsKept, ListLeaves, beginning}
+use Rattle.oftp_durable.proofs.Counts.{no_answer_passes}
 use Rattle.oftp_durable.proofs.Leaving.{none_or_one, prefix_all, prefix_of}
 
 -- of what an office shows before a list, only the register and the count of errors matter
@@ -35,6 +40,42 @@ runs_from : {R W T : Type 0} (remaining : R → Option (List ℕ)) (contents : W
     (result : Result T RunFault) → Runs remaining contents book old new olds news result → Runs remaining contents book (beginning old.register old.told) new olds news result
 runs_from remaining contents book old new olds news (Ok x) h = h
 runs_from remaining contents book old new olds news (Err f) h = h
+
+-- an operator's call leaves a sound register
+call_sound : (change : Option Change) (r s : Register) → IsSound r → IfAny change IsOrder → Makes change r s → IsSound s
+call_sound None r s sound any made = subst IsSound (sym made) sound
+call_sound (Some k) r s sound order made = apply_keeps r k s sound (order.fit r) made
+
+-- what the sessions of jobs answered was kept, and the jobs leave a sound register
+record AreKeptTo (r : Register) (es : List Entry) : Type 0 where
+  kept : AllAreKept r es
+  sound : IsSound (after_jobs r es)
+
+module _ {R W : Type 0} (remaining : R → Option (List ℕ)) (contents : W → Option (List ℕ)) (book : BookData) where
+  jobs_kept : (r : Register) (es : List Entry) (olds news : List (Job R W)) → JobsDone remaining contents book r es olds news → IsSound r → AreKeptTo r es
+  jobs_kept r [] olds news done sound = record { kept = tt; sound = sound }
+  jobs_kept r (e ∷ es) [] news done sound = absurd done
+  jobs_kept r (e ∷ es) (old ∷ olds) [] done sound = absurd done
+  jobs_kept r (SessionEntry setting given stop ∷ es) (old ∷ olds) (new ∷ news) (d, done) sound =
+      let so = run_sound stop setting given r sound in
+      let later = jobs_kept (run stop given (started setting r)).register es olds news done so.suits.sound in
+      record { kept = (no_answer_passes (session_of setting given stop) r sound, later.kept); sound = later.sound }
+  jobs_kept r (CallEntry deed stop ∷ es) (job.Session old ∷ olds) (new ∷ news) (d, done) sound = absurd d
+  jobs_kept r (CallEntry deed stop ∷ es) (job.Call old ∷ olds) (job.Session new ∷ news) (d, done) sound = absurd d
+  jobs_kept r (CallEntry deed stop ∷ es) (job.Call old ∷ olds) (job.Call new ∷ news) (d, done) sound =
+      let after = register_after r deed.change in
+      let later = jobs_kept after es olds news done (call_sound deed.change r after sound (deed_ordered book r old.call deed d.is) d.made) in
+      record { kept = later.kept; sound = later.sound }
+
+  last_kept : (r : Register) (was now : Job R W) (stop : Stop) (fault : RunFault) (h : JobStops remaining contents book r was now stop fault) → IsSound r
+      → LastIsKept remaining contents book r was now stop fault h
+  last_kept r (job.Session was) (job.Session now) stop fault.Read h sound = tt
+  last_kept r (job.Session was) (job.Session now) stop fault.Write h sound = tt
+  last_kept r (job.Session was) (job.Session now) stop fault.Office h sound = no_answer_passes (session_of (setting_of book was.role) h.cut.given None) r sound
+  last_kept r (job.Session was) (job.Session now) stop fault.Memory h sound = no_answer_passes (session_of (setting_of book was.role) h.cut.given None) r sound
+  last_kept r (job.Session was) (job.Call now) stop fault h sound = tt
+  last_kept r (job.Call was) (job.Session now) stop fault h sound = tt
+  last_kept r (job.Call was) (job.Call now) stop fault h sound = tt
 
 -- the changes up to here are made, and the file is in an allowed state
 record IsSoAfter (file : File) (identity : Identity) (r : Register) (changes : List Change) (after : Register) : Type 0 where
@@ -126,6 +167,7 @@ module _ {R W : Type 0} (remaining : R → Option (List ℕ)) (contents : W → 
   list_leaves (Ok x) run = record {
     run = run;
     left = prefix_all (beginning r told) limits faults s (changes_of r run.entries) (length (changes_of r run.entries)) (omega arith) run.replay run.left;
+    counts = (jobs_kept remaining contents book r run.entries olds news run.done sound).kept;
     parts = λ file identity so brings db may.
         let done = jobs_so remaining contents book file identity r run.entries olds news run.done brings (record { sound = sound; so_far = so }) in
         (now.register, run.left db may, (subst (IsSoIn file identity) (sym run.register) done.so).so_far);
@@ -137,6 +179,11 @@ module _ {R W : Type 0} (remaining : R → Option (List ℕ)) (contents : W → 
       record {
         run = run;
         left = left;
+        counts =
+            let kept = jobs_kept remaining contents book r run.entries run.before run.after run.done sound in (
+              kept.kept,
+              last_kept remaining contents book (after_jobs r run.entries) run.was run.now run.stop fault run.stops kept.sound,
+            );
         parts = λ file identity so brings db may.
             let q : IsPrefix IsContentOf (before ++ more) r (length before + run.stop.answered) left.made db = left.left db may in
             let done = jobs_so remaining contents book file identity r run.entries run.before run.after run.done brings.0 (record { sound = sound; so_far = so }) in

@@ -1,4 +1,5 @@
 pub mod Counts
 pub mod Headline
+pub mod LifeTables
 pub mod Lists
 pub mod Reopening

@@ -15,6 +15,7 @@ use Rattle.oftp_engine.specs.declared.serving.RunFault.TheVariants as fault
 use Rattle.oftp_engine.specs.Jobs.{CallEntry, Entry, JobStops, Runs, SessionEntry, Stop, after_jobs, changes_of, share_of}
 use Rattle.oftp_engine.specs.Parts.{BringsParts, File, IsSoFar}
 use Rattle.oftp_engine.specs.Served.{setting_of}
+use Rattle.oftp_durable.specs.Counts.{AnswersAreKept}
 use Rattle.oftp_durable.specs.Headline.{LeavesPrefix, LeavesSoFar, session_of}
 
 -- a station that begins with this register and has returned this many errors
@@ -31,13 +32,12 @@ beginning r faults = record {
   holds = λ content register. content ≡ register;
 }
 
--- the result of a list after a job with this result; an error of the job's ports doesn't end the list
-abbrev pub list_answer : {T : Type 0} → Result T RunFault → Result ⊤ RunFault
-list_answer (Ok x) = Ok tt
-list_answer (Err fault.Read) = Ok tt
-list_answer (Err fault.Write) = Ok tt
-list_answer (Err fault.Office) = Err fault.Office
-list_answer (Err fault.Memory) = Err fault.Memory
+-- each Restart position that the sessions among the jobs that were done answer was kept
+abbrev pub AllAreKept : Register → List Entry → Type 0
+AllAreKept r [] = ⊤
+AllAreKept r (SessionEntry setting given stop ∷ es) =
+    AnswersAreKept (session_of setting given stop) r × AllAreKept (share_of r (SessionEntry setting given stop)).register es
+AllAreKept r (CallEntry deed stop ∷ es) = AllAreKept (share_of r (CallEntry deed stop)).register es
 
 -- the sessions among the jobs that were done bring parts of the file
 abbrev pub BringAll : File → Identity → Register → List Entry → Type 0
@@ -47,6 +47,16 @@ BringAll file identity r (SessionEntry setting given stop ∷ es) =
 BringAll file identity r (CallEntry deed stop ∷ es) = BringAll file identity (share_of r (CallEntry deed stop)).register es
 
 module _ {R W : Type 0} (remaining : R → Option (List ℕ)) (contents : W → Option (List ℕ)) (book : BookData) where
+  -- so was each that a session answers which was cut short
+  abbrev pub LastIsKept : (r : Register) (was now : Job R W) (stop : Stop) (fault : RunFault) → JobStops remaining contents book r was now stop fault → Type 0
+  LastIsKept r (job.Session was) (job.Session now) stop fault.Read h = ⊤
+  LastIsKept r (job.Session was) (job.Session now) stop fault.Write h = ⊤
+  LastIsKept r (job.Session was) (job.Session now) stop fault.Office h = AnswersAreKept (session_of (setting_of book was.role) h.cut.given None) r
+  LastIsKept r (job.Session was) (job.Session now) stop fault.Memory h = AnswersAreKept (session_of (setting_of book was.role) h.cut.given None) r
+  LastIsKept r (job.Session was) (job.Call now) stop fault h = ⊤
+  LastIsKept r (job.Call was) (job.Session now) stop fault h = ⊤
+  LastIsKept r (job.Call was) (job.Call now) stop fault h = ⊤
+
   -- so does a session that was cut short
   abbrev pub BringsLast : File → Identity → (r : Register) (was now : Job R W) (stop : Stop) (fault : RunFault) → JobStops remaining contents book r was now stop fault → Type 0
   BringsLast file identity r (job.Session was) (job.Session now) stop fault.Read h = ⊤
@@ -72,15 +82,22 @@ module _ {R W : Type 0} (remaining : R → Option (List ℕ)) (contents : W → 
     answered_in (Ok x) run = length (changes_of r run.entries)
     answered_in (Err fault) run = length (changes_of r run.entries) + run.stop.answered
 
+    -- each Restart position that its sessions answer was kept
+    abbrev pub CountsIn : {T : Type 0} (result : Result T RunFault) → RunsFrom result → Type 0
+    CountsIn (Ok x) run = AllAreKept r run.entries
+    CountsIn (Err fault) run = AllAreKept r run.entries × LastIsKept (after_jobs r run.entries) run.was run.now run.stop fault run.stops
+
     -- its sessions bring parts of the file
     abbrev pub BringsIn : File → Identity → {T : Type 0} (result : Result T RunFault) → RunsFrom result → Type 0
     BringsIn file identity (Ok x) run = BringAll file identity r run.entries
     BringsIn file identity (Err fault) run =
         BringAll file identity r run.entries × BringsLast file identity (after_jobs r run.entries) run.was run.now run.stop fault run.stops
 
-    -- A list of jobs over the database of r. A crash leaves r after a prefix of the changes of all jobs, with each that was answered. If
-    -- its sessions bring parts of a file, a crash leaves nothing of it, a beginning, or the whole file.
+    -- A list of jobs over the database of r. A crash leaves r after a prefix of the changes of all jobs, with each that was answered. Each
+    -- Restart position that a session answers was kept. If its sessions bring parts of a file, a crash leaves nothing of it, a beginning, or
+    -- the whole file.
     pub record ListLeaves (limits : Limits) (s : State) {T : Type 0} (result : Result T RunFault) : Type 0 where
       pub run : RunsFrom result
       pub left : LeavesPrefix limits s r (changes_in result run) (answered_in result run)
+      pub counts : CountsIn result run
       pub parts : (file : File) (identity : Identity) → IsSoFar file (in_at r identity) → BringsIn file identity result run → LeavesSoFar file identity s

@@ -9,8 +9,9 @@ ghost use Rattle.oftp_register.specs.declared.fit.TheConstants.{MOST_FILES, MOST
 ghost use Rattle.oftp_register.specs.Register.{Register, empty};
 ghost use Rattle.oftp_register.specs.Soundness.{IsSound};
 ghost use Rattle.oftp_tables.specs.Tables.{register_in};
-ghost use Rattle.oftp_tables.specs.Opening.{IsStoreOf};
-ghost use Rattle.oftp_store.specs.Opens.{Has, HoldsNoTable, HoldsTaken, IsKept, IsOpenable, RefusesPath, to_open};
+ghost use Rattle.oftp_tables.specs.Opening.{FailsToOpen, IsStoreOf};
+ghost use Rattle.oftp_store.specs.Opens.{Has, HoldsNoTable, HoldsTaken, IsOpenable, RefusesPath, TellsPath, to_open};
+ghost use Rattle.oftp_store.specs.Paths.{IsKept};
 ghost use Rattle.oftp_store.specs.Shown.{database_of, faults_of, limits_of, shown};
 ghost use Rattle.oftp_durable.specs.Headline.{ButForOffice, LeavesAlone};
 ghost use Rattle.oftp_durable.specs.Lists.{ListLeaves};
@@ -94,6 +95,8 @@ pub fn run_at<S: Start, R: Read, W: Write>(
         (limits_of ran.office) (database_of over_files ran.office) ran.result) }
     // Another database is a wrong schema and stays unchanged. After any other error the files hold their old content or the new tables.
     ensures refused { IfErr result (RefusesPath over_files to_open (image_at S.Start)) }
+    // An error of the store other than a wrong schema is one of SQLite in this call.
+    ensures told { IfErr result (TellsPath over_files (FailsToOpen over_files) (image_at S.Start)) }
 {
     let mut office = open_durable(rt, path, limits, start)?;
     let result = run_durable(rt.alloc(), &mut office, book, jobs);

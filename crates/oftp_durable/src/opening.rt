@@ -9,9 +9,10 @@ ghost use Rattle.oftp_register.specs.declared.change.Change.{Change};
 ghost use Rattle.oftp_register.specs.declared.fit.TheConstants.{MOST_FILES, MOST_OCTETS};
 ghost use Rattle.oftp_register.specs.Register.{Register, empty};
 ghost use Rattle.oftp_register.specs.Soundness.{IsSound};
-ghost use Rattle.oftp_tables.specs.Opening.{IsStoreOf};
+ghost use Rattle.oftp_tables.specs.Opening.{FailsToOpen, IsStoreOf};
 ghost use Rattle.oftp_tables.specs.Stands.{IsContentOf};
-ghost use Rattle.oftp_store.specs.Opens.{Has, HoldsNoTable, HoldsTaken, IsKept, IsOpenable, RefusesPath, to_open};
+ghost use Rattle.oftp_store.specs.Opens.{Has, HoldsNoTable, HoldsTaken, IsOpenable, RefusesPath, TellsPath, to_open};
+ghost use Rattle.oftp_store.specs.Paths.{IsKept};
 ghost use Rattle.oftp_store.specs.Shown.{database_of, faults_of, limits_of};
 ghost use Rattle.oftp_engine.specs.Served.{IsPrefix};
 ghost use Rattle.oftp_durable.specs.Headline.{LeavesAlone};
@@ -61,6 +62,8 @@ pub fn open_durable<S: Start>(
     ensures fresh { IfOk result (λ o. HasCleanDisk (database_of over_files o) → HoldsNoTable (image_at S.Start) → LeavesAlone limits (database_of over_files o) (empty limits)) }
     // Another database is a wrong schema and stays unchanged. After any other error the files hold their old content or the new tables.
     ensures refused { IfErr result (RefusesPath over_files to_open (image_at S.Start)) }
+    // An error of the store other than a wrong schema is one of SQLite in this call.
+    ensures told { IfErr result (TellsPath over_files (FailsToOpen over_files) (image_at S.Start)) }
 {
     let office = open_at(rt, path, limits, start)?;
     leaves_alone(&office);

@@ -11,7 +11,9 @@ use Rattle.oftp_partners.specs.declared.partner.Partner.{Partner}
 use Rattle.oftp_register.specs.declared.change.Change.{Change}
 use Rattle.oftp_register.specs.declared.change.Change.TheVariants as change
 use Rattle.oftp_register.specs.declared.change.Cause.{Cause}
+use Rattle.oftp_register.specs.declared.entry.Identity.{Identity}
 use Rattle.oftp_register.specs.Register.{Register}
+use Rattle.oftp_register.specs.ByIdentity.{in_at, out_at}
 use Rattle.oftp_register.specs.Changes.{apply, apply_all}
 use Rattle.oftp_register.specs.Soundness.{IsSound, IsFit}
 use Rattle.oftp_register.proofs.KeepLemmas.{apply_keeps}
@@ -21,7 +23,7 @@ use Rattle.oftp_session.specs.Steps.{opening, Holds}
 use Rattle.oftp_engine.specs.Runs.{Course, started, advance}
 use Rattle.oftp_engine.specs.World.{Station, World, turned_round, stopped_with, stops_at, left_after, latest, is_ordered, changed_by, begins, fails_at, may_stop, told}
 use Rattle.oftp_engine.specs.TwoStations.{IfAny}
-use Rattle.oftp_engine.proofs.Standing.{AllFit, HasRoom, WorldStands, IsSoundStation, IsInSession, MayLeave, LeftBy, StationLeaves, MayCome, MayComeTo, Meet}
+use Rattle.oftp_engine.proofs.Standing.{AllFit, FileFits, HasRoom, WorldStands, IsSoundStation, IsInSession, MayLeave, LeftBy, StationLeaves, MayCome, MayComeTo, Meet}
 use Rattle.oftp_engine.proofs.Grounds.{Grounds}
 use Rattle.oftp_engine.proofs.Kept.{BothFit, apply_fits}
 use Rattle.oftp_engine.proofs.Later.{IsLater, later_self, apply_later}
@@ -37,8 +39,8 @@ meet_round None (Some d) x y h = tt
 meet_round (Some c) None x y h = tt
 meet_round (Some c) (Some d) x y h = elim h [ inl k ↦ inr k | inr k ↦ inl k ]
 
-pub stands_round : (w : World) → WorldStands w → WorldStands (turned_round w)
-stands_round w h = record {
+pub stands_round : {There Back : Identity → Type 0} (w : World) → WorldStands There Back w → WorldStands Back There (turned_round w)
+stands_round {There = There} {Back = Back} w h = record {
   one = h.other;
   other = h.one;
   to_other = λ r s e d. h.to_one s r d e;
@@ -51,12 +53,12 @@ pub at_session : (s : Station) (c : Course) (r : Register) → s.session ≡ Som
 at_session s c r e m = subst (λ o. LeftBy s.start o r) (sym e) m
 
 -- a session breaks, or its station crashes: it leaves a register that a crash may leave now
-pub stands_stopped : (w : World) (r : Register) → StationLeaves w.one r → WorldStands w → WorldStands (record w { one = stopped_with w.one r })
-stands_stopped w r leaves h = record {
+pub stands_stopped : {There Back : Identity → Type 0} (w : World) (r : Register) → StationLeaves w.one r → WorldStands There Back w → WorldStands There Back (record w { one = stopped_with w.one r })
+stands_stopped {There = There} {Back = Back} w r leaves h = record {
   one = record { registers = λ s e. subst IsSound (sym e) (h.one.registers r leaves); room = h.one.room; session = tt; coming = refl };
   other = record { registers = h.other.registers; room = h.other.room; session = h.other.session; coming = coming w.other.session h.other.coming };
-  to_other = λ s s' e d. subst (λ x. AllFit x s') (sym e) (h.to_other r s' leaves d);
-  to_one = λ s s' e d. subst (AllFit s') (sym e) (h.to_one r s' leaves d);
+  to_other = λ s s' e d. subst (λ x. AllFit There x s') (sym e) (h.to_other r s' leaves d);
+  to_one = λ s s' e d. subst (AllFit Back s') (sym e) (h.to_one r s' leaves d);
   meet = tt;
 }
   where
@@ -64,16 +66,17 @@ stands_stopped w r leaves h = record {
     coming None k = k
     coming (Some d) k = λ there e. k there (subst (StationLeaves w.one) (sym e) leaves)
 
-pub stands_broken : (w : World) (c : Course) → w.one.session ≡ Some c → WorldStands w → WorldStands (record w { one = stopped_with w.one c.register })
-stands_broken w c e h =
+pub stands_broken : {There Back : Identity → Type 0} (w : World) (c : Course) → w.one.session ≡ Some c → WorldStands There Back w
+    → WorldStands There Back (record w { one = stopped_with w.one c.register })
+stands_broken {There = There} {Back = Back} w c e h =
     let s : IsInSession w.one.start c = subst (λ o. IfAny o (IsInSession w.one.start)) e h.one.session in
     stands_stopped w c.register (at_session w.one c c.register e s.now) h
 
-pub stands_after_stop : (w : World) (c : Course) (n : ℕ) → w.one.session ≡ Some c → WorldStands w → WorldStands (stops_at w c c.outputs n)
-stands_after_stop w c n e h = by (nat_le (latest c.outputs) n && nat_le n (length c.changes)) refl
+pub stands_after_stop : {There Back : Identity → Type 0} (w : World) (c : Course) (n : ℕ) → w.one.session ≡ Some c → WorldStands There Back w → WorldStands There Back (stops_at w c c.outputs n)
+stands_after_stop {There = There} {Back = Back} w c n e h = by (nat_le (latest c.outputs) n && nat_le n (length c.changes)) refl
   where
     by : (b : Bool) → (nat_le (latest c.outputs) n && nat_le n (length c.changes)) ≡ b
-        → WorldStands (let v : World = cond b (record w { one = stopped_with w.one (left_after w.one.start c n) }) w in v)
+        → WorldStands There Back (let v : World = cond b (record w { one = stopped_with w.one (left_after w.one.start c n) }) w in v)
     by false g = h
     by true g =
         let parts = and_parts (nat_le (latest c.outputs) n) (nat_le n (length c.changes)) g in
@@ -83,9 +86,9 @@ stands_after_stop w c n e h = by (nat_le (latest c.outputs) n && nat_le n (lengt
 -- a change where there is no session
 
 -- a change of the one station while it has no session
-pub stands_changed : (w : World) (k : Change) (s : Register) → w.one.session ≡ None → IsFit w.one.start k → ((there : Register) → Grounds w.one.start there k)
-    → apply w.one.start k ≡ Ok s → WorldStands w → WorldStands (record w { one = record w.one { start = s } })
-stands_changed w k s none fit grounds made h = record {
+pub stands_changed : {There Back : Identity → Type 0} (w : World) (k : Change) (s : Register) → w.one.session ≡ None → IsFit w.one.start k → ((there : Register) → Grounds w.one.start there k)
+    → apply w.one.start k ≡ Ok s → WorldStands There Back w → WorldStands There Back (record w { one = record w.one { start = s } })
+stands_changed {There = There} {Back = Back} w k s none fit grounds made h = record {
   one = record {
     registers = λ r e. subst IsSound (sym (is r e)) (apply_keeps w.one.start k s sound fit made);
     room = h.one.room;
@@ -93,8 +96,8 @@ stands_changed w k s none fit grounds made h = record {
     coming = subst (λ o. MayComeTo o w.one.coming w.other) (sym none) (subst (λ o. MayComeTo o w.one.coming w.other) none h.one.coming);
   };
   other = record { registers = h.other.registers; room = h.other.room; session = h.other.session; coming = coming w.other.session h.other.coming };
-  to_other = λ r r' e d. subst (λ x. AllFit x r') (sym (is r e)) (both r' d).0;
-  to_one = λ r r' e d. subst (AllFit r') (sym (is r e)) (both r' d).1;
+  to_other = λ r r' e d. subst (λ x. AllFit There x r') (sym (is r e)) (both r' d).0;
+  to_one = λ r r' e d. subst (AllFit Back r') (sym (is r e)) (both r' d).1;
   meet = subst (λ o. Meet o w.one.coming w.other.session w.other.coming) (sym none) tt;
 }
   where
@@ -107,7 +110,7 @@ stands_changed w k s none fit grounds made h = record {
     is : (r : Register) → LeftBy s w.one.session r → r ≡ s
     is r e = subst (λ o. LeftBy s o r) none e
 
-    both : (r' : Register) → StationLeaves w.other r' → BothFit s r'
+    both : (r' : Register) → StationLeaves w.other r' → BothFit There Back s r'
     both r' d =
         let b : StationLeaves w.one w.one.start = subst (λ o. LeftBy w.one.start o w.one.start) (sym none) refl in
         apply_fits w.one.start k s r' (h.one.registers w.one.start b) (h.other.registers r' d) (grounds r') made (h.to_other w.one.start r' b d, h.to_one w.one.start r' b d)
@@ -124,29 +127,59 @@ ordered_grounds (change.Issue n kind reason text) r there h = tt
 ordered_grounds _ r there h = absurd (cc)
 
 -- an operator's call, or another caller
-pub stands_ordered : (w : World) (change : Option Change) → IfAny change IsOrder → w.one.session ≡ None → WorldStands w → WorldStands (changed_by w change)
-stands_ordered w None it none h = h
-stands_ordered w (Some k) it none h = by (apply w.one.start k) refl
+pub stands_ordered : {There Back : Identity → Type 0} (w : World) (change : Option Change) → IfAny change IsOrder → w.one.session ≡ None → WorldStands There Back w
+    → WorldStands There Back (changed_by w change)
+stands_ordered {There = There} {Back = Back} w None it none h = h
+stands_ordered {There = There} {Back = Back} w (Some k) it none h = by (apply w.one.start k) refl
   where
-    by : (result : Result Register Cause) → apply w.one.start k ≡ result → WorldStands (record w { one = record w.one { start = result_unwrap_or result w.one.start } })
+    by : (result : Result Register Cause) → apply w.one.start k ≡ result → WorldStands There Back (record w { one = record w.one { start = result_unwrap_or result w.one.start } })
     by (Ok s) e = stands_changed w k s none (it.fit w.one.start) (λ there. ordered_grounds k w.one.start there it.ordered) e h
     by (Err cause) e = h
 
+-- it was elsewhere, and files with such identities are as they were
+pub stands_moved : {There Back : Identity → Type 0} (w : World) (s : Register) → w.one.session ≡ None → IsSound s → IsLater w.one.start s
+    → ((i : Identity) → There i → out_at s i ≡ out_at w.one.start i)
+    → ((i : Identity) → Back i → in_at s i ≡ in_at w.one.start i) → WorldStands There Back w → WorldStands There Back (record w { one = record w.one { start = s } })
+stands_moved {There = There} {Back = Back} w s none sound later out here h = record {
+  one = record {
+    registers = λ r e. subst IsSound (sym (is r e)) sound;
+    room = h.one.room;
+    session = subst (λ o. IfAny o (IsInSession s)) (sym none) tt;
+    coming = subst (λ o. MayComeTo o w.one.coming w.other) (sym none) (subst (λ o. MayComeTo o w.one.coming w.other) none h.one.coming);
+  };
+  other = record { registers = h.other.registers; room = h.other.room; session = h.other.session; coming = coming w.other.session h.other.coming };
+  to_other = λ r r' e d. subst (λ x. AllFit There x r') (sym (is r e)) (λ i p. subst (λ o. FileFits o (in_at r' i)) (sym (out i p)) (h.to_other w.one.start r' before d i p));
+  to_one = λ r r' e d. subst (AllFit Back r') (sym (is r e)) (λ i p. subst (λ o. FileFits (out_at r' i) o) (sym (here i p)) (h.to_one w.one.start r' before d i p));
+  meet = subst (λ o. Meet o w.one.coming w.other.session w.other.coming) (sym none) tt;
+}
+  where
+    before : StationLeaves w.one w.one.start
+    before = subst (λ o. LeftBy w.one.start o w.one.start) (sym none) refl
+
+    is : (r : Register) → LeftBy s w.one.session r → r ≡ s
+    is r e = subst (λ o. LeftBy s o r) none e
+
+    coming : (session : Option Course) → MayComeTo session w.other.coming w.one → MayComeTo session w.other.coming (record w.one { start = s })
+    coming None m = m
+    coming (Some d) m = λ there e. subst (λ x. MayCome x d.phase w.other.coming) (sym (is there e))
+        (may_come_later w.one.start s d.phase w.other.coming later (m w.one.start (subst (λ o. LeftBy w.one.start o w.one.start) (sym none) refl)))
+
 -- Of a step: all pairs of registers that crashes may leave still fit.
 
-step_made : (r after there : Register) (change : Option Change) → IsSound r → IsSound there → IfAny change (Grounds r there) → Makes change r after → BothFit r there → BothFit after there
-step_made r after there None sound sound' g made fit = subst (λ x. BothFit x there) (sym made) fit
-step_made r after there (Some k) sound sound' g made fit = apply_fits r k after there sound sound' g made fit
+step_made : {There Back : Identity → Type 0} (r after there : Register) (change : Option Change) → IsSound r → IsSound there → IfAny change (Grounds r there) → Makes change r after
+    → BothFit There Back r there → BothFit There Back after there
+step_made {There = There} {Back = Back} r after there None sound sound' g made fit = subst (λ x. BothFit There Back x there) (sym made) fit
+step_made {There = There} {Back = Back} r after there (Some k) sound sound' g made fit = apply_fits r k after there sound sound' g made fit
 
-pub step_fits : (w : World) (c : Course) (step : Step) (after : Register) → w.one.session ≡ Some c → WorldStands w → Makes step.change c.register after
+pub step_fits : {There Back : Identity → Type 0} (w : World) (c : Course) (step : Step) (after : Register) → w.one.session ≡ Some c → WorldStands There Back w → Makes step.change c.register after
     → ((there : Register) → StationLeaves w.other there → IfAny step.change (Grounds c.register there))
-    → (r there : Register) → MayLeave w.one.start (advance c step) r → StationLeaves w.other there → BothFit r there
-step_fits w c step after e h made grounds r there leaves there_leaves =
+    → (r there : Register) → MayLeave w.one.start (advance c step) r → StationLeaves w.other there → BothFit There Back r there
+step_fits {There = There} {Back = Back} w c step after e h made grounds r there leaves there_leaves =
     let s : IsInSession w.one.start c = subst (λ o. IfAny o (IsInSession w.one.start)) e h.one.session in
     let now : StationLeaves w.one c.register = at_session w.one c c.register e s.now in
     let few : latest c.outputs ≤ length c.changes = omega (arith, s.now.least, s.now.most) in
     elim (leaves_next w.one.start c step after r few s.replay made leaves) [
-      | inl is ↦ subst (λ x. BothFit x there) (sym is)
+      | inl is ↦ subst (λ x. BothFit There Back x there) (sym is)
           (step_made c.register after there step.change (h.one.registers c.register now) (h.other.registers there there_leaves) (grounds there there_leaves) made
           (h.to_other c.register there now there_leaves, h.to_one c.register there now there_leaves))
       | inr k ↦ (let b : StationLeaves w.one r = at_session w.one c r e k.1 in (h.to_other r there b there_leaves, h.to_one r there b there_leaves))
@@ -154,13 +187,13 @@ step_fits w c step after e h made grounds r there leaves there_leaves =
 
 -- A crash within a step: the step was made, or not, and what it sent is lost.
 
-stopped_at : (w : World) (r : Register) → IsSound r → ((there : Register) → StationLeaves w.other there → BothFit r there)
-    → ((d : Course) → w.other.session ≡ Some d → MayCome r d.phase w.other.coming) → WorldStands w → WorldStands (record w { one = stopped_with w.one r })
-stopped_at w r sound fit come h = record {
+stopped_at : {There Back : Identity → Type 0} (w : World) (r : Register) → IsSound r → ((there : Register) → StationLeaves w.other there → BothFit There Back r there)
+    → ((d : Course) → w.other.session ≡ Some d → MayCome r d.phase w.other.coming) → WorldStands There Back w → WorldStands There Back (record w { one = stopped_with w.one r })
+stopped_at {There = There} {Back = Back} w r sound fit come h = record {
   one = record { registers = λ s e. subst IsSound (sym e) sound; room = h.one.room; session = tt; coming = refl };
   other = record { registers = h.other.registers; room = h.other.room; session = h.other.session; coming = coming w.other.session refl h.other.coming };
-  to_other = λ s s' e d. subst (λ x. AllFit x s') (sym e) (fit s' d).0;
-  to_one = λ s s' e d. subst (AllFit s') (sym e) (fit s' d).1;
+  to_other = λ s s' e d. subst (λ x. AllFit There x s') (sym e) (fit s' d).0;
+  to_one = λ s s' e d. subst (AllFit Back s') (sym e) (fit s' d).1;
   meet = tt;
 }
   where
@@ -175,14 +208,15 @@ later_made r after (Some k) sound made = apply_later r k after sound made
 silent : Step → Step
 silent s = record s { output = None }
 
-pub stands_within : (w : World) (c : Course) (step : Step) (after : Register) (n : ℕ) → w.one.session ≡ Some c → WorldStands w → IsSound after → Makes step.change c.register after
+pub stands_within : {There Back : Identity → Type 0} (w : World) (c : Course) (step : Step) (after : Register) (n : ℕ) → w.one.session ≡ Some c → WorldStands There Back w → IsSound after
+    → Makes step.change c.register after
     → ((there : Register) → StationLeaves w.other there → IfAny step.change (Grounds c.register there))
-    → WorldStands (stops_at w (advance c step) c.outputs n)
+    → WorldStands There Back (stops_at w (advance c step) c.outputs n)
 unfolding advance silent
-stands_within w c step after n e h sound made grounds = by (nat_le (latest c.outputs) n && nat_le n (length (advance c step).changes)) refl
+stands_within {There = There} {Back = Back} w c step after n e h sound made grounds = by (nat_le (latest c.outputs) n && nat_le n (length (advance c step).changes)) refl
   where
     by : (b : Bool) → (nat_le (latest c.outputs) n && nat_le n (length (advance c step).changes)) ≡ b
-        → WorldStands (let v : World = cond b (record w { one = stopped_with w.one (left_after w.one.start (advance c step) n) }) w in v)
+        → WorldStands There Back (let v : World = cond b (record w { one = stopped_with w.one (left_after w.one.start (advance c step) n) }) w in v)
     by false g = h
     by true g =
         let parts = and_parts (nat_le (latest c.outputs) n) (nat_le n (length (advance c step).changes)) g in
@@ -207,11 +241,12 @@ stands_within w c step after n e h sound made grounds = by (nat_le (latest c.out
 -- An error of the office within a step: the station stops as after a crash, and sends ESID to the other.
 
 -- a station that ends its session sends ESID to the other
-stands_told : (w : World) (e : Esid) → w.one.session ≡ None → WorldStands w → WorldStands (record w { other = told w.other (Some (command.Esid e)) })
-stands_told w e none h = by w.other.session refl
+stands_told : {There Back : Identity → Type 0} (w : World) (e : Esid) → w.one.session ≡ None → WorldStands There Back w
+    → WorldStands There Back (record w { other = told w.other (Some (command.Esid e)) })
+stands_told {There = There} {Back = Back} w e none h = by w.other.session refl
   where
     by : (session : Option Course) → w.other.session ≡ session
-        → WorldStands (let v : World = record w { other = cond (is_some session) (record w.other { coming = w.other.coming ++ command.Esid e ∷ [] }) w.other } in v)
+        → WorldStands There Back (let v : World = record w { other = cond (is_some session) (record w.other { coming = w.other.coming ++ command.Esid e ∷ [] }) w.other } in v)
     by None q = h
     by (Some d) q =
         let coming = w.other.coming ++ command.Esid e ∷ [] in
@@ -236,13 +271,16 @@ stands_told w e none h = by w.other.session refl
           meet = subst (λ o. Meet o w.one.coming w.other.session coming) (sym none) tt;
         }
 
-pub stands_failed : (w : World) (c : Course) (step : Step) (after : Register) (n : ℕ) → w.one.session ≡ Some c → WorldStands w → IsSound after → Makes step.change c.register after
-    → ((there : Register) → StationLeaves w.other there → IfAny step.change (Grounds c.register there)) → WorldStands (fails_at w (advance c step) c.outputs n)
-stands_failed w c step after n e h sound made grounds =
+pub stands_failed : {There Back : Identity → Type 0} (w : World) (c : Course) (step : Step) (after : Register) (n : ℕ) → w.one.session ≡ Some c → WorldStands There Back w → IsSound after
+    → Makes step.change c.register after
+    → ((there : Register) → StationLeaves w.other there → IfAny step.change (Grounds c.register there)) → WorldStands There Back (fails_at w (advance c step) c.outputs n)
+stands_failed {There = There} {Back = Back} w c step after n e h sound made grounds =
     by (may_stop (advance c step) c.outputs n) (stands_within w c step after n e h sound made grounds)
   where
-    by : (b : Bool) → WorldStands (let v : World = cond b (record w { one = stopped_with w.one (left_after w.one.start (advance c step) n) }) w in v)
-        → WorldStands (let v : World = cond b (record { one = stopped_with w.one (left_after w.one.start (advance c step) n); other = told w.other (Some (esid_of ResourcesNotAvailable)) }) w in v)
+    by : (b : Bool)
+        → WorldStands There Back (let v : World = cond b (record w { one = stopped_with w.one (left_after w.one.start (advance c step) n) }) w in v)
+        → WorldStands There Back (let v : World = cond b
+        (record { one = stopped_with w.one (left_after w.one.start (advance c step) n); other = told w.other (Some (esid_of ResourcesNotAvailable)) }) w in v)
     by true s = stands_told (record w { one = stopped_with w.one (left_after w.one.start (advance c step) n) }) (record { reason = session_number ResourcesNotAvailable; text = [] }) refl s
     by false s = s
 
@@ -287,8 +325,9 @@ begun_sound s other other' called none h = record {
   coming = λ there d. opens_come called there;
 }
 
-pub stands_called : (w : World) → w.one.session ≡ None → w.other.session ≡ None → WorldStands w → WorldStands (record { one = begins w.one (Some w.one.partner); other = begins w.other None })
-stands_called w none none' h =
+pub stands_called : {There Back : Identity → Type 0} (w : World) → w.one.session ≡ None → w.other.session ≡ None → WorldStands There Back w
+    → WorldStands There Back (record { one = begins w.one (Some w.one.partner); other = begins w.other None })
+stands_called {There = There} {Back = Back} w none none' h =
     let first : StationLeaves w.one w.one.start = subst (λ o. LeftBy w.one.start o w.one.start) (sym none) refl in
     let first' : StationLeaves w.other w.other.start = subst (λ o. LeftBy w.other.start o w.other.start) (sym none') refl in
     let one : (r : Register) → MayLeave w.one.start (started (record { book = w.one.book; called = Some w.one.partner }) w.one.start) r → r ≡ w.one.start =
@@ -298,7 +337,7 @@ stands_called w none none' h =
     record {
       one = begun_sound w.one w.other (begins w.other None) (Some w.one.partner) none h.one;
       other = begun_sound w.other w.one (begins w.one (Some w.one.partner)) None none' h.other;
-      to_other = λ r s m k. subst (λ x. AllFit x s) (sym (one r m)) (subst (AllFit w.one.start) (sym (other s k)) (h.to_other w.one.start w.other.start first first'));
-      to_one = λ r s m k. subst (λ x. AllFit x r) (sym (other s k)) (subst (AllFit w.other.start) (sym (one r m)) (h.to_one w.one.start w.other.start first first'));
+      to_other = λ r s m k. subst (λ x. AllFit There x s) (sym (one r m)) (subst (AllFit There w.one.start) (sym (other s k)) (h.to_other w.one.start w.other.start first first'));
+      to_one = λ r s m k. subst (λ x. AllFit Back x r) (sym (other s k)) (subst (AllFit Back w.other.start) (sym (one r m)) (h.to_one w.one.start w.other.start first first'));
       meet = inr (record { role = refl; none = refl; calling = record { role = refl; opens = refl; told = refl } });
     }

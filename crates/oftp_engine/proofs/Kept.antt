@@ -28,25 +28,30 @@ use Rattle.oftp_register.proofs.AdditionLemmas.{filed_ok, submitted_ok}
 use Rattle.oftp_register.proofs.ByIdentityLemmas.{changed_named, named_all, named_is, named_map, named_push, settled_name, started_named}
 use Rattle.oftp_engine.proofs.Fitting.{marked_fits, closing_fits, refused_fits, reopened_fits, handed_fits, opened_fits, closed_fits, issued_fits, sent_still_fits, started_fits, settle_state}
 
--- the two sides
-abbrev pub BothFit : Register → Register → Type 0
-BothFit r there = AllFit r there × AllFit there r
+-- the two sides, of the files with such identities in each direction
+abbrev pub BothFit : (Identity → Type 0) → (Identity → Type 0) → Register → Register → Type 0
+BothFit There Back r there = AllFit There r there × AllFit Back there r
 
 -- a change of one incoming file
-on_incoming_fits : (f : Incoming → Result Incoming Cause) → ((x y : Incoming) → f x ≡ Ok y → y.identity ≡ x.identity) → (n : ℕ) (r s there : Register) → IsSound r → on_incoming f n r ≡ Ok s
-    → ((x y : Incoming) → entry_at n r.incoming ≡ Some x → f x ≡ Ok y → FileFits (out_at there x.identity) (Some x) → FileFits (out_at there x.identity) (Some y)) → BothFit r there → BothFit s there
-on_incoming_fits f same n r s there sound h step fit =
+on_incoming_fits : {There Back : Identity → Type 0} (f : Incoming → Result Incoming Cause) → ((x y : Incoming) → f x ≡ Ok y → y.identity ≡ x.identity) → (n : ℕ) (r s there : Register)
+    → IsSound r
+    → on_incoming f n r ≡ Ok s
+    → ((x y : Incoming) → entry_at n r.incoming ≡ Some x → f x ≡ Ok y → FileFits (out_at there x.identity) (Some x) → FileFits (out_at there x.identity) (Some y))
+    → BothFit There Back r there → BothFit There Back s there
+on_incoming_fits {There = There} {Back = Back} f same n r s there sound h step fit =
     let part = mapped_ok (λ files. record r { incoming = files }) (at_number f n r.incoming) s h in
-    subst (λ (z : Register). BothFit z there) part.2
-    (fit.0, changed_named incoming_name f same (λ i e. FileFits (out_at there i) e) n r.incoming part.0 sound.incoming_once part.1 step fit.1)
+    subst (λ (z : Register). BothFit There Back z there) part.2
+    (fit.0, changed_named incoming_name f same (λ i e. Back i → FileFits (out_at there i) e) n r.incoming part.0 sound.incoming_once part.1 (λ x y e d was q. step x y e d (was q)) fit.1)
 
 -- a change of one outgoing file
-on_outgoing_fits : (f : Outgoing → Result Outgoing Cause) → ((x y : Outgoing) → f x ≡ Ok y → y.identity ≡ x.identity) → (n : ℕ) (r s there : Register) → IsSound r → on_outgoing f n r ≡ Ok s
-    → ((x y : Outgoing) → entry_at n r.outgoing ≡ Some x → f x ≡ Ok y → FileFits (Some x) (in_at there x.identity) → FileFits (Some y) (in_at there x.identity)) → BothFit r there → BothFit s there
-on_outgoing_fits f same n r s there sound h step fit =
+on_outgoing_fits : {There Back : Identity → Type 0} (f : Outgoing → Result Outgoing Cause) → ((x y : Outgoing) → f x ≡ Ok y → y.identity ≡ x.identity) → (n : ℕ) (r s there : Register)
+    → IsSound r → on_outgoing f n r ≡ Ok s
+    → ((x y : Outgoing) → entry_at n r.outgoing ≡ Some x → f x ≡ Ok y → FileFits (Some x) (in_at there x.identity) → FileFits (Some y) (in_at there x.identity)) → BothFit There Back r there
+    → BothFit There Back s there
+on_outgoing_fits {There = There} {Back = Back} f same n r s there sound h step fit =
     let part = mapped_ok (λ files. record r { outgoing = files }) (at_number f n r.outgoing) s h in
-    subst (λ (z : Register). BothFit z there) part.2
-    (changed_named outgoing_name f same (λ i e. FileFits e (in_at there i)) n r.outgoing part.0 sound.outgoing_once part.1 step fit.0, fit.1)
+    subst (λ (z : Register). BothFit There Back z there) part.2
+    (changed_named outgoing_name f same (λ i e. There i → FileFits e (in_at there i)) n r.outgoing part.0 sound.outgoing_once part.1 (λ x y e d was q. step x y e d (was q)) fit.0, fit.1)
 
 -- a file is submitted
 fits_new : (file : Outgoing) (found : Option Outgoing) (b : Bool) (there : Option Incoming) → is_handed file.state ≡ false → FileFits found there
@@ -56,10 +61,14 @@ fits_new file None true None h fit = h
 fits_new file None true (Some e) h fit = absurd fit
 fits_new file None false there h fit = fit
 
-submitted_fits : (r s there : Register) (file : Outgoing) → is_handed file.state ≡ false → submitted r file ≡ Ok s → BothFit r there → BothFit s there
-submitted_fits r s there file new h fit =
-    subst (λ (z : Register). BothFit z there) (submitted_ok r s file h).1
-    (λ i. subst (λ o. FileFits o (in_at there i)) (sym (named_push outgoing_name i r.outgoing file)) (fits_new file (out_at r i) (same_identity file.identity i) (in_at there i) new (fit.0 i)), fit.1)
+submitted_fits : {There Back : Identity → Type 0} (r s there : Register) (file : Outgoing) → is_handed file.state ≡ false → submitted r file ≡ Ok s → BothFit There Back r there
+    → BothFit There Back s there
+submitted_fits {There = There} {Back = Back} r s there file new h fit =
+    subst (λ (z : Register). BothFit There Back z there) (submitted_ok r s file h).1 (
+      λ i p. subst (λ o. FileFits o (in_at there i)) (sym (named_push outgoing_name i r.outgoing file))
+          (fits_new file (out_at r i) (same_identity file.identity i) (in_at there i) new (fit.0 i p)),
+      fit.1,
+    )
 
 -- a response is added
 
@@ -94,34 +103,36 @@ has_whole : (kind : ResponseKind) (e : Option Incoming) → ((x : Incoming) → 
 has_whole kind None sound g = g
 has_whole kind (Some e) sound g = (answered_whole kind e (sound e refl) g, g)
 
-filed_fits : (r s there : Register) (response : Received) → IsSound there → Has (in_at there response.identity) (IsAnsweredBy response.kind) → filed r response ≡ Ok s → BothFit r there
-    → BothFit s there
-filed_fits r s there response sound g h fit =
+filed_fits : {There Back : Identity → Type 0} (r s there : Register) (response : Received) → IsSound there → Has (in_at there response.identity) (IsAnsweredBy response.kind)
+    → filed r response ≡ Ok s → BothFit There Back r there
+    → BothFit There Back s there
+filed_fits {There = There} {Back = Back} r s there response sound g h fit =
     let kind = response.kind in
     let identity = response.identity in
     let whole = has_whole kind (in_at there identity) (λ x e. named_all incoming_name IsSoundIncoming identity there.incoming x sound.incoming e) g in
-    subst (λ (z : Register). BothFit z there) (filed_ok r s response h).1 (
-      λ i. subst (λ o. FileFits o (in_at there i)) (sym (named_map outgoing_name (settled kind identity) (settled_name kind identity) i r.outgoing))
+    subst (λ (z : Register). BothFit There Back z there) (filed_ok r s response h).1 (
+      λ i p. subst (λ o. FileFits o (in_at there i)) (sym (named_map outgoing_name (settled kind identity) (settled_name kind identity) i r.outgoing))
           (settle_found kind identity i (out_at r i) (in_at there i)
           (λ x e is. subst (λ j. Has (in_at there j) (λ e. (e.state ≡ Whole) × IsAnsweredBy kind e)) (sym is ∙ named_is outgoing_name i r.outgoing x e) whole)
-          (fit.0 i)),
+          (fit.0 i p)),
       fit.1,
     )
 
 -- a file starts
-started_both : (r s there : Register) (header : Incoming) (count : ℕ) → header.state ≡ Open → header.rows ≡ []
+started_both : {There Back : Identity → Type 0} (r s there : Register) (header : Incoming) (count : ℕ) → header.state ≡ Open → header.rows ≡ []
     → Has (out_at there header.identity) (λ f. (header.format ≡ f.format) × (header.longest ≡ f.longest))
-    → started r header count ≡ Ok s → BothFit r there → BothFit s there
-started_both r s there header count o none g h fit =
+    → started r header count ≡ Ok s → BothFit There Back r there → BothFit There Back s there
+started_both {There = There} {Back = Back} r s there header count o none g h fit =
     let part = mapped_ok (λ files. record r { incoming = files }) (started_in r header count r.incoming) s h in
-    subst (λ (z : Register). BothFit z there) part.2 (
+    subst (λ (z : Register). BothFit There Back z there) part.2 (
       fit.0,
-      started_named (λ i e. FileFits (out_at there i) e) r header count r.incoming part.0 part.1
-          (λ old new is was before. started_fits (out_at there header.identity) header count old new o none g was before) fit.1,
+      started_named (λ i e. Back i → FileFits (out_at there i) e) r header count r.incoming part.0 part.1
+          (λ old new is was before q. started_fits (out_at there header.identity) header count old new o none g was (before q)) fit.1,
     )
 
 -- each change
-pub apply_fits : (r : Register) (k : Change) (s there : Register) → IsSound r → IsSound there → Grounds r there k → apply r k ≡ Ok s → BothFit r there → BothFit s there
+pub apply_fits : {There Back : Identity → Type 0} (r : Register) (k : Change) (s there : Register) → IsSound r → IsSound there → Grounds r there k → apply r k ≡ Ok s
+    → BothFit There Back r there → BothFit There Back s there
 unfolding apply
 apply_fits r (change.Submit identity format longest description rows) s there sound sound' g h fit =
     submitted_fits r s there (record { identity = identity; format = format; longest = longest; description = description; rows = rows; mark = 0; state = Waiting }) refl h fit

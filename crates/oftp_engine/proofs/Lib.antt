@@ -16,11 +16,11 @@ pub mod Stepping
 pub mod Telling
 pub mod Served
 pub mod Conversations
+pub mod Openings
 pub mod Listening
 pub mod Deciding
 pub mod Offers
 pub mod Jobs
-pub mod Growing
 pub mod PartRows
 pub mod PartChanges
 pub mod PartSteps
@@ -52,3 +52,8 @@ pub mod Fetching
 pub mod JobsSoFar
 pub mod Standing
 pub mod Grounds
+pub mod About
+pub mod Apart
+pub mod Knowing
+pub mod Dealings
+pub mod Codes

@@ -55,7 +55,7 @@ variable_long format longest content rows same file =
     ap (λ (x : List ℕ). length x) file.1 ∙ ap (λ (f : Format). length (local_of f rows)) same ∙ local_long rows
 
 -- a partner that is found has the code
-found_code : (code : List ℕ) (ps : List Partner) (p : Partner) → partner_at code ps ≡ Some p → p.code ≡ code
+pub found_code : (code : List ℕ) (ps : List Partner) (p : Partner) → partner_at code ps ≡ Some p → p.code ≡ code
 found_code code [] p h = absurd (cc)
 found_code code (q ∷ ps) p h =
     elim (cases_Bool (bytes_eq q.code code)) [

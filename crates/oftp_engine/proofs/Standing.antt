@@ -24,7 +24,7 @@ use Rattle.oftp_session.specs.Receiving.{offered_identity}
 use Rattle.oftp_session.specs.Sending.{payloads_in}
 use Rattle.oftp_engine.specs.Progress.{Counted}
 use Rattle.oftp_engine.specs.Runs.{Course}
-use Rattle.oftp_engine.specs.World.{Station, World, latest, left_after, Event, after_event}
+use Rattle.oftp_engine.specs.World.{Station, World, latest, left_after}
 use Rattle.oftp_register.specs.ByIdentity.{out_at, in_at}
 use Rattle.oftp_engine.specs.TwoStations.{Has, IfAny, is_handed, IsAnsweredBy}
 
@@ -46,9 +46,9 @@ FileFits None (Some e) = ⊥
 FileFits (Some f) None = is_handed f.state ≡ false
 FileFits (Some f) (Some e) = IsPartOf f e
 
--- each file of a sender and a receiver
-abbrev pub AllFit : Register → Register → Type 0
-AllFit sender receiver = (identity : Identity) → FileFits (out_at sender identity) (in_at receiver identity)
+-- each file of a sender and a receiver that has such an identity
+abbrev pub AllFit : (Identity → Type 0) → Register → Register → Type 0
+AllFit Is sender receiver = (identity : Identity) → Is identity → FileFits (out_at sender identity) (in_at receiver identity)
 
 -- What is on its way to a station. The register is that of the station that sent it.
 
@@ -324,14 +324,10 @@ pub record IsSoundStation (s other : Station) : Type 0 where
   pub session : IfAny s.session (IsInSession s.start)
   pub coming : MayComeTo s.session s.coming other
 
--- the invariant
-pub record WorldStands (w : World) : Type 0 where
+-- the invariant, of the files with such identities in each direction
+pub record WorldStands (There Back : Identity → Type 0) (w : World) : Type 0 where
   pub one : IsSoundStation w.one w.other
   pub other : IsSoundStation w.other w.one
-  pub to_other : (r r' : Register) → StationLeaves w.one r → StationLeaves w.other r' → AllFit r r'
-  pub to_one : (r r' : Register) → StationLeaves w.one r → StationLeaves w.other r' → AllFit r' r
+  pub to_other : (r r' : Register) → StationLeaves w.one r → StationLeaves w.other r' → AllFit There r r'
+  pub to_one : (r r' : Register) → StationLeaves w.one r → StationLeaves w.other r' → AllFit Back r' r
   pub meet : Meet w.one.session w.one.coming w.other.session w.other.coming
-
--- each event preserves the invariant
-abbrev pub KeepsStanding : Type 0
-KeepsStanding = (w : World) (e : Event) → WorldStands w → WorldStands (after_event w e)

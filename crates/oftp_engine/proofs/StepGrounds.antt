@@ -69,17 +69,18 @@ in_entry : (r : Register) (n : ℕ) (x : Incoming) → IsSound r → entry_at n 
 in_entry r zero x sound e = absurd (cc)
 in_entry r (suc n) x sound e = found_named incoming_name n r.incoming x x.identity sound.incoming_once e (same_self x.identity)
 
-one_entry : {A : Type 0} (o : Option A) (x y : A) → o ≡ Some x → o ≡ Some y → x ≡ y
+pub one_entry : {A : Type 0} (o : Option A) (x y : A) → o ≡ Some x → o ≡ Some y → x ≡ y
 one_entry o x y h k = cc
 
 has_found : {A : Type 0} (o : Option A) (x : A) (P : A → Type 0) → o ≡ Some x → P x → Has o P
 has_found o x P e p = subst (λ z. Has z P) (sym e) p
 
 -- what the file that is received and the file that is sent have in common
-part_of : (r there : Register) (f : Receipt) (file : Outgoing) → IsSound r → IsReceived r f → AllFit there r → out_at there f.file.identity ≡ Some file → IsPartOf file f.file
-part_of r there f file sound holds fit found =
+part_of : {Back : Identity → Type 0} (r there : Register) (f : Receipt) (file : Outgoing) → IsSound r → IsReceived r f → AllFit Back there r → Back f.file.identity
+    → out_at there f.file.identity ≡ Some file → IsPartOf file f.file
+part_of r there f file sound holds fit ours found =
     let here : in_at r f.file.identity ≡ Some f.file = in_entry r f.number f.file sound holds.entry in
-    subst (λ o. FileFits o (Some f.file)) found (subst (λ e. FileFits (out_at there f.file.identity) e) here (fit f.file.identity))
+    subst (λ o. FileFits o (Some f.file)) found (subst (λ e. FileFits (out_at there f.file.identity) e) here (fit f.file.identity ours))
 
 sent_rows : (there : Register) (identity : Identity) (file : Outgoing) → IsSound there → out_at there identity ≡ Some file → AreRows file.format file.longest file.rows
 sent_rows there identity file sound found =
@@ -87,12 +88,12 @@ sent_rows there identity file sound found =
 
 -- DATA
 
-keep_grounds : (r there : Register) (f : Receipt) (payload : List ℕ) (t : Taking) → IsSound r → IsSound there → IsReceived r f → AllFit there r
+keep_grounds : {Back : Identity → Type 0} (r there : Register) (f : Receipt) (payload : List ℕ) (t : Taking) → IsSound r → IsSound there → IsReceived r f → AllFit Back there r → Back f.file.identity
     → IsBeginning there f.file.identity f.from (f.payloads ++ payload ∷ []) → taken (carried_by f) payload ≡ Ok t
     → OfEntry f.number r.incoming (λ (e : Incoming). Has (out_at there e.identity) (λ g. BeginsWith g.rows (e.rows ++ rows_to_keep f t)))
-keep_grounds r there f payload t sound sound' holds fit b took x e =
+keep_grounds r there f payload t sound sound' holds fit ours b took x e =
     let file = b.1.file in
-    let part = part_of r there f file sound holds fit b.1.found in
+    let part = part_of r there f file sound holds fit ours b.1.found in
     let left = drop f.from file.rows in
     let g = with_payload f payload in
     let is : carried_by g ≡ t = carried_next f payload t took in
@@ -116,16 +117,17 @@ keeping_grounds : (r there : Register) (n : ℕ) (rows : List (List ℕ)) → Of
 keeping_grounds r there n [] h = tt
 keeping_grounds r there n (row ∷ rows) h = h
 
-data_grounds : (contact : Contact) (r there : Register) (f : Receipt) (payload : List ℕ) → IsSound r → IsSound there → IsReceived r f → AllFit there r
+data_grounds : {Back : Identity → Type 0} (contact : Contact) (r there : Register) (f : Receipt) (payload : List ℕ) → IsSound r → IsSound there → IsReceived r f → AllFit Back there r
+    → Back f.file.identity
     → IsBeginning there f.file.identity f.from (f.payloads ++ payload ∷ [])
     → IfAny (data_step contact f payload).change (Grounds r there)
 unfolding data_step
-data_grounds contact r there f payload sound sound' holds fit b = by_size (nat_lt contact.link.buffer (length payload + 1))
+data_grounds contact r there f payload sound sound' holds fit ours b = by_size (nat_lt contact.link.buffer (length payload + 1))
   where
     by_window : (t : Taking) → taken (carried_by f) payload ≡ Ok t → (full : Bool)
         → IfAny (let s : Step = cond full (answers (Receiving contact (with_rows (with_payload f payload) (rows_to_keep f t))) (keeping f.number (rows_to_keep f t)) command.Cdt)
         (quiet (Receiving contact (with_payload f payload))) in s).change (Grounds r there)
-    by_window t h true = keeping_grounds r there f.number (rows_to_keep f t) (keep_grounds r there f payload t sound sound' holds fit b h)
+    by_window t h true = keeping_grounds r there f.number (rows_to_keep f t) (keep_grounds r there f payload t sound sound' holds fit ours b h)
     by_window t h false = tt
 
     by_taken : (result : Result Taking TakeFault) → taken (carried_by f) payload ≡ result → IfAny (on_taken contact f payload result).change (Grounds r there)
@@ -138,12 +140,13 @@ data_grounds contact r there f payload sound sound' holds fit b = by_size (nat_l
 
 -- EFID
 
-close_grounds : (r there : Register) (f : Receipt) → IsSound r → IsSound there → IsReceived r f → AllFit there r → ComesFrom there f.file.identity f.from f.payloads []
+close_grounds : {Back : Identity → Type 0} (r there : Register) (f : Receipt) → IsSound r → IsSound there → IsReceived r f → AllFit Back there r → Back f.file.identity
+    → ComesFrom there f.file.identity f.from f.payloads []
     → OfEntry f.number r.incoming (λ (e : Incoming). Has (out_at there e.identity) (λ g. e.rows ++ closed (rows_to_keep f (carried_by f)) (carried_by f).tail ≡ g.rows))
-close_grounds r there f sound sound' holds fit b x e =
+close_grounds r there f sound sound' holds fit ours b x e =
     let file = b.file in
     let t : Taking = carried_by f in
-    let part : IsPartOf file f.file = part_of r there f file sound holds fit b.found in
+    let part : IsPartOf file f.file = part_of r there f file sound holds fit ours b.found in
     let rows = sent_rows there f.file.identity file sound' b.found in
     let all = carried_same f in
     let format : t.format ≡ file.format = all.0 ∙ part.format in
@@ -158,16 +161,17 @@ close_grounds r there f sound sound' holds fit b x e =
     subst (λ (y : Incoming). Has (out_at there y.identity) (λ g. y.rows ++ closed (rows_to_keep f t) t.tail ≡ g.rows)) same
     (has_found (out_at there f.file.identity) file (λ g. f.file.rows ++ closed (rows_to_keep f t) t.tail ≡ g.rows) b.found whole)
 
-end_grounds : (contact : Contact) (r there : Register) (f : Receipt) (efid : Efid) → IsSound r → IsSound there → IsReceived r f → AllFit there r → ComesFrom there f.file.identity f.from f.payloads []
+end_grounds : {Back : Identity → Type 0} (contact : Contact) (r there : Register) (f : Receipt) (efid : Efid) → IsSound r → IsSound there → IsReceived r f → AllFit Back there r
+    → Back f.file.identity → ComesFrom there f.file.identity f.from f.payloads []
     → IfAny (end_step contact r f efid).change (Grounds r there)
 unfolding end_step
-end_grounds contact r there f efid sound sound' holds fit b = by_open (is_open t.stage)
+end_grounds contact r there f efid sound sound' holds fit ours b = by_open (is_open t.stage)
   where
     t : Taking
     t = carried_by f
 
     by_verdict : (verdict : EndVerdict) → IfAny (on_end_verdict contact r f (carried_by f) verdict).change (Grounds r there)
-    by_verdict «end».Accept = close_grounds r there f sound sound' holds fit b
+    by_verdict «end».Accept = close_grounds r there f sound sound' holds fit ours b
     by_verdict («end».Refuse reason) = tt
 
     by_open : (stays : Bool) → IfAny (let s : Step = cond stays (fails ProtocolViolation)
@@ -175,15 +179,16 @@ end_grounds contact r there f efid sound sound' holds fit b = by_open (is_open t
     by_open true = tt
     by_open false = by_verdict (end_verdict efid (counts_of (carried_by f)).0 (counts_of (carried_by f)).1)
 
-receiving_grounds : (contact : Contact) (r there : Register) (f : Receipt) (c : Command) (coming : List Command) → IsSound r → IsSound there → IsReceived r f → AllFit there r
+receiving_grounds : {Back : Identity → Type 0} (contact : Contact) (r there : Register) (f : Receipt) (c : Command) (coming : List Command) → IsSound r → IsSound there → IsReceived r f
+    → AllFit Back there r → Back f.file.identity
     → MayTake there f.file.identity f.from f.payloads (c ∷ coming)
     → IfAny (came_receiving contact r f c).change (Grounds r there)
 unfolding came_receiving unexpected
-receiving_grounds contact r there f (command.Data payload) coming sound sound' holds fit h =
-    data_grounds contact r there f payload sound sound' holds fit (take_begins there f.file.identity f.from (f.payloads ++ payload ∷ []) coming h)
-receiving_grounds contact r there f (command.Efid efid) coming sound sound' holds fit h = end_grounds contact r there f efid sound sound' holds fit h.0
-receiving_grounds contact r there f (command.Esid esid) coming sound sound' holds fit h = tt
-receiving_grounds contact r there f _ coming sound sound' holds fit h = tt
+receiving_grounds contact r there f (command.Data payload) coming sound sound' holds fit ours h =
+    data_grounds contact r there f payload sound sound' holds fit ours (take_begins there f.file.identity f.from (f.payloads ++ payload ∷ []) coming h)
+receiving_grounds contact r there f (command.Efid efid) coming sound sound' holds fit ours h = end_grounds contact r there f efid sound sound' holds fit ours h.0
+receiving_grounds contact r there f (command.Esid esid) coming sound sound' holds fit ours h = tt
+receiving_grounds contact r there f _ coming sound sound' holds fit ours h = tt
 
 -- a listener
 
@@ -309,22 +314,22 @@ await_grounds setting r there (command.Ssid ssid) = opened_grounds setting ssid.
 await_grounds setting r there _ = tt
 
 -- a command that arrives
-pub came_grounds : (setting : Setting) (p : Phase) (r there : Register) (c : Command) (coming : List Command) → IsSound r → IsSound there → Holds p r → AllFit there r
-    → MayCome there p (c ∷ coming) → IfAny (came setting p r c).change (Grounds r there)
+pub came_grounds : {Back : Identity → Type 0} (setting : Setting) (p : Phase) (r there : Register) (c : Command) (coming : List Command) → IsSound r → IsSound there → Holds p r → AllFit Back there r
+    → ((contact : Contact) (f : Receipt) → p ≡ Receiving contact f → Back f.file.identity) → MayCome there p (c ∷ coming) → IfAny (came setting p r c).change (Grounds r there)
 unfolding came
-came_grounds setting ResponderOpening r there c coming sound sound' holds fit h = respond_grounds r there c
-came_grounds setting InitiatorOpening r there c coming sound sound' holds fit h = initiate_grounds setting r there c
-came_grounds setting AwaitingSsid r there c coming sound sound' holds fit h = await_grounds setting r there c
-came_grounds setting (ListenerIdle contact) r there c coming sound sound' holds fit h = listener_grounds setting contact r there c coming h
-came_grounds setting (Receiving contact f) r there c coming sound sound' holds fit h = receiving_grounds contact r there f c coming sound sound' holds fit h
-came_grounds setting (SpeakerIdle contact done) r there c coming sound sound' holds fit h = idle_grounds r there c
-came_grounds setting (GivingWay contact) r there c coming sound sound' holds fit h = idle_grounds r there c
-came_grounds setting (AwaitingRtr contact number) r there c coming sound sound' holds fit h = rtr_grounds contact r there number c
-came_grounds setting (AwaitingStart contact offer) r there c coming sound sound' holds fit h = start_answer_grounds contact r there offer c coming holds h
-came_grounds setting (Sending contact t) r there c coming sound sound' holds fit h = sending_grounds contact r there t c
-came_grounds setting (AwaitingEnd contact t) r there c coming sound sound' holds fit h = end_answer_grounds contact r there t c coming holds h
-came_grounds setting (EndedHere reason) r there c coming sound sound' holds fit h = tt
-came_grounds setting (EndedThere reason) r there c coming sound sound' holds fit h = tt
+came_grounds setting ResponderOpening r there c coming sound sound' holds fit ours h = respond_grounds r there c
+came_grounds setting InitiatorOpening r there c coming sound sound' holds fit ours h = initiate_grounds setting r there c
+came_grounds setting AwaitingSsid r there c coming sound sound' holds fit ours h = await_grounds setting r there c
+came_grounds setting (ListenerIdle contact) r there c coming sound sound' holds fit ours h = listener_grounds setting contact r there c coming h
+came_grounds setting (Receiving contact f) r there c coming sound sound' holds fit ours h = receiving_grounds contact r there f c coming sound sound' holds fit (ours contact f refl) h
+came_grounds setting (SpeakerIdle contact done) r there c coming sound sound' holds fit ours h = idle_grounds r there c
+came_grounds setting (GivingWay contact) r there c coming sound sound' holds fit ours h = idle_grounds r there c
+came_grounds setting (AwaitingRtr contact number) r there c coming sound sound' holds fit ours h = rtr_grounds contact r there number c
+came_grounds setting (AwaitingStart contact offer) r there c coming sound sound' holds fit ours h = start_answer_grounds contact r there offer c coming holds h
+came_grounds setting (Sending contact t) r there c coming sound sound' holds fit ours h = sending_grounds contact r there t c
+came_grounds setting (AwaitingEnd contact t) r there c coming sound sound' holds fit ours h = end_answer_grounds contact r there t c coming holds h
+came_grounds setting (EndedHere reason) r there c coming sound sound' holds fit ours h = tt
+came_grounds setting (EndedThere reason) r there c coming sound sound' holds fit ours h = tt
 
 -- a turn
 item_grounds : (setting : Setting) (contact : Contact) (done : WhenDone) (r there : Register) (i : Option Item) → IfAny (on_item setting contact done r i).change (Grounds r there)

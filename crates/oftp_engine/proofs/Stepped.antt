@@ -1,6 +1,7 @@
 -- A step preserves the invariant, if it does what a step of a session does.
 use Rattle.std.proofs.Common.{◌≡◌, ◌⊎◌, ◌≤◌, Bool, true, false, cond, List, [], ◌∷◌, ◌++◌, Option, None, Some, is_some, refl, ap, sym, ◌∙◌, subst, inl, inr, arith}
 use Rattle.oftp_wire.specs.declared.command.Command.{Command}
+use Rattle.oftp_register.specs.declared.entry.Identity.{Identity}
 use Rattle.oftp_register.specs.Register.{Register}
 use Rattle.oftp_register.specs.Soundness.{IsSound}
 use Rattle.oftp_session.specs.Phases.{Step, is_over}
@@ -32,11 +33,12 @@ pub record IsStep (w : World) (c : Course) (step : Step) (rest : List Command) (
   pub meet : (d : Course) → w.other.session ≡ Some d → is_over step.phase ≡ false → Meet (Some (advance c step)) rest (Some d) (with_said w.other.coming step.output)
 
 -- a world from its parts
-built : (w : World) (one : Station) (x : List Command) → WorldStands w → ((r : Register) → StationLeaves one r → IsSound r) → 128 ≤ one.book.station.buffer
+built : {There Back : Identity → Type 0} (w : World) (one : Station) (x : List Command) → WorldStands There Back w → ((r : Register) → StationLeaves one r → IsSound r) → 128 ≤ one.book.station.buffer
     → IfAny one.session (IsInSession one.start) → MayComeTo one.session one.coming w.other
-    → ((r there : Register) → StationLeaves one r → StationLeaves w.other there → BothFit r there) → MayComeTo w.other.session x one → Meet one.session one.coming w.other.session x → let v : World =
-    record { one = one; other = record w.other { coming = x } } in WorldStands v
-built w one x h registers room session coming fit comes meet = record {
+    → ((r there : Register) → StationLeaves one r → StationLeaves w.other there → BothFit There Back r there) → MayComeTo w.other.session x one
+    → Meet one.session one.coming w.other.session x → let v : World =
+    record { one = one; other = record w.other { coming = x } } in WorldStands There Back v
+built {There = There} {Back = Back} w one x h registers room session coming fit comes meet = record {
   one = record { registers = registers; room = room; session = session; coming = coming_of one.session coming };
   other = record { registers = h.other.registers; room = h.other.room; session = h.other.session; coming = comes };
   to_other = λ r s e d. (fit r s e d).0;
@@ -62,10 +64,11 @@ told_by s (Some command) P k = by s.session refl
     by None e = subst (λ o. P (cond (is_some o) (record s { coming = s.coming ++ command ∷ [] }) s)) (sym e) (k None e)
     by (Some d) e = subst (λ o. P (cond (is_some o) (record s { coming = s.coming ++ command ∷ [] }) s)) (sym e) (k (Some d) e)
 
-pub stands_stepped : (w : World) (c : Course) (step : Step) (rest : List Command) (after : Register) → w.one.session ≡ Some c → WorldStands w → IsStep w c step rest after
-    → WorldStands (stepped (record w { one = record w.one { coming = rest } }) c step)
+pub stands_stepped : {There Back : Identity → Type 0} (w : World) (c : Course) (step : Step) (rest : List Command) (after : Register) → w.one.session ≡ Some c → WorldStands There Back w
+    → IsStep w c step rest after
+    → WorldStands There Back (stepped (record w { one = record w.one { coming = rest } }) c step)
 unfolding advance
-stands_stepped w c step rest after e h s = by_over (is_over step.phase) refl
+stands_stepped {There = There} {Back = Back} w c step rest after e h s = by_over (is_over step.phase) refl
   where
     c' : Course
     c' = advance c step
@@ -84,7 +87,7 @@ stands_stepped w c step rest after e h s = by_over (is_over step.phase) refl
     sound : (r : Register) → MayLeave w.one.start (advance c step) r → IsSound r
     sound r m = elim (which r m) [ inl is ↦ subst IsSound (sym is) s.sound | inr k ↦ h.one.registers r (at_session w.one c r e k.1) ]
 
-    fits : (r there : Register) → MayLeave w.one.start (advance c step) r → StationLeaves w.other there → BothFit r there
+    fits : (r there : Register) → MayLeave w.one.start (advance c step) r → StationLeaves w.other there → BothFit There Back r there
     fits r there m d = step_fits w c step after e h s.made s.grounds r there m d
 
     now : MayLeave w.one.start (advance c step) (advance c step).register
@@ -113,11 +116,11 @@ stands_stepped w c step rest after e h s = by_over (is_over step.phase) refl
           one = stopped_with (record w.one { coming = rest }) (advance c step).register;
           other =
               record w.other { coming = cond (is_some session) (with_said w.other.coming step.output) w.other.coming };
-        } in WorldStands v
+        } in WorldStands There Back v
     over_case session is =
         built w (stopped_with (record w.one { coming = rest }) (advance c step).register) (cond (is_some session) (with_said w.other.coming step.output) w.other.coming) h
         (λ r q. subst IsSound (sym q) (sound (advance c step).register now)) h.one.room tt refl
-        (λ r there q d. subst (λ x. BothFit x there) (sym q) (fits (advance c step).register there now d))
+        (λ r there q d. subst (λ x. BothFit There Back x there) (sym q) (fits (advance c step).register there now d))
         (subst (λ o. MayComeTo o (cond (is_some session) (with_said w.other.coming step.output) w.other.coming)
         (stopped_with (record w.one { coming = rest }) (advance c step).register)) (sym is) (come session is))
         tt
@@ -132,7 +135,7 @@ stands_stepped w c step rest after e h s = by_over (is_over step.phase) refl
           one = record w.one { coming = rest; session = Some (advance c step) };
           other =
               record w.other { coming = cond (is_some session) (with_said w.other.coming step.output) w.other.coming };
-        } in WorldStands v
+        } in WorldStands There Back v
     on_case on session is =
         built w (record w.one { coming = rest; session = Some (advance c step) }) (cond (is_some session) (with_said w.other.coming step.output) w.other.coming) h
         sound h.one.room
@@ -164,6 +167,6 @@ stands_stepped w c step rest after e h s = by_over (is_over step.phase) refl
           one = cond b (stopped_with (record w.one { coming = rest }) (advance c step).register) (record w.one { coming = rest; session = Some (advance c step) });
           other =
               told w.other step.output;
-        } in WorldStands v
-    by_over true q = told_by w.other step.output (λ x. let v : World = record { one = stopped_with (record w.one { coming = rest }) (advance c step).register; other = x } in WorldStands v) over_case
-    by_over false q = told_by w.other step.output (λ x. let v : World = record { one = record w.one { coming = rest; session = Some (advance c step) }; other = x } in WorldStands v) (on_case q)
+        } in WorldStands There Back v
+    by_over true q = told_by w.other step.output (λ x. WorldStands There Back (record { one = stopped_with (record w.one { coming = rest }) (advance c step).register; other = x })) over_case
+    by_over false q = told_by w.other step.output (λ x. WorldStands There Back (record { one = record w.one { coming = rest; session = Some (advance c step) }; other = x })) (on_case q)

@@ -55,7 +55,8 @@ stuck : (cause : Cause) (changes : List Change) (r : Register) → fold go_on_by
 stuck cause [] r h = cc
 stuck cause (k ∷ ks) r h = stuck cause ks r h
 
-from_result : (result : Result Register Cause) (n : ℕ) (changes : List Change) (r : Register) → fold go_on_by result changes ≡ Ok r → (s : Register) × (fold go_on_by result (take n changes) ≡ Ok s)
+pub from_result : (result : Result Register Cause) (n : ℕ) (changes : List Change) (r : Register) → fold go_on_by result changes ≡ Ok r
+    → (s : Register) × (fold go_on_by result (take n changes) ≡ Ok s)
 from_result result zero changes r h = by result h
   where
     by : (result : Result Register Cause) → fold go_on_by result changes ≡ Ok r → (s : Register) × (result ≡ Ok s)

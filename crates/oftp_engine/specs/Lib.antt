@@ -4,6 +4,7 @@ pub mod Serving
 pub mod Served
 pub mod Progress
 pub mod Conversation
+pub mod Openings
 pub mod Frames
 pub mod Resources
 pub mod Operating

@@ -1,12 +1,14 @@
 -- The promise of two stations.
-use Rattle.std.specs.Prelude.{◌≤◌, List, None, []}
+use Rattle.std.specs.Prelude.{◌≡◌, ◌≤◌, Bool, true, false, List, None, []}
+use Rattle.std.specs.List.{AllByRecursion}
 use Rattle.oftp_partners.specs.Book.{BookData}
 use Rattle.oftp_partners.specs.declared.partner.Partner.{Partner}
 use Rattle.oftp_vfile.specs.declared.format.Limits.{Limits}
 use Rattle.oftp_register.specs.declared.fit.TheConstants.{MOST_FILES, MOST_OCTETS}
+use Rattle.oftp_register.specs.declared.entry.Identity.{Identity}
 use Rattle.oftp_register.specs.Register.{empty}
-use Rattle.oftp_engine.specs.World.{Station, World, Event, after_events, register_of}
-use Rattle.oftp_engine.specs.TwoStations.{ContentArrives, ResponsesAreIssued}
+use Rattle.oftp_engine.specs.World.{Station, World, Event, Happening, Deals, after_events, register_of}
+use Rattle.oftp_engine.specs.TwoStations.{ContentArrives, ContentArrivesOf, GoesBetween, ResponsesAreIssued, ResponsesAreIssuedOf}
 
 -- a station before its first session
 abbrev pub new_station : BookData → Partner → Limits → Station
@@ -28,7 +30,31 @@ ResponsesAreKept w = ResponsesAreIssued (register_of w.one) (register_of w.other
 abbrev pub world_of : BookData → BookData → Partner → Partner → Limits → Limits → World
 world_of book book' partner partner' limits limits' = record { one = new_station book partner limits; other = new_station book' partner' limits' }
 
+-- the same of the files There, which go from the one to the other, and of those Back, in the words of their identities
+abbrev pub PromiseIsKept : (Identity → Type 0) → (Identity → Type 0) → World → Type 0
+PromiseIsKept There Back w = (ContentArrivesOf There (register_of w.one) (register_of w.other) × ContentArrivesOf Back (register_of w.other) (register_of w.one))
+    × (ResponsesAreIssuedOf There (register_of w.one) (register_of w.other) × ResponsesAreIssuedOf Back (register_of w.other) (register_of w.one))
+
+-- Two stations among any others: the promise is kept of the files from the one to the other, and of those from the other to the one. Whose
+-- they are is said by the two codes.
 abbrev pub TwoStations : Type 0
 TwoStations = (book book' : BookData) (partner partner' : Partner) (limits limits' : Limits) (events : List Event) → IsLawful book limits → IsLawful book' limits'
+    → PromiseIsKept (GoesBetween book.station.code book'.station.code) (GoesBetween book'.station.code book.station.code) (after_events (world_of book book' partner partner' limits limits') events)
+
+-- no third partner has a part in it
+abbrev pub is_of_two : Happening → Bool
+is_of_two (Deals dealings) = false
+is_of_two _ = true
+
+-- Two stations alone: the promise is kept of all files
+abbrev pub TwoStationsAlone : Type 0
+TwoStationsAlone = (book book' : BookData) (partner partner' : Partner) (limits limits' : Limits) (events : List Event) → IsLawful book limits → IsLawful book' limits'
+    → AllByRecursion (λ (e : Event). is_of_two e.happening ≡ true) events
     → ContentIsKept (after_events (world_of book book' partner partner' limits limits') events)
     × ResponsesAreKept (after_events (world_of book book' partner partner' limits limits') events)
+
+-- Among others the promise isn't kept of all files: whatever the books and partners, there are events after which a file is whole at the one
+-- station, and the other has none with its identity. It came from a third partner. So the codes in `TwoStations` are needed.
+abbrev pub CodesAreNeeded : Type 0
+CodesAreNeeded = (book book' : BookData) (partner partner' : Partner) (limits limits' : Limits) → 1 ≤ limits.files
+    → (events : List Event) × (ContentIsKept (after_events (world_of book book' partner partner' limits limits') events) → ⊥)

@@ -1,14 +1,17 @@
 -- Two stations, and the commands on their way between them.
-use Rattle.std.specs.Prelude.{◌≡◌, ℕ, ◌&&◌, Bool, true, false, nat_le, if◌then◌else◌, List, [], ◌∷◌, ◌++◌, length, take, fold, Option, None, Some, is_some}
+use Rattle.std.specs.Prelude.{◌≡◌, ℕ, ◌&&◌, Bool, true, false, nat_le, if◌then◌else◌, List, [], ◌∷◌, ◌++◌, length, take, fold, Option, None, Some, is_some, Ok}
 use Rattle.std.specs.Result.{result_unwrap_or}
+use Rattle.std.specs.Str.{bytes_eq}
 use Rattle.oftp_wire.specs.declared.command.Command.{Command}
 use Rattle.oftp_partners.specs.Book.{BookData}
 use Rattle.oftp_partners.specs.declared.partner.Partner.{Partner}
 use Rattle.oftp_register.specs.declared.change.Change.{Change}
 use Rattle.oftp_register.specs.declared.change.Change.TheVariants.{Submit, Issue}
+use Rattle.oftp_register.specs.declared.entry.Identity.{Identity}
 use Rattle.oftp_register.specs.Register.{Register}
-use Rattle.oftp_register.specs.Changes.{apply_all}
-use Rattle.oftp_register.specs.Soundness.{IsFit}
+use Rattle.oftp_register.specs.ByIdentity.{in_at, out_at}
+use Rattle.oftp_register.specs.Changes.{apply, apply_all}
+use Rattle.oftp_register.specs.Soundness.{IsFit, IsSound}
 use Rattle.oftp_wire.specs.declared.reason.SessionReason.TheVariants.{ResourcesNotAvailable}
 use Rattle.oftp_session.specs.Phases.{Step, esid_of, is_over, register_after}
 use Rattle.oftp_session.specs.Steps.{came, turned}
@@ -112,9 +115,28 @@ pub record Alteration : Type 0 where
   pub ordered : is_ordered change ≡ true
   pub fit : (r : Register) → IsFit r change
 
+-- changes in order, each of which is made and leaves a sound register
+abbrev pub AreMade : Register → List Change → Register → Type 0
+AreMade r [] s = s ≡ r
+AreMade r (change ∷ changes) s = (next : Register) × (apply r change ≡ Ok next) × IsSound next × AreMade next changes s
+
+-- from the one register to the other any changes are made, as long as each file for the partner of this code, and each from it, is as it was
+pub record LeavesFilesOf (code : List ℕ) (r s : Register) : Type 0 where
+  pub changes : List Change
+  pub made : AreMade r changes s
+  pub outgoing : (identity : Identity) → identity.destination ≡ code → out_at s identity ≡ out_at r identity
+  pub incoming : (identity : Identity) → identity.originator ≡ code → in_at s identity ≡ in_at r identity
+
+-- What a station does with others than the partner of this code: the register that it leaves, of each register. It may be one session with
+-- a third partner, whose program may be any, or several sessions.
+pub record Dealings : Type 0 where
+  pub without : List ℕ
+  pub left : Register → Register
+  pub is : (r : Register) → IsSound r → LeavesFilesOf without r (left r)
+
 -- What happens at the one station: it makes a step, loses the connection, crashes between steps or within one, ends the session at an error
--- of its office within a step, does an operator's call, has its office changed by another caller, or calls the other. A crash, or an error
--- of the office, leaves a number of the session's changes.
+-- of its office within a step, does an operator's call, has its office changed by another caller, calls the other, or deals with others. A
+-- crash, or an error of the office, leaves a number of the session's changes.
 pub data Happening : Type 0 where
   Does : Doing → Happening
   Breaks : Happening
@@ -124,6 +146,7 @@ pub data Happening : Type 0 where
   Orders : Order → Happening
   Alters : Alteration → Happening
   Calls : Happening
+  Deals : Dealings → Happening
 
 -- what happens where the station has a session
 abbrev pub does : World → Course → List Command → Option Step → World
@@ -147,6 +170,7 @@ in_session w c (FailsInStep doing n) = fails_within w c n (step_of c doing w.one
 in_session w c (Orders order) = w
 in_session w c (Alters alteration) = w
 in_session w c Calls = w
+in_session w c (Deals dealings) = w
 
 -- both begin a session: the first one calls
 abbrev pub begins : Station → Option Partner → Station
@@ -160,6 +184,10 @@ calls w (Some c) = w
 abbrev pub changed_by : World → Option Change → World
 changed_by w change = record w { one = record w.one { start = register_after w.one.start change } }
 
+-- it deals with others, if these dealings are without the other station
+abbrev pub dealt : World → Dealings → World
+dealt w dealings = if bytes_eq dealings.without w.other.book.station.code then record w { one = record w.one { start = dealings.left w.one.start } } else w
+
 -- what happens where it has none
 unfoldable pub without_session : World → Happening → World
 without_session w (Does doing) = w
@@ -170,6 +198,7 @@ without_session w (FailsInStep doing n) = w
 without_session w (Orders order) = changed_by w (order.deed w.one.book w.one.start).change
 without_session w (Alters alteration) = changed_by w (Some alteration.change)
 without_session w Calls = calls w w.other.session
+without_session w (Deals dealings) = dealt w dealings
 
 abbrev pub happens_in : World → Happening → Option Course → World
 happens_in w h (Some c) = in_session w c h

@@ -1,17 +1,22 @@
 //! A session that gets its octets in pieces.
 
-ghost use Rattle.std.specs.Prelude.{◌≡◌, ◌≢◌, ℕ, List, OnErr, OnOk, IfErr};
+ghost use Rattle.std.specs.Prelude.{◌≡◌, ◌≢◌, ℕ, List, [], OnErr, OnOk, IfErr, IfOk, option_map};
+ghost use Rattle.oftp_partners.specs.Book.{BookData};
+ghost use Rattle.oftp_session.specs.Callers.{code_of};
+ghost use Rattle.oftp_session.specs.Calls.{Stands};
+ghost use Rattle.oftp_session.specs.Phases.{Phase};
 ghost use Rattle.oftp_session.specs.Settings.{Setting};
 ghost use Rattle.oftp_session.specs.Standings.{Broken};
 ghost use Rattle.oftp_io.specs.Ports.{Puts};
 ghost use Rattle.oftp_engine.specs.Conversation.{ComesTo, HasHeard, HeardMore, IsFresh, IsOwn};
+ghost use Rattle.oftp_engine.specs.Openings.{IsGreeted, IsJudged, of_caller};
 ghost use Rattle.oftp_engine.specs.Served.{WriterTold, setting_of};
 ghost use Rattle.oftp_engine.specs.Serving.{scene};
 
-use crate::serving::{Role, RunFault, opened, pump};
+use crate::serving::{Admission, Role, RunFault, greet, judge, opened, pump};
 use oftp_io::Port;
 use oftp_partners::Book;
-use oftp_register::Office;
+use oftp_register::{Name, Office};
 use oftp_session::{Ending, Session};
 use oftp_wire::Deframer;
 use std::alloc::Global;
@@ -78,6 +83,47 @@ impl<'b> Conversation<'b> {
         ensures told { WriterTold writer.old writer.new result }
     {
         pump(&mut self.session, office, &mut self.stream, writer)
+    }
+
+    /// Greets a caller: writes SSRM. No office is asked. The conversation must be a responder's before its first step.
+    ///
+    /// # Errors
+    ///
+    /// [`RunFault::Write`]: the writer returned an error, or accepted no octet. It must not be called again after that.
+    pub fn greet<W: Write>(&mut self, writer: &mut Port<W>) -> Result<(), RunFault>
+        requires { Stands Phase.ResponderOpening self.old.seen }
+        ensures greets { (book : BookData) → IsFresh (of_caller book) self.old → OnOk result (IsGreeted W.contents book [] self.new writer.old writer.new) }
+        ensures err { IfErr result (λ fault. fault ≡ RunFault.Write) }
+        ensures out { Puts W.contents writer.old writer.new }
+        ensures told { WriterTold writer.old writer.new result }
+    {
+        greet(&mut self.session, writer)
+    }
+
+    /// Judges a caller that was greeted by what it has sent so far: executes its first command, if that is whole, and writes the answer. No
+    /// office is asked. What follows the command stays unread; [`go_on`] goes on with it where the caller is let in.
+    ///
+    /// # Errors
+    ///
+    /// [`RunFault::Write`]: the writer returned an error, or accepted no octet. It must not be called again after that.
+    ///
+    /// [`go_on`]: Conversation::go_on
+    pub fn judge<W: Write>(&mut self, writer: &mut Port<W>) -> Result<Admission, RunFault>
+        requires { Stands Phase.AwaitingSsid self.old.seen }
+        ensures judges { (book : BookData) (octets : List ℕ) (before : Port W) → IsGreeted W.contents book octets self.old before writer.old
+            → IfOk result (IsJudged W.contents book octets self.new before writer.new) }
+        ensures err { IfErr result (λ fault. fault ≡ RunFault.Write) }
+        ensures out { Puts W.contents writer.old writer.new }
+        ensures told { WriterTold writer.old writer.new result }
+    {
+        judge(&mut self.session, &mut self.stream, writer)
+    }
+
+    /// The code of the partner with whom the session is open, if it is.
+    pub fn code(&self) -> Option<&Name<25>>
+        ensures { option_map (λ name. name.now) result ≡ code_of self.now.seen.standing }
+    {
+        self.session.code()
     }
 
     /// Appends the next octets of the stream. They are read by the next [`go_on`].

@@ -5,19 +5,17 @@ ghost use Rattle.oftp_wire.specs.declared.frame_fault.FrameFault.{FrameFault};
 ghost use Rattle.oftp_wire.specs.Stream.{Reads};
 ghost use Rattle.oftp_engine.specs.declared.conversation.TheConstants.{LONGEST_FRAME};
 ghost use Rattle.oftp_engine.specs.Conversation.{Dialogue, HasHeard, HeardMore, IsFresh, Listens, ShowsSame};
-ghost use Rattle.oftp_engine.specs.Events.{DeedsAreOrders, StopsLeavePrefixes};
+ghost use Rattle.oftp_engine.specs.Openings.{HasOpened, IsAccepted, admission_of, of_caller};
+ghost use Rattle.oftp_engine.specs.Events.{DeedsAreOrders, SessionsAreDealings, StopsLeavePrefixes};
 ghost use Rattle.oftp_engine.specs.Frames.{over_commands};
-ghost use Rattle.oftp_engine.specs.Jobs.{IsRun, IsStopped, changes_of};
 ghost use Rattle.oftp_engine.specs.Parts.{JobsMakeTheFile, NoCountPasses, PartsMakeTheFile};
-ghost use Rattle.oftp_engine.specs.Promise.{TwoStations};
+ghost use Rattle.oftp_engine.specs.Promise.{CodesAreNeeded, TwoStations, TwoStationsAlone};
 ghost use Rattle.oftp_engine.specs.Queues.{QueuesAreHeard, RunsAreHeard, RunsSayCommands, RunsSayQueues};
 ghost use Rattle.oftp_engine.specs.Ranges.{RangesAreKept};
 ghost use Rattle.oftp_engine.specs.Resources.{PayloadsNeverLackMemory, RunsNeverLackResources};
 ghost use Rattle.oftp_engine.specs.Runs.{Course, run, started};
-ghost use Rattle.oftp_engine.specs.Served.{whole};
 ghost use Rattle.oftp_engine.specs.Serving.{scene};
-ghost use Rattle.oftp_engine.specs.declared.running.Job.{Job};
-ghost use Rattle.oftp_engine.specs.declared.serving.RunFault.{RunFault};
+ghost use Rattle.oftp_engine.specs.declared.serving.Admission.TheVariants.{LetIn};
 ghost use Rattle.oftp_partners.specs.Book.{BookData};
 ghost use Rattle.oftp_session.specs.Settings.{Setting};
 ghost use Rattle.oftp_register.specs.Register.{Register};
@@ -26,7 +24,7 @@ ghost use Rattle.oftp_register.specs.Soundness.{IsSound};
 
 use oftp_io::Port;
 use oftp_register::Office;
-use std::io::{Read, Write};
+use std::io::Write;
 
 /// A run over the octets of a stream is the fold over the commands in its frames, with the error after them. The function does nothing; its
 /// contract is the theorem.
@@ -92,27 +90,6 @@ pub fn jobs_make_the_file()
     ensures { JobsMakeTheFile }
 {}
 
-/// A list of jobs begins empty, and jobs that are done after a list are one list with it, whatever their results. While a session waits
-/// after such a list, the register is the one after all changes of the list and of the session so far. The function does nothing; its
-/// contract is the theorem.
-pub fn lists_grow<O: Office, R: Read, W: Write>()
-    ensures begins { (book : BookData) (first : O) → (O.view first).clean → (O.view first).stands
-        → IsRun R.remaining W.contents book (O.view first).register (O.view first).told (O.view first) [] [] }
-    ensures goes { (book : BookData) (first mid last : O) (olds news more done : List (Job R W))
-        → IsRun R.remaining W.contents book (O.view first).register (O.view first).told (O.view mid) olds news
-        → IsRun R.remaining W.contents book (O.view mid).register (O.view mid).told (O.view last) more done
-        → IsRun R.remaining W.contents book (O.view first).register (O.view first).told (O.view last) (olds ++ more) (news ++ done) }
-    ensures stops { (book : BookData) (first mid last : O) (olds news more done : List (Job R W)) (fault : RunFault)
-        → IsRun R.remaining W.contents book (O.view first).register (O.view first).told (O.view mid) olds news
-        → IsStopped R.remaining W.contents book (O.view mid).register (O.view mid).told (O.view last) more done fault
-        → IsStopped R.remaining W.contents book (O.view first).register (O.view first).told (O.view last) (olds ++ more) (news ++ done) fault }
-    ensures waits { (book : BookData) (first mid now : O) (olds news : List (Job R W)) (front here : Port W)
-        → (list : IsRun R.remaining W.contents book (O.view first).register (O.view first).told (O.view mid) olds news)
-        → (setting : Setting) (given : List ℕ) (talk : Dialogue) → Listens setting given talk (scene W.contents (O.view mid) front) (scene W.contents (O.view now) here)
-        → apply_all (O.view first).register (changes_of (O.view first).register list.entries ++ (whole setting given (O.view mid).register).changes)
-        ≡ Ok (O.view now).register }
-{}
-
 /// One session brings parts of a file, and may break anywhere. After each of its changes the register has nothing of the file, or a
 /// beginning, or the file as one transfer gives it. [`jobs_make_the_file`](crate::jobs_make_the_file) says the same of any sessions and
 /// calls. The function does nothing; its contract is the theorem.
@@ -125,12 +102,28 @@ pub fn no_count_passes()
     ensures { NoCountPasses }
 {}
 
-/// Two stations that share only the connection keep their promise after every list of events. An event is a session, a command that arrives
-/// or is lost, a break, a crash or an error of an office at any change, an operator's call, or a file or response that another caller
-/// commits. What one station holds as handed over is whole at the other. What is whole there is a file of the first. What the first holds
-/// as delivered or returned was answered so there. The function does nothing; its contract is the theorem.
+/// Two stations among any others keep their promise after every list of events. An event is a session, a command that arrives or is lost, a
+/// break, a crash or an error of an office at any change, an operator's call, a file or response that another caller commits, or dealings
+/// with third partners. The promise is of the files from one of them to the other, by the two codes: what one station holds as handed over is
+/// whole at the other; what is whole there is a file of the first; what the first holds as delivered or returned was answered so there. If
+/// the two are alone, it is of all files. The function does nothing; its contract is the theorem.
 pub fn two_stations()
-    ensures { TwoStations }
+    ensures among { TwoStations }
+    ensures alone { TwoStationsAlone }
+{}
+
+/// Among others the promise of two stations isn't kept of all files, whatever their books: after one event a file of a third partner is
+/// whole at the one, and the other has none with its identity. So [`two_stations`](crate::two_stations) needs the two codes. The function
+/// does nothing; its contract is the theorem.
+pub fn codes_are_needed()
+    ensures { CodesAreNeeded }
+{}
+
+/// What a session with a third partner leaves, in the words of [`serve`](crate::serve), is what an event of two stations leaves. The partner
+/// may send any octets, as long as the station accepts no SSID with the other station's code. The function does nothing; its contract is the
+/// theorem.
+pub fn sessions_are_dealings()
+    ensures { SessionsAreDealings }
 {}
 
 /// What an operator's call does at a station without a session, to any partner of its book, is an event of two stations. The event leaves
@@ -143,4 +136,15 @@ pub fn deeds_are_orders()
 /// two steps, or within one of which any number of octets is out. The function does nothing; its contract is the theorem.
 pub fn stops_leave_prefixes()
     ensures { StopsLeavePrefixes }
+{}
+
+/// A caller is let in exactly where the first whole command of what it has sent is an SSID that the book accepts. From there on each office
+/// that is open can go on: whatever its register, the conversation has heard all octets of the caller, and is where it would be had the office
+/// been there from the first octet on. The function does nothing; its contract is the theorem.
+pub fn callers_need_no_office<O: Office, W: Write>()
+    ensures only { (book : BookData) (octets : List ℕ) → admission_of book octets ≡ LetIn → IsAccepted book octets }
+    ensures each { (book : BookData) (octets : List ℕ) → IsAccepted book octets → admission_of book octets ≡ LetIn }
+    ensures any { (book : BookData) (octets : List ℕ) (talk : Dialogue) (before now : Port W) (office : O) → (O.view office).clean → (O.view office).stands
+        → HasOpened W.contents book octets talk before now → admission_of book octets ≡ LetIn
+        → HasHeard (of_caller book) octets talk (scene W.contents (O.view office) before) (scene W.contents (O.view office) now) }
 {}

@@ -12,13 +12,13 @@ mod submitting;
 pub use content::write_content;
 pub use conversation::Conversation;
 pub use laws::{
-    changes_are_made, conversations_hear_pieces, deeds_are_orders, folds_over_frames,
-    jobs_make_the_file, lists_grow, no_count_passes, parts_make_the_file, queues_are_heard,
+    callers_need_no_office, changes_are_made, conversations_hear_pieces, deeds_are_orders,
+    folds_over_frames, jobs_make_the_file, no_count_passes, parts_make_the_file, queues_are_heard,
     ranges_are_kept, runs_never_lack_resources, runs_say_queues, stops_leave_prefixes,
     two_stations,
 };
 pub use oftp_io::Port;
 pub use operating::{Operator, Refusal, Told, operate};
-pub use running::{CallJob, Job, SessionJob, do_next, run};
-pub use serving::{End, Role, RunFault, serve, serve_in_memory};
+pub use running::{CallJob, Job, SessionJob, run};
+pub use serving::{Admission, End, Role, RunFault, serve, serve_in_memory};
 pub use submitting::Submission;

@@ -1,6 +1,6 @@
 //! Lists of jobs, done one after another.
 
-ghost use Rattle.std.specs.Prelude.{◌≡◌, [], ◌∷◌, None};
+ghost use Rattle.std.specs.Prelude.{◌≡◌, None};
 ghost use Rattle.oftp_engine.specs.Jobs.{Runs};
 ghost use Rattle.oftp_engine.specs.InsideRunning.{DoesJob, IsGoneOn};
 
@@ -131,25 +131,6 @@ fn do_job<O: Office, R: Read, W: Write>(
         Job::Session(session) => serve_job(alloc, office, book, session),
         Job::Call(call) => operate_job::<O, R, W>(alloc, office, book, call),
     }
-}
-
-/// Does the next job of a list and stores its result in it, as [`run`] does for this job alone. The jobs before it and this one are
-/// together what [`run`] does of the list of all of them ([`lists_grow`](crate::lists_grow)).
-///
-/// # Errors
-///
-/// Those of [`run`], with what they leave.
-pub fn do_next<O: Office, R: Read, W: Write>(
-    alloc: Global,
-    office: &mut O,
-    book: &Book,
-    job: &mut Job<'_, R, W>,
-) -> Result<(), RunFault>
-    ensures runs { (O.view office.new).clean → (O.view office.old).stands → Runs R.remaining W.contents book.now
-        (O.view office.old) (O.view office.new) (job.old ∷ []) (job.new ∷ []) result }
-    ensures clean { (O.view office.new).clean → (O.view office.old).clean }
-{
-    do_job(alloc, office, book, job)
 }
 
 /// Does the jobs of a list in order, and stores the result of each in it: that of [`serve`] or of [`operate`]. An error of a job's reader

@@ -1,9 +1,12 @@
 //! A session over any reader and any writer.
 
-ghost use Rattle.std.specs.Prelude.{◌≡◌, ◌≢◌, ◌<◌, ◌+◌, ℕ, true, false, List, None, OnOk, IfErr, is_ok};
+ghost use Rattle.std.specs.Prelude.{◌≡◌, ◌≢◌, ◌<◌, ◌+◌, ℕ, true, false, List, None, OnOk, IfErr, IfOk, is_ok};
 ghost use Rattle.oftp_wire.specs.Kinds.{command_of};
 ghost use Rattle.oftp_register.specs.Plain.{view_of};
-ghost use Rattle.oftp_session.specs.Phases.{is_over, Phase, frame_of, esid_of};
+ghost use Rattle.oftp_partners.specs.Book.{BookData};
+ghost use Rattle.oftp_session.specs.Callers.{greeting};
+ghost use Rattle.oftp_session.specs.Opening.{came_awaiting_ssid};
+ghost use Rattle.oftp_session.specs.Phases.{is_over, Phase, ending_of, frame_of, esid_of};
 ghost use Rattle.oftp_session.specs.Steps.{came, has_turn, opening, turned};
 ghost use Rattle.oftp_session.specs.Calls.{IsFailure, Stands, said};
 ghost use Rattle.oftp_session.specs.Standings.{Broken, is_closed, is_due, is_sending, turns_left};
@@ -14,6 +17,7 @@ ghost use Rattle.oftp_engine.specs.Served.{Gave, InputEnded, ReaderTold, Serves,
 ghost use Rattle.oftp_engine.specs.Serving.{scene};
 ghost use Rattle.oftp_engine.specs.Progress.{IsAt};
 ghost use Rattle.oftp_engine.specs.Conversation.{IsOwn};
+ghost use Rattle.oftp_engine.specs.Openings.{Answered, IsGreeted, IsJudged, admission_by, answer_to};
 ghost use Rattle.oftp_engine.specs.InsideServing.{BrokeOff, LastWords, Pumped, Stepped, TurnsTaken, run_fault};
 
 use crate::conversation::Conversation;
@@ -57,6 +61,17 @@ pub enum Role<'b> {
     Responder,
     /// The station calls this partner.
     Initiator(&'b Partner),
+}
+
+/// What the octets of a caller amount to.
+#[derive(Clone, Copy, Debug, Drop, PartialEq, Eq)]
+pub enum Admission {
+    /// They have no whole command yet.
+    Undecided,
+    /// The session ended like this, so the caller is sent away.
+    SentAway(Ending),
+    /// They begin with an SSID that the book accepts, so the caller is let in.
+    LetIn,
 }
 
 /// Why a session or a call was cut short.
@@ -290,6 +305,98 @@ pub(crate) fn pump<O: Office, W: Write>(
                 end_with(session, writer, SessionReason::ProtocolViolation)?;
                 return Ok(Some(Ending::Own(SessionReason::ProtocolViolation)));
             }
+        }
+    }
+}
+
+// Greets a caller, and writes the greeting. No office is asked.
+#[tactic(auto, using(crate::proofs::Openings::sent_alone, oftp_io::proofs::Puts::puts_none, oftp_io::proofs::Puts::puts_on, oftp_io::proofs::Puts::puts_sent))]
+pub(crate) fn greet<W: Write>(
+    session: &mut Session<'_>,
+    writer: &mut Port<W>,
+) -> Result<(), RunFault>
+    requires { Stands Phase.ResponderOpening session.old }
+    ensures answers { OnOk result (Answered W.contents greeting session.old session.new writer.old writer.new) }
+    ensures err { IfErr result (λ fault. fault ≡ RunFault.Write) }
+    ensures out { Puts W.contents writer.old writer.new }
+    ensures told { WriterTold writer.old writer.new result }
+{
+    let out = session.greet();
+    write_out(writer, out)
+}
+
+// Judges a caller by its first command, and writes the answer. No office is asked.
+#[tactic(auto, using(oftp_io::proofs::Puts::puts_none, oftp_io::proofs::Puts::puts_on, oftp_io::proofs::Puts::puts_sent))]
+fn judge_by<W: Write>(
+    session: &mut Session<'_>,
+    writer: &mut Port<W>,
+    command: &Command<'_>,
+) -> Result<(), RunFault>
+    requires { Stands Phase.AwaitingSsid session.old }
+    ensures answers { OnOk result (Answered W.contents (came_awaiting_ssid session.old.setting command.now) session.old session.new writer.old writer.new) }
+    ensures err { IfErr result (λ fault. fault ≡ RunFault.Write) }
+    ensures out { Puts W.contents writer.old writer.new }
+    ensures told { WriterTold writer.old writer.new result }
+{
+    let out = session.judge(command);
+    write_out(writer, out)
+}
+
+// Judges a caller by the octets of its first command, and writes the answer.
+#[tactic(auto, using(oftp_io::proofs::Puts::puts_none, oftp_io::proofs::Puts::puts_on, oftp_io::proofs::Puts::puts_sent))]
+fn judge_octets<W: Write>(
+    session: &mut Session<'_>,
+    writer: &mut Port<W>,
+    octets: &[u8],
+) -> Result<(), RunFault>
+    requires { Stands Phase.AwaitingSsid session.old }
+    ensures answers { OnOk result (Answered W.contents (answer_to session.old.setting (command_of octets.now)) session.old session.new writer.old writer.new) }
+    ensures err { IfErr result (λ fault. fault ≡ RunFault.Write) }
+    ensures out { Puts W.contents writer.old writer.new }
+    ensures told { WriterTold writer.old writer.new result }
+{
+    match parse(octets) {
+        Ok(command) => judge_by(session, writer, &command),
+        Err(fault) => match fault.reason() {
+            Some(reason) => end_with(session, writer, reason),
+            None => unreachable!(),
+        },
+    }
+}
+
+// What the answer to its first command means for a caller.
+fn admission_by(session: &Session<'_>) -> Admission
+    ensures { (p : Phase) → Stands p session.now → result ≡ admission_by (ending_of p) }
+{
+    match session.ended() {
+        Some(ending) => Admission::SentAway(ending),
+        None => Admission::LetIn,
+    }
+}
+
+// Judges a caller by the first command of its stream, if that is whole, and writes the answer. No office is asked.
+pub(crate) fn judge<W: Write>(
+    session: &mut Session<'_>,
+    stream: &mut Deframer,
+    writer: &mut Port<W>,
+) -> Result<Admission, RunFault>
+    requires { Stands Phase.AwaitingSsid session.old }
+    ensures judges { (book : BookData) (octets : List ℕ) (before : Port W)
+        → IsGreeted W.contents book octets (record { seen = session.old; stream = stream.old }) before writer.old
+        → IfOk result (IsJudged W.contents book octets (record { seen = session.new; stream = stream.new }) before writer.new) }
+    ensures err { IfErr result (λ fault. fault ≡ RunFault.Write) }
+    ensures out { Puts W.contents writer.old writer.new }
+    ensures told { WriterTold writer.old writer.new result }
+{
+    match stream.next() {
+        Ok(Some(octets)) => {
+            judge_octets(session, writer, octets)?;
+            Ok(admission_by(session))
+        }
+        Ok(None) => Ok(Admission::Undecided),
+        Err(_) => {
+            end_with(session, writer, SessionReason::ProtocolViolation)?;
+            Ok(Admission::SentAway(Ending::Own(SessionReason::ProtocolViolation)))
         }
     }
 }

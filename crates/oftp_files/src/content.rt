@@ -17,21 +17,37 @@ const DIGITS: u32 = 5;
 /// How many octets are read at once after the part that is kept in memory.
 const PIECE: usize = 4_096;
 
-/// Reads the content of a file. If it is longer than any file within the limits, only a beginning is kept, which shows that. The beginning
-/// is valid in its format if the whole file is: in format F it leaves the same remainder of a record, and in format V it ends where a
-/// record ends. A device is judged by this beginning alone.
+/// Reads the content of the file that a command line names, as [`content_of`] does.
 ///
 /// # Errors
 /// [`Fault::File`] if the file can't be read, or is a folder; [`Fault::MEMORY`].
 pub fn read_content(rt: &HostRuntime, submit: &Submit<'_>) -> Result<Vec<u8>, Fault> {
     let file = open_input(rt, submit.file)?;
+    content_of(rt, submit, &file)
+}
+
+/// Reads the content of a file. If it is longer than any file within the limits, only a beginning is kept, which shows that. The beginning
+/// is valid in its format if the whole file is: in format F it leaves the same remainder of a record, and in format V it ends where a
+/// record ends. A device is judged by this beginning alone.
+///
+/// # Errors
+/// [`Fault::File`] if the file can't be read; [`Fault::MEMORY`].
+pub fn content_of(rt: &HostRuntime, submit: &Submit<'_>, file: &File) -> Result<Vec<u8>, Fault> {
     let about = file.metadata().map_err(|error| file_fault(&error))?;
-    let octets = read_up_to(rt, &file, most_of(submit, &about))?;
+    let octets = read_up_to(rt, file, most_of(submit, &about))?;
     if submit.format == Format::Variable && octets.len() as u64 > MOST_CONTENT {
-        cut_records(submit.longest, octets, &file, &about)
+        cut_records(submit.longest, octets, file, &about)
     } else {
         Ok(octets)
     }
+}
+
+/// Reads a file to compare it with one of a register. Of one that is longer than any there, only a beginning is read, which is too long, too.
+///
+/// # Errors
+/// [`Fault::File`] if the file can't be read; [`Fault::MEMORY`].
+pub fn read_to_compare(rt: &HostRuntime, file: &File) -> Result<Vec<u8>, Fault> {
+    read_up_to(rt, file, MOST_CONTENT + 1)
 }
 
 /// How many octets of the content are read into memory, at most.

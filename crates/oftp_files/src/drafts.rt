@@ -24,9 +24,8 @@ pub struct Draft {
     pub path: PathBuf,
 }
 
-/// Creates an empty draft beside a path, which only its owner may read. Drafts there that killed processes left are removed.
+/// Creates an empty draft beside a path, which only its owner may read.
 pub(super) fn new_draft(rt: &HostRuntime, beside: Path<'_>) -> Result<Draft, Fault> {
-    sweep(rt, folder_of(beside));
     for _ in 0..MOST_TRIES {
         let path = draft_path(rt, beside)?;
         let file = make_private(rt, path.as_str()).map_err(|error| file_fault(&error))?;
@@ -74,20 +73,20 @@ fn drawn(rt: &HostRuntime) -> io::Result<u64> {
 }
 
 /// Locks a file. Returns whether no other process has it locked. If files can't be locked, no process has.
-fn is_free(file: &File) -> bool {
+pub fn is_free(file: &File) -> bool {
     !matches!(file.try_lock(), Err(TryLockError::WouldBlock))
 }
 
 /// Whether a path names this file itself, without following links.
-fn bears(rt: &HostRuntime, file: &File, path: &str) -> bool {
+pub fn bears(rt: &HostRuntime, file: &File, path: &str) -> bool {
     match (file.metadata(), fs::symlink_metadata(rt, path)) {
         (Ok(about), Ok(named)) => are_of_one_file(&about, &named),
         _ => false,
     }
 }
 
-/// Removes the drafts in a folder that no process writes. Those that can't be found or removed stay.
-fn sweep(rt: &HostRuntime, folder: &str) {
+/// Removes the drafts in a folder that killed processes left, and no process writes. Those that can't be found or removed stay.
+pub fn sweep(rt: &HostRuntime, folder: &str) {
     let Ok(entries) = fs::read_dir(rt, folder) else {
         return;
     };

@@ -2,7 +2,7 @@
 
 use crate::drafts::folder_of;
 use oftp_outcomes::Fault;
-use std::fs::{self, Metadata, OpenFile};
+use std::fs::{self, File, Metadata, OpenFile, OpenOptions};
 use std::io::{self, ErrorKind};
 use std::os::unix::fs::MetadataExt;
 use std::path::Path;
@@ -31,6 +31,51 @@ pub fn open_input<R: Files>(rt: &R, path: &str) -> Result<R::File, Fault> {
         return Err(Fault::File);
     }
     Ok(file)
+}
+
+/// Opens a regular file for reading. No link is followed: what is open is compared with what was looked at before. Returns `None` if something
+/// else is at the path.
+///
+/// # Errors
+/// [`Fault::File`] if nothing is there, or it can't be opened; [`Fault::MEMORY`].
+pub fn open_regular(rt: &HostRuntime, path: &str) -> Result<Option<File>, Fault> {
+    let named = fs::symlink_metadata(rt, path).map_err(|error| file_fault(&error))?;
+    if !named.is_file() {
+        return Ok(None);
+    }
+    let file = open_at_once(rt, path).map_err(|error| file_fault(&error))?;
+    let about = file.metadata().map_err(|error| file_fault(&error))?;
+    // A pipe may have got the number of a file that is gone.
+    Ok(if about.is_file() && are_of_one_file(&about, &named) {
+        Some(file)
+    } else {
+        None
+    })
+}
+
+/// Opens a file that was looked at for reading, and for writing too where that is allowed: opened so, a pipe that somebody has put there since
+/// the look doesn't wait for its other end. Links are followed, so the caller compares what is open with what was looked at.
+///
+/// # Errors
+/// The file can't be opened.
+pub fn open_at_once(rt: &HostRuntime, path: &str) -> io::Result<File> {
+    match OpenOptions::new().read(true).write(true).open(rt, path) {
+        Err(error) if is_not_written(&error) => fs::open(rt, path),
+        opened => opened,
+    }
+}
+
+/// Whether an error says that a file may not be written.
+fn is_not_written(error: &io::Error) -> bool {
+    matches!(
+        error.kind(),
+        ErrorKind::PermissionDenied | ErrorKind::ReadOnlyFilesystem | ErrorKind::ExecutableFileBusy
+    )
+}
+
+/// Whether a file belongs to the user as whom the program runs.
+pub fn is_ours(about: &Metadata) -> bool {
+    about.uid() == libc::geteuid()
 }
 
 /// Whether two files are the same, whatever their names are.

@@ -3,6 +3,7 @@
 
 mod access;
 mod book;
+mod comparing;
 mod content;
 mod drafts;
 mod files;
@@ -15,11 +16,15 @@ mod transcript;
 
 pub use access::{Access, make_private};
 pub use book::{book_of, read_book, read_book_octets};
-pub use content::read_content;
-pub use drafts::{Draft, log_of, remove_log};
-pub use files::{are_of_one_file, file_fault, is_at, is_of_database, open_input};
+pub use comparing::Comparison;
+pub use content::{content_of, read_content, read_to_compare};
+pub use drafts::{Draft, bears, is_free, log_of, remove_log, sweep};
+pub use files::{
+    are_of_one_file, file_fault, is_at, is_of_database, is_ours, open_at_once, open_input,
+    open_regular,
+};
 pub use limits::LIMITS;
-pub use replacing::{Name, Place, draft_of, place_of, settle};
+pub use replacing::{Name, Place, discard, draft_in_swept, draft_of, free_name, place_of, settle};
 pub use showing::show;
 pub use traces::open_trace;
 pub use tracing::{Trace, Traced};

@@ -1,7 +1,7 @@
 //! Files that are replaced atomically: until the new file is whole, its path has the old one.
 
 use crate::access::Access;
-use crate::drafts::{Draft, folder_of, new_draft, usual_mode};
+use crate::drafts::{Draft, folder_of, new_draft, sweep, usual_mode};
 use crate::files::{file_fault, is_beside_database, is_of_database};
 use oftp_outcomes::Fault;
 use std::fs::{self, File, OpenOptions};
@@ -50,9 +50,16 @@ pub fn place_of(rt: &HostRuntime, path: &str, database: &str) -> Result<Place, F
     }
 }
 
-/// The place of a path that doesn't exist. It is refused if it is a dangling link, or the name of a file that may appear beside the
-/// database.
+/// The place of a path that doesn't exist.
 fn new_place(rt: &HostRuntime, path: &str, database: &str) -> Result<Place, Fault> {
+    Ok(Place::Name(free_name(rt, path, database)?))
+}
+
+/// Examines a path at which nothing is, for a new file. It may not be the name of a file that may appear beside the database.
+///
+/// # Errors
+/// [`Fault::File`] if something is there, be it a link that leads nowhere, or nothing may be created there; [`Fault::MEMORY`].
+pub fn free_name(rt: &HostRuntime, path: &str, database: &str) -> Result<Name, Fault> {
     match fs::symlink_metadata(rt, path) {
         Ok(_) => return Err(Fault::File),
         Err(error) if error.kind() == ErrorKind::NotFound => {}
@@ -63,7 +70,7 @@ fn new_place(rt: &HostRuntime, path: &str, database: &str) -> Result<Place, Faul
         return Err(Fault::File);
     }
     let access = Access::of_mode(usual_mode(rt, path.as_path())?);
-    Ok(Place::Name(Name { path, access }))
+    Ok(Name { path, access })
 }
 
 /// The place of an existing file. If the path leads over links, its target is replaced and the links stay.
@@ -80,12 +87,26 @@ fn place_of_file(rt: &HostRuntime, file: File, path: &str, database: &str) -> Re
     Ok(Place::Name(Name { path, access }))
 }
 
-/// Creates an empty draft beside a path. Only its owner may read it until it is settled.
+/// Creates an empty draft beside a path. Only its owner may read it until it is settled. Drafts there that killed processes left are removed.
 ///
 /// # Errors
 /// [`Fault::File`] if none can be created; [`Fault::MEMORY`].
 pub fn draft_of(rt: &HostRuntime, name: &Name) -> Result<Draft, Fault> {
+    sweep(rt, folder_of(name.path.as_path()));
     new_draft(rt, name.path.as_path())
+}
+
+/// Creates an empty draft beside a path as [`draft_of`] does, in a folder that was swept already.
+///
+/// # Errors
+/// Those of [`draft_of`].
+pub fn draft_in_swept(rt: &HostRuntime, name: &Name) -> Result<Draft, Fault> {
+    new_draft(rt, name.path.as_path())
+}
+
+/// Removes a draft that isn't needed.
+pub fn discard(rt: &HostRuntime, draft: &Draft) {
+    let _ = fs::remove_file(rt, draft.path.as_str());
 }
 
 /// Gives a written draft its name, and syncs the file and its folder. A draft whose writing failed is removed.
@@ -106,7 +127,7 @@ pub fn settle(
     match named {
         Ok(()) => keep_name(rt, name),
         Err(fault) => {
-            let _ = fs::remove_file(rt, draft.path.as_str());
+            discard(rt, &draft);
             Err(fault)
         }
     }

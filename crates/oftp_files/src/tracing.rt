@@ -149,8 +149,9 @@ impl<'a, S> Traced<'a, S> {
         Traced { stream, way }
     }
 
-    /// Adds a piece to the trace. After a failure this direction isn't traced any more, since the start of its next command isn't known.
-    fn tell(&mut self, piece: &[u8]) {
+    /// Adds a piece to the trace, which was read or written already. After a failure this direction isn't traced any more, since the start of
+    /// its next command isn't known.
+    pub fn tell(&mut self, piece: &[u8]) {
         let is_told = match &mut self.way {
             Some(way) => way.tell(piece).is_some(),
             None => true,

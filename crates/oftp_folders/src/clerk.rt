@@ -3,6 +3,7 @@
 use oftp_command_line::Submit;
 use oftp_listing::ReportKind;
 use oftp_outcomes::Fault;
+use std::io::Write;
 
 /// The result of an operation, with its printed line, without the line's end.
 #[derive(Drop)]
@@ -21,11 +22,17 @@ pub trait Clerk {
     /// [`Fault::Run`] if the office failed or the station is gone; [`Fault::MEMORY`].
     fn report(&mut self, kind: ReportKind) -> Result<String, Fault>;
 
-    /// Writes the incoming file with a number to a path that doesn't exist.
+    /// Writes the content of the incoming file with a number.
     ///
     /// # Errors
-    /// Those of [`Clerk::report`], and [`Fault::File`] if the file can't be created. At the path is nothing then, or the whole file.
-    fn fetch(&mut self, no: u64, path: &str) -> Result<Completion, Fault>;
+    /// Those of [`Clerk::report`], and [`Fault::File`] if `out` returned an error. A beginning is written then.
+    fn fetch(&mut self, no: u64, out: &mut impl Write) -> Result<Completion, Fault>;
+
+    /// Whether the register has an outgoing file with this number, and this is its content.
+    ///
+    /// # Errors
+    /// Those of [`Clerk::report`].
+    fn holds(&mut self, no: u64, content: &[u8]) -> Result<bool, Fault>;
 
     /// Issues the End-to-End Response of the incoming file with a number.
     ///

@@ -1,17 +1,19 @@
 //! The folders that commands work on, and the names of the files in them.
 
-use oftp_files::file_fault;
+use crate::locking::FolderLock;
+use oftp_files::{are_of_one_file, file_fault, is_ours};
 use oftp_outcomes::Fault;
 use std::alloc::{AllocError, Global};
-use std::fs::{self, File, TryLockError};
+use std::fs::{self, File, Permissions};
 use std::io::{self, ErrorKind};
-use std::time::{Clock, Duration};
+use std::os::fd::AsRawFd;
+use std::os::unix::fs::{MetadataExt, PermissionsExt};
 
-/// How often a locked folder is tried again, which is for ten seconds.
-const TRIES: u32 = 200;
+/// The permission bits of a mode.
+const MODE: u32 = 0o7777;
 
-/// The pause before that, in milliseconds.
-const PAUSE: u64 = 50;
+/// Those by which others than the owner may write in a folder.
+const OTHERS_WRITE: u32 = 0o022;
 
 /// The separator between the parts of a name. No part contains it.
 const BETWEEN: char = '_';
@@ -19,66 +21,117 @@ const BETWEEN: char = '_';
 /// The replacement for a character that isn't allowed in a file's name. No part contains it.
 const INSTEAD: char = '+';
 
-/// A folder that is locked against other commands.
+/// An open folder. The names in it are reached through its descriptor, so that it stays this one, whatever its own name leads to meanwhile.
 #[derive(Drop)]
-pub struct Folder {
+pub(super) struct Room {
     file: File,
     path: String,
 }
 
-impl Folder {
-    /// Locks the folder at a path. If another command has it locked, waits up to ten seconds.
-    ///
-    /// # Errors
-    /// [`Fault::File`] if there is no such folder, it can't be opened, or it stays locked; [`Fault::MEMORY`].
-    pub fn held(rt: &HostRuntime, path: &str) -> Result<Folder, Fault> {
-        let about = fs::metadata(rt, path).map_err(|error| file_fault(&error))?;
-        if !about.is_dir() {
-            return Err(Fault::File);
+impl Room {
+    /// Opens the folder at a path. A link is followed.
+    fn opened(rt: &HostRuntime, path: &str) -> io::Result<Room> {
+        // Nothing but a folder can be opened with this ending, so no pipe is waited for.
+        let below = format!(in rt.alloc(); "{path}/.")?;
+        let file = fs::open(rt, below.as_str())?;
+        let fd = file.as_raw_fd();
+        let path = format!(in rt.alloc(); "/proc/self/fd/{fd}")?;
+        if are_of_one_file(&file.metadata()?, &fs::metadata(rt, path.as_str())?) {
+            Ok(Room { file, path })
+        } else {
+            Err(io::Error::from(ErrorKind::NotFound))
         }
-        let file = fs::open(rt, path).map_err(|error| file_fault(&error))?;
-        hold(rt, &file)?;
-        let path = String::from_str(rt.alloc(), path).map_err(|_| Fault::MEMORY)?;
-        Ok(Folder { file, path })
     }
 
-    /// Its path.
+    /// Opens the folder with a name in this one, which has to belong to the user as whom the program runs, and to be no link. Returns `None` if
+    /// there is none.
+    pub(super) fn inner(&self, rt: &HostRuntime, name: &str) -> Result<Option<Room>, Fault> {
+        let path = path_in(rt, self.path(), name)?;
+        let named = match fs::symlink_metadata(rt, path.as_str()) {
+            Ok(named) => named,
+            Err(error) if error.kind() == ErrorKind::NotFound => return Ok(None),
+            Err(error) => return Err(file_fault(&error)),
+        };
+        let room = Room::opened(rt, path.as_str()).map_err(|error| file_fault(&error))?;
+        let about = room.file.metadata().map_err(|error| file_fault(&error))?;
+        if named.is_dir() && is_ours(&about) && are_of_one_file(&about, &named) {
+            Ok(Some(room))
+        } else {
+            Err(Fault::File)
+        }
+    }
+
+    /// Opens the folder with a name in this one as [`Room::inner`] does, once it is made, if there is none.
+    pub(super) fn made(&self, rt: &HostRuntime, name: &str) -> Result<Room, Fault> {
+        let path = path_in(rt, self.path(), name)?;
+        match fs::create_dir(rt, path.as_str()) {
+            Ok(()) => {}
+            Err(error) if error.kind() == ErrorKind::AlreadyExists => {}
+            Err(error) => return Err(file_fault(&error)),
+        }
+        match self.inner(rt, name)? {
+            Some(room) => Ok(room),
+            None => Err(Fault::File),
+        }
+    }
+
+    /// Lets nobody but its owner write in it.
+    pub(super) fn close_to_others(&self) -> Result<(), Fault> {
+        let about = self.file.metadata().map_err(|error| file_fault(&error))?;
+        let mode = about.mode() & MODE;
+        if mode & OTHERS_WRITE == 0 {
+            return Ok(());
+        }
+        let closed = Permissions::from_mode(mode & !OTHERS_WRITE);
+        self.file
+            .set_permissions(closed)
+            .map_err(|error| file_fault(&error))
+    }
+
+    /// A path that leads to it as long as it is open.
     pub(super) fn path(&self) -> &str {
         self.path.as_str()
     }
 
     /// Syncs the folder, so that the names in it are durable. File systems that don't sync folders are accepted.
     pub(super) fn keep(&self) -> Result<(), Fault> {
-        synced(self.file.sync_all())
-    }
-}
-
-/// Syncs a folder by its path, as [`Folder::keep`] does.
-pub(super) fn keep_names(rt: &HostRuntime, folder: &str) -> Result<(), Fault> {
-    let file = fs::open(rt, folder).map_err(|error| file_fault(&error))?;
-    synced(file.sync_all())
-}
-
-/// The result of a sync of a folder.
-fn synced(outcome: io::Result<()>) -> Result<(), Fault> {
-    match outcome {
-        Ok(()) => Ok(()),
-        Err(error) => match error.kind() {
-            ErrorKind::InvalidInput | ErrorKind::Unsupported => Ok(()),
-            _ => Err(file_fault(&error)),
-        },
-    }
-}
-
-/// Locks a folder. If folders can't be locked, no command is kept out.
-fn hold(rt: &HostRuntime, folder: &File) -> Result<(), Fault> {
-    for _ in 0..TRIES {
-        match folder.try_lock() {
-            Err(TryLockError::WouldBlock) => rt.sleep(Duration::from_millis(PAUSE)),
-            _ => return Ok(()),
+        match self.file.sync_all() {
+            Ok(()) => Ok(()),
+            Err(error) => match error.kind() {
+                ErrorKind::InvalidInput | ErrorKind::Unsupported => Ok(()),
+                _ => Err(file_fault(&error)),
+            },
         }
     }
-    Err(Fault::File)
+}
+
+/// A folder that is locked against other commands.
+#[derive(Drop)]
+pub struct Folder {
+    pub(super) room: Room,
+    lock: FolderLock,
+}
+
+impl Folder {
+    /// Locks the folder at a path. If another command has it locked, waits up to ten seconds.
+    ///
+    /// # Errors
+    /// [`Fault::File`] if there is no such folder, it can't be opened, its lock can't be created, is a link, another user's or open to others,
+    /// or it stays locked; [`Fault::MEMORY`].
+    pub fn held(rt: &HostRuntime, path: &str) -> Result<Folder, Fault> {
+        if path.is_empty() {
+            return Err(Fault::File);
+        }
+        let room = Room::opened(rt, path).map_err(|error| file_fault(&error))?;
+        let lock = FolderLock::held(rt, room.path())?;
+        Ok(Folder { room, lock })
+    }
+
+    /// Gives up the lock.
+    pub fn give_up(self, rt: &HostRuntime) {
+        let Folder { room: _room, lock } = self;
+        lock.give_up(rt);
+    }
 }
 
 /// The path of a name in a folder.
@@ -86,27 +139,22 @@ pub(super) fn path_in(rt: &HostRuntime, folder: &str, name: &str) -> Result<Stri
     format!(in rt.alloc(); "{folder}/{name}").map_err(|_| Fault::MEMORY)
 }
 
-/// Whether a regular file is at a path. Anything else there is an error.
-pub(super) fn has_file(rt: &HostRuntime, path: &str) -> Result<bool, Fault> {
+/// Whether something is at a path, be it a link that leads nowhere.
+pub(super) fn has_something(rt: &HostRuntime, path: &str) -> Result<bool, Fault> {
     match fs::symlink_metadata(rt, path) {
-        Ok(about) if about.is_file() => Ok(true),
-        Ok(_) => Err(Fault::File),
+        Ok(_) => Ok(true),
         Err(error) if error.kind() == ErrorKind::NotFound => Ok(false),
         Err(error) => Err(file_fault(&error)),
     }
 }
 
-/// The names of the regular files in a folder, sorted. A folder that doesn't exist has none. Names that aren't text are left out.
-pub(super) fn files_in(rt: &HostRuntime, folder: &str) -> Result<Vec<String>, Fault> {
+/// The names in a folder, sorted. Those that aren't text are left out.
+pub(super) fn names_in(rt: &HostRuntime, folder: &Room) -> Result<Vec<String>, Fault> {
     let mut names = Vec::new(rt.alloc());
-    let entries = match fs::read_dir(rt, folder) {
-        Ok(entries) => entries,
-        Err(error) if error.kind() == ErrorKind::NotFound => return Ok(names),
-        Err(error) => return Err(file_fault(&error)),
-    };
+    let entries = fs::read_dir(rt, folder.path()).map_err(|error| file_fault(&error))?;
     for entry in entries {
         match entry {
-            Ok(entry) => add_file(rt, &mut names, entry.path().as_str(), entry.file_name())?,
+            Ok(entry) => add_name(rt, &mut names, entry.file_name())?,
             Err(error) if error.kind() == ErrorKind::InvalidFilename => {}
             Err(error) => return Err(file_fault(&error)),
         }
@@ -115,19 +163,8 @@ pub(super) fn files_in(rt: &HostRuntime, folder: &str) -> Result<Vec<String>, Fa
     Ok(names)
 }
 
-/// Adds the name of a regular file. A file that is gone meanwhile isn't added.
-fn add_file(
-    rt: &HostRuntime,
-    names: &mut Vec<String>,
-    path: &str,
-    name: &str,
-) -> Result<(), Fault> {
-    match fs::symlink_metadata(rt, path) {
-        Ok(about) if about.is_file() => {}
-        Ok(_) => return Ok(()),
-        Err(error) if error.kind() == ErrorKind::NotFound => return Ok(()),
-        Err(error) => return Err(file_fault(&error)),
-    }
+/// Adds a name.
+fn add_name(rt: &HostRuntime, names: &mut Vec<String>, name: &str) -> Result<(), Fault> {
     let name = String::from_str(rt.alloc(), name).map_err(|_| Fault::MEMORY)?;
     names.push(name).map_err(|_| Fault::MEMORY)
 }
@@ -175,6 +212,11 @@ pub(super) fn stamps_in<'a>(claim: &'a str) -> Option<Stamps<'a>> {
 /// A name with the file's number in the register in front.
 pub(super) fn numbered(alloc: Global, no: u64, name: &str) -> Result<String, Fault> {
     format!(in alloc; "{no:07}{}{name}", BETWEEN).map_err(|_| Fault::MEMORY)
+}
+
+/// A name with a number behind it, for a file whose name another one has already.
+pub(super) fn followed(alloc: Global, name: &str, number: u32) -> Result<String, Fault> {
+    format!(in alloc; "{name}{}{number}", BETWEEN).map_err(|_| Fault::MEMORY)
 }
 
 /// Joins the parts of a name.

@@ -2,17 +2,20 @@
 
 use crate::clerk::{Clerk, Completion};
 use crate::entries::ListedFile;
-use crate::folders::{Stamps, claim_name, has_file, name_of, numbered, path_in, stamps_in};
+use crate::folders::{
+    Room, Stamps, claim_name, followed, has_something, name_of, numbered, path_in, stamps_in,
+};
+use crate::judging::{Concern, Content, Held, Step, TakenBy, concern_of, step_of};
 use crate::stamps::Moment;
 use oftp_command_line::{Offer, Submit};
 use oftp_engine::RunFault;
-use oftp_files::{file_fault, read_content};
+use oftp_files::{content_of, file_fault, open_regular};
 use oftp_listing::ReportKind;
 use oftp_outcomes::{Carried, Fault, write_line};
 use std::alloc::Global;
 use std::collections::BTreeMap;
-use std::fs;
-use std::io::{ErrorKind, Write};
+use std::fs::{self, File};
+use std::io::{self, ErrorKind, Write};
 
 /// The subfolder of the files that are taken.
 pub(super) const TAKEN: &str = "taken";
@@ -29,48 +32,36 @@ const LINE: &str = ".line";
 /// The line for a file if the register has one with the same dataset name, date and time.
 const DUPLICATE: &str = "refused: 1 duplicate";
 
-/// The line for a file that can't be read.
+/// How many times are tried for a file, each a tick after the last: more than a register has files.
+const MOST_MOMENTS: u32 = 1_000_001;
+
+/// How many names are tried for a file that is put away: one for each database that has had a file of its number, name, date and time.
+const MOST_NAMES: u32 = 10_000;
+
+/// The line for a file that can't be moved or read.
 const UNREAD: &str = "fault: 7 file";
 
 /// The error for a reply that no station gives.
 const GONE: Fault = Fault::Run(RunFault::Office);
 
-/// The paths of the subfolders.
+/// The subfolders.
 #[derive(Drop)]
 pub(super) struct Rooms {
-    pub(super) taken: String,
-    sent: String,
-    refused: String,
+    pub(super) taken: Room,
+    sent: Room,
+    refused: Room,
 }
 
 impl Rooms {
-    /// The subfolders of a folder. Those that don't exist are created.
-    pub(super) fn made(rt: &HostRuntime, folder: &str) -> Result<Rooms, Fault> {
+    /// The subfolders of a folder. Those that don't exist are created. Nobody else may write in that of the files that are taken.
+    pub(super) fn made(rt: &HostRuntime, folder: &Room) -> Result<Rooms, Fault> {
+        let taken = folder.made(rt, TAKEN)?;
+        taken.close_to_others()?;
         Ok(Rooms {
-            taken: made(rt, folder, TAKEN)?,
-            sent: made(rt, folder, SENT)?,
-            refused: made(rt, folder, REFUSED)?,
+            taken,
+            sent: folder.made(rt, SENT)?,
+            refused: folder.made(rt, REFUSED)?,
         })
-    }
-}
-
-/// Creates a subfolder, unless it exists.
-fn made(rt: &HostRuntime, folder: &str, name: &str) -> Result<String, Fault> {
-    let path = path_in(rt, folder, name)?;
-    match fs::create_dir(rt, path.as_str()) {
-        Ok(()) => Ok(path),
-        Err(error) if error.kind() == ErrorKind::AlreadyExists => found(rt, path),
-        Err(error) => Err(file_fault(&error)),
-    }
-}
-
-/// Checks that a path is a folder.
-fn found(rt: &HostRuntime, path: String) -> Result<String, Fault> {
-    let about = fs::metadata(rt, path.as_str()).map_err(|error| file_fault(&error))?;
-    if about.is_dir() {
-        Ok(path)
-    } else {
-        Err(Fault::File)
     }
 }
 
@@ -81,6 +72,17 @@ enum Handed {
     Under(u64),
     /// It was refused, with this line.
     Refused(String),
+}
+
+/// The result of one try to submit a file.
+#[derive(Drop)]
+enum Tried {
+    /// The register has the file under this number now.
+    Under(u64),
+    /// It was refused, with this line.
+    Refused(String),
+    /// The register has another file with its name, date and time, or it has this one by a request of an earlier call.
+    Duplicate,
 }
 
 /// The submission of a folder's files to a partner.
@@ -94,6 +96,8 @@ pub(super) struct Handing<'a, D> {
     wanted: BTreeMap<Vec<u8>, bool>,
     // The numbers of the files in the register to the partner with such dataset names, by the names that they would have in `taken`.
     known: BTreeMap<Vec<u8>, u64>,
+    // The names in `taken` that this call has given.
+    given: BTreeMap<Vec<u8>, bool>,
 }
 
 impl<'a, D: Clerk> Handing<'a, D> {
@@ -111,6 +115,7 @@ impl<'a, D: Clerk> Handing<'a, D> {
             clerk,
             wanted: BTreeMap::new(rt.alloc()),
             known: BTreeMap::new(rt.alloc()),
+            given: BTreeMap::new(rt.alloc()),
         }
     }
 
@@ -168,7 +173,7 @@ impl<'a, D: Clerk> Handing<'a, D> {
     }
 
     /// The name under which a file is taken if it is given this time. `None` if a file with this time is in the register, taken or refused.
-    pub(super) fn claim_at(&self, name: &str, moment: Moment) -> Result<Option<String>, Fault> {
+    fn claim_at(&self, name: &str, moment: Moment) -> Result<Option<String>, Fault> {
         let alloc = self.rt.alloc();
         let (date, time) = moment.stamps(alloc)?;
         let stamps = Stamps {
@@ -191,8 +196,8 @@ impl<'a, D: Clerk> Handing<'a, D> {
         }
         let refused = name_of(self.rt.alloc(), stamps, self.line.to)?;
         Ok(
-            self.is_there(self.rooms.taken.as_str(), claim)?
-                || self.is_there(self.rooms.refused.as_str(), refused.as_str())?,
+            self.is_there(&self.rooms.taken, claim)?
+                || self.is_there(&self.rooms.refused, refused.as_str())?,
         )
     }
 
@@ -205,137 +210,313 @@ impl<'a, D: Clerk> Handing<'a, D> {
     }
 
     /// Whether a name exists in a folder.
-    fn is_there(&self, folder: &str, name: &str) -> Result<bool, Fault> {
-        let path = path_in(self.rt, folder, name)?;
-        match fs::symlink_metadata(self.rt, path.as_str()) {
-            Ok(_) => Ok(true),
-            Err(error) if error.kind() == ErrorKind::NotFound => Ok(false),
-            Err(error) => Err(file_fault(&error)),
+    fn is_there(&self, folder: &Room, name: &str) -> Result<bool, Fault> {
+        let path = path_in(self.rt, folder.path(), name)?;
+        has_something(self.rt, path.as_str())
+    }
+
+    /// Which call took a file.
+    fn taker_of(&self, claim: &str) -> TakenBy {
+        if self.given.get(claim.as_bytes()).is_some() {
+            TakenBy::ThisCall
+        } else {
+            TakenBy::EarlierCall
         }
     }
 
-    /// Submits a taken file, unless the register has it, moves it away and writes its line. Returns whether the register has it.
-    pub(super) fn hand_in(&mut self, claim: &str, out: &mut impl Write) -> Result<bool, Fault> {
-        let Some(stamps) = stamps_in(claim) else {
-            return Ok(true);
-        };
-        let handed = match self.number_of(claim) {
-            Some(no) => Handed::Under(no),
-            None => self.submit(claim, stamps)?,
-        };
-        self.put_away(claim, stamps, &handed)?;
-        let name = stamps.dataset;
-        match handed {
-            Handed::Under(no) => {
+    /// Takes a file: moves it to `taken`, under the first free name from this time on. Returns that name, or `None` if the file is gone.
+    pub(super) fn take(
+        &mut self,
+        from: &str,
+        name: &str,
+        changed: Moment,
+    ) -> Result<Option<String>, Fault> {
+        let claim = self.free_claim(name, changed)?;
+        let to = path_in(self.rt, self.rooms.taken.path(), claim.as_str())?;
+        match fs::rename(self.rt, from, to.as_str()) {
+            Ok(()) => {}
+            Err(error) if error.kind() == ErrorKind::NotFound => return Ok(None),
+            Err(error) => return Err(file_fault(&error)),
+        }
+        let given = octets_of(self.rt.alloc(), claim.as_str())?;
+        match self.given.insert(given, true) {
+            Ok(_) => Ok(Some(claim)),
+            Err(_) => Err(Fault::MEMORY),
+        }
+    }
+
+    /// The name under which a file is taken. It has the time of the file's last change, or the first later one that no file with this name to
+    /// the partner has in the register, taken or refused.
+    fn free_claim(&self, name: &str, changed: Moment) -> Result<String, Fault> {
+        let mut moment = changed;
+        for _ in 0..MOST_MOMENTS {
+            if let Some(claim) = self.claim_at(name, moment)? {
+                return Ok(claim);
+            }
+            moment = moment.next();
+        }
+        Err(Fault::File)
+    }
+
+    /// Submits a taken file, unless an earlier call did, moves it away and writes its line. Returns whether the register has it, and the file is
+    /// moved away. One that can't be read or moved now stays where it is for the next call.
+    pub(super) fn hand_in(&mut self, claim: String, out: &mut impl Write) -> Result<bool, Fault> {
+        let dataset = dataset_of(self.rt.alloc(), claim.as_str())?;
+        let name = dataset.as_str();
+        match self.finished(claim) {
+            Ok(Handed::Under(no)) => {
                 write_line(out, &Carried::Offered { no, name })?;
                 Ok(true)
             }
-            Handed::Refused(why) => {
+            Ok(Handed::Refused(why)) => {
                 let why = why.as_str();
                 write_line(out, &Carried::Refused { why, name })?;
+                Ok(false)
+            }
+            Err(fault) => {
+                tell_left(fault, name, out)?;
                 Ok(false)
             }
         }
     }
 
-    /// Moves a file to `sent` or `refused`.
-    fn put_away(&self, claim: &str, stamps: Stamps<'_>, handed: &Handed) -> Result<(), Fault> {
-        match handed {
-            Handed::Under(no) => self.put_to_sent(claim, stamps, *no),
-            Handed::Refused(why) => self.put_to_refused(claim, stamps, why.as_str()),
+    /// Submits a taken file, unless an earlier call did, and moves it away.
+    fn finished(&mut self, claim: String) -> Result<Handed, Fault> {
+        self.clear_line(claim.as_str())?;
+        let (claim, handed) = match self.read(claim.as_str())? {
+            Some(content) => self.settled(claim, content.as_slice())?,
+            None => (claim, Handed::Refused(self.unread()?)),
+        };
+        self.put_away(claim.as_str(), &handed)?;
+        Ok(handed)
+    }
+
+    /// The line of what is no regular file.
+    fn unread(&self) -> Result<String, Fault> {
+        String::from_str(self.rt.alloc(), UNREAD).map_err(|_| Fault::MEMORY)
+    }
+
+    /// Reads a taken file. Whatever error its open or its reading has may pass, so the file isn't refused for it. Returns `None` if it is no
+    /// regular file.
+    fn read(&self, claim: &str) -> Result<Option<Vec<u8>>, Fault> {
+        let path = path_in(self.rt, self.rooms.taken.path(), claim)?;
+        match open_regular(self.rt, path.as_str())? {
+            Some(file) => {
+                let content = content_of(self.rt, &submission_of(self.line, claim), &file)?;
+                Ok(Some(content))
+            }
+            None => Ok(None),
+        }
+    }
+
+    /// Submits a file, unless an earlier call did. Where its date and time are another file's, it gets the next free ones. Returns its name in
+    /// `taken`, and the result.
+    fn settled(&mut self, claim: String, content: &[u8]) -> Result<(String, Handed), Fault> {
+        let mut claim = claim;
+        for _ in 0..MOST_MOMENTS {
+            match step_of(
+                self.taker_of(claim.as_str()),
+                self.held(claim.as_str(), content)?,
+            ) {
+                Step::HandedIn(no) => return Ok((claim, Handed::Under(no))),
+                Step::TakeNextStamp => claim = self.moved_on(claim.as_str())?,
+                Step::HandIn => match self.submit(claim.as_str(), content)? {
+                    Tried::Under(no) => return Ok((claim, Handed::Under(no))),
+                    Tried::Refused(why) => return Ok((claim, Handed::Refused(why))),
+                    Tried::Duplicate => self.look_again_for(claim.as_str())?,
+                },
+            }
+        }
+        Err(Fault::File)
+    }
+
+    /// What the register has under the name, date and time of a taken file, as far as it was looked up.
+    fn held(&mut self, claim: &str, content: &[u8]) -> Result<Held, Fault> {
+        let Some(no) = self.number_of(claim) else {
+            return Ok(Held::Nothing);
+        };
+        let content = if self.clerk.holds(no, content)? {
+            Content::Same
+        } else {
+            Content::Other
+        };
+        Ok(Held::File(no, content))
+    }
+
+    /// Looks up the file that was found to be there when this one was submitted.
+    fn look_again_for(&mut self, claim: &str) -> Result<(), Fault> {
+        self.look_again()?;
+        match self.number_of(claim) {
+            Some(_) => Ok(()),
+            None => Err(GONE),
+        }
+    }
+
+    /// Gives a taken file the next free date and time. They are durable before the file is submitted under them.
+    fn moved_on(&mut self, claim: &str) -> Result<String, Fault> {
+        let from = path_in(self.rt, self.rooms.taken.path(), claim)?;
+        let about = fs::symlink_metadata(self.rt, from.as_str()).map_err(|error| file_fault(
+            &error,
+        ))?;
+        let dataset = stamps_of(claim).dataset;
+        match self.take(from.as_str(), dataset, Moment::of(&about))? {
+            Some(claim) => {
+                self.rooms.taken.keep()?;
+                Ok(claim)
+            }
+            None => Err(Fault::File),
         }
     }
 
     /// Submits a file.
-    fn submit(&mut self, claim: &str, stamps: Stamps<'_>) -> Result<Handed, Fault> {
-        let alloc = self.rt.alloc();
-        let path = path_in(self.rt, self.rooms.taken.as_str(), claim)?;
-        let submit = Submit {
-            files: self.line.files,
-            dataset: stamps.dataset,
-            date: stamps.date,
-            time: stamps.time,
-            to: self.line.to,
-            format: self.line.format,
-            longest: self.line.longest,
-            description: "",
-            file: path.as_str(),
-        };
-        match self.content_of(&submit) {
-            Ok(content) => match self.clerk.submit(&submit, content.as_slice())? {
-                Completion::Done(line) => number_in(line.as_str()),
-                Completion::Refused(why) => self.refused(claim, why),
-            },
-            Err(Fault::File) => match String::from_str(alloc, UNREAD) {
-                Ok(why) => Ok(Handed::Refused(why)),
-                Err(_) => Err(Fault::MEMORY),
-            },
-            Err(fault) => Err(fault),
+    fn submit(&mut self, claim: &str, content: &[u8]) -> Result<Tried, Fault> {
+        let submit = submission_of(self.line, claim);
+        match self.clerk.submit(&submit, content)? {
+            Completion::Done(line) => Ok(Tried::Under(number_in(line.as_str())?)),
+            Completion::Refused(why) if why.as_str() == DUPLICATE => Ok(Tried::Duplicate),
+            Completion::Refused(why) => Ok(Tried::Refused(why)),
         }
     }
 
-    /// The content of a file that is taken. The target of a link isn't handed in, even if the link was put there after the folder was read.
-    fn content_of(&self, submit: &Submit<'_>) -> Result<Vec<u8>, Fault> {
-        if has_file(self.rt, submit.file)? {
-            read_content(self.rt, submit)
-        } else {
-            Err(Fault::File)
-        }
-    }
-
-    /// The result of a refused submission. If the register has the file now, a request of an earlier call was carried out after the look-up
-    /// of this one.
-    fn refused(&mut self, claim: &str, why: String) -> Result<Handed, Fault> {
-        if why.as_str() != DUPLICATE {
-            return Ok(Handed::Refused(why));
-        }
-        self.look_again()?;
-        match self.number_of(claim) {
-            Some(no) => Ok(Handed::Under(no)),
-            None => Ok(Handed::Refused(why)),
+    /// Moves a file to `sent` or `refused`.
+    fn put_away(&self, claim: &str, handed: &Handed) -> Result<(), Fault> {
+        match handed {
+            Handed::Under(no) => self.put_to_sent(claim, *no),
+            Handed::Refused(why) => self.put_to_refused(claim, why.as_str()),
         }
     }
 
     /// Moves a file that the register has to `sent`.
-    fn put_to_sent(&self, claim: &str, stamps: Stamps<'_>, no: u64) -> Result<(), Fault> {
-        let name = name_of(self.rt.alloc(), stamps, self.line.to)?;
+    fn put_to_sent(&self, claim: &str, no: u64) -> Result<(), Fault> {
+        let name = name_of(self.rt.alloc(), stamps_of(claim), self.line.to)?;
         let name = numbered(self.rt.alloc(), no, name.as_str())?;
-        self.put(claim, self.rooms.sent.as_str(), name.as_str())
+        let name = self.unused_name(&self.rooms.sent, name)?;
+        self.put(claim, &self.rooms.sent, name.as_str())
     }
 
-    /// Moves a refused file to `refused`, after its line was written there.
-    fn put_to_refused(&self, claim: &str, stamps: Stamps<'_>, why: &str) -> Result<(), Fault> {
-        let name = name_of(self.rt.alloc(), stamps, self.line.to)?;
-        let path = path_in(self.rt, self.rooms.refused.as_str(), name.as_str())?;
+    /// Moves a refused file to `refused`, after its line was written there. If the file can't be moved, its line is removed.
+    fn put_to_refused(&self, claim: &str, why: &str) -> Result<(), Fault> {
+        let name = self.refused_name(claim)?;
+        let path = path_in(self.rt, self.rooms.refused.path(), name.as_str())?;
         write_beside(self.rt, path.as_str(), why)?;
-        self.put(claim, self.rooms.refused.as_str(), name.as_str())
+        let moved = self.put(claim, &self.rooms.refused, name.as_str());
+        if moved.is_err() {
+            self.clear_line(claim)?;
+        }
+        moved
+    }
+
+    /// Removes the line that this taken file would have in `refused`: a call that was killed before it moved the file there may have left one. If
+    /// it can't be removed, it stays.
+    fn clear_line(&self, claim: &str) -> Result<(), Fault> {
+        let name = self.refused_name(claim)?;
+        let path = path_in(self.rt, self.rooms.refused.path(), name.as_str())?;
+        let line = line_path(self.rt.alloc(), path.as_str())?;
+        let _ = fs::remove_file(self.rt, line.as_str());
+        Ok(())
+    }
+
+    /// The name that a taken file gets in `refused` if it is refused.
+    fn refused_name(&self, claim: &str) -> Result<String, Fault> {
+        let name = name_of(self.rt.alloc(), stamps_of(claim), self.line.to)?;
+        self.unused_name(&self.rooms.refused, name)
+    }
+
+    /// A name in a folder that nothing has: this one, or the first of those with a number behind it, from 2 on.
+    fn unused_name(&self, folder: &Room, name: String) -> Result<String, Fault> {
+        if !self.is_there(folder, name.as_str())? {
+            return Ok(name);
+        }
+        for number in 2..MOST_NAMES {
+            let other = followed(self.rt.alloc(), name.as_str(), number)?;
+            if !self.is_there(folder, other.as_str())? {
+                return Ok(other);
+            }
+        }
+        Err(Fault::File)
     }
 
     /// Moves a taken file to another folder, under a new name.
-    fn put(&self, claim: &str, folder: &str, name: &str) -> Result<(), Fault> {
-        let from = path_in(self.rt, self.rooms.taken.as_str(), claim)?;
-        let to = path_in(self.rt, folder, name)?;
+    fn put(&self, claim: &str, folder: &Room, name: &str) -> Result<(), Fault> {
+        let from = path_in(self.rt, self.rooms.taken.path(), claim)?;
+        let to = path_in(self.rt, folder.path(), name)?;
         fs::rename(self.rt, from.as_str(), to.as_str()).map_err(|error| file_fault(&error))
+    }
+}
+
+/// The submission of a taken file. Its content is read by its descriptor, so it names no file.
+fn submission_of<'a>(line: &Offer<'a>, claim: &'a str) -> Submit<'a> {
+    let Stamps {
+        dataset,
+        date,
+        time,
+    } = stamps_of(claim);
+    Submit {
+        files: line.files,
+        dataset,
+        date,
+        time,
+        to: line.to,
+        format: line.format,
+        longest: line.longest,
+        description: "",
+        file: "",
+    }
+}
+
+/// Writes the line of a file that stays where it is, if this error concerns no other one. Else returns the error.
+pub(super) fn tell_left(fault: Fault, name: &str, out: &mut impl Write) -> Result<(), Fault> {
+    match concern_of(fault) {
+        Concern::File => write_line(out, &Carried::Refused { why: UNREAD, name }),
+        Concern::Command(fault) => Err(fault),
     }
 }
 
 /// Writes the line of a refused file to a file beside it.
 fn write_beside(rt: &HostRuntime, path: &str, why: &str) -> Result<(), Fault> {
     let alloc = rt.alloc();
-    let path = format!(in alloc; "{path}{}", LINE).map_err(|_| Fault::MEMORY)?;
+    let path = line_path(alloc, path)?;
     let line = format!(in alloc; "{why}\n").map_err(|_| Fault::MEMORY)?;
-    fs::write(rt, path.as_str(), line.as_bytes()).map_err(|error| file_fault(&error))
+    write_anew(rt, path.as_str(), line.as_bytes()).map_err(|error| file_fault(&error))
+}
+
+/// The path of the file with the line of a refused file.
+fn line_path(alloc: Global, path: &str) -> Result<String, Fault> {
+    format!(in alloc; "{path}{}", LINE).map_err(|_| Fault::MEMORY)
+}
+
+/// Writes a new file in place of what is at a path, and syncs it. A link there isn't followed.
+fn write_anew(rt: &HostRuntime, path: &str, octets: &[u8]) -> io::Result<()> {
+    match fs::remove_file(rt, path) {
+        Ok(()) => {}
+        Err(error) if error.kind() == ErrorKind::NotFound => {}
+        Err(error) => return Err(error),
+    }
+    let mut file = File::create_new(rt, path)?;
+    file.write_all(octets)?;
+    file.sync_all()
 }
 
 /// The number at the end of the line for a submission.
-fn number_in(line: &str) -> Result<Handed, Fault> {
+fn number_in(line: &str) -> Result<u64, Fault> {
     match line.rsplit_once(' ') {
-        Some((_, number)) => match number.parse::<u64>() {
-            Ok(no) => Ok(Handed::Under(no)),
-            Err(_) => Err(GONE),
-        },
+        Some((_, number)) => number.parse::<u64>().map_err(|_| GONE),
         None => Err(GONE),
     }
+}
+
+/// The dataset name, date and time in the name of a file that is taken for the partner, which has them all.
+fn stamps_of<'a>(claim: &'a str) -> Stamps<'a> {
+    stamps_in(claim).unwrap_or(Stamps {
+        dataset: claim,
+        date: "",
+        time: "",
+    })
+}
+
+/// The dataset name in the name of a file that is taken for the partner.
+fn dataset_of(alloc: Global, claim: &str) -> Result<String, Fault> {
+    String::from_str(alloc, stamps_of(claim).dataset).map_err(|_| Fault::MEMORY)
 }
 
 /// A text as a key of a map.

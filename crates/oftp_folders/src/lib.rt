@@ -7,6 +7,8 @@ mod collecting;
 mod entries;
 mod folders;
 mod handing;
+mod judging;
+mod locking;
 mod offering;
 mod stamps;
 

@@ -4,8 +4,8 @@
 //! knows under which name the register has it, if it does.
 
 use crate::clerk::Clerk;
-use crate::folders::{Folder, claim_name, files_in, keep_names, path_in, stamps_in};
-use crate::handing::{Handing, Rooms, TAKEN};
+use crate::folders::{Folder, Room, claim_name, names_in, path_in, stamps_in};
+use crate::handing::{Handing, Rooms, TAKEN, tell_left};
 use crate::stamps::Moment;
 use oftp_command_line::Offer;
 use oftp_files::file_fault;
@@ -17,15 +17,12 @@ use std::io::{ErrorKind, Write};
 /// The greatest length of a dataset name.
 const MOST_NAME: usize = 26;
 
-/// How many times are tried for a file, each a tick after the last: more than a register has files.
-const MOST_MOMENTS: u32 = 1_000_001;
-
-/// Takes the files of a folder, and submits all that are taken, in the order of their times. Each gets a line in `out`. Returns whether
-/// none was refused.
+/// Takes the files of a folder, and submits all that are taken, in the order of their times. Each gets a line in `out`, also one that can't be
+/// moved or read, which stays where it is. Returns whether each was handed in.
 ///
 /// # Errors
-/// Those of the clerk; [`Fault::File`] if a folder can't be read or synced, or a file can't be moved; [`Fault::Run`] if `out` returned an
-/// error; [`Fault::MEMORY`]. Taken files stay taken, and the next call continues with them.
+/// Those of the clerk; [`Fault::File`] if a folder can't be read or synced, or a subfolder is a link or another user's; [`Fault::Run`] if
+/// `out` returned an error; [`Fault::MEMORY`]. Taken files stay taken, and the next call continues with them.
 pub fn offer<D: Clerk + Drop>(
     rt: &HostRuntime,
     line: &Offer<'_>,
@@ -33,20 +30,20 @@ pub fn offer<D: Clerk + Drop>(
     clerk: D,
     out: &mut impl Write,
 ) -> Result<bool, Fault> {
-    let files = offered(rt, folder)?;
-    let claims = claimed(rt, line, folder)?;
+    let files = offered(rt, &folder.room)?;
+    let claims = claimed(rt, line, &folder.room)?;
     if files.is_empty() && claims.is_empty() {
         return Ok(true);
     }
-    let rooms = Rooms::made(rt, folder.path())?;
+    let rooms = Rooms::made(rt, &folder.room)?;
     let handing = Handing::new(rt, line, &rooms, clerk);
-    take_and_hand_in(rt, folder, handing, files.as_slice(), claims, out)
+    take_and_hand_in(rt, &folder.room, handing, files.as_slice(), claims, out)
 }
 
-/// Takes these files, and submits all that are taken.
+/// Takes these files, and submits all that are taken. Returns whether each was handed in.
 fn take_and_hand_in<D: Clerk + Drop>(
     rt: &HostRuntime,
-    folder: &Folder,
+    folder: &Room,
     handing: Handing<'_, D>,
     files: &[String],
     claims: Vec<String>,
@@ -55,11 +52,12 @@ fn take_and_hand_in<D: Clerk + Drop>(
     let mut handing = handing;
     let mut claims = claims;
     handing.look_up(files, claims.as_slice())?;
-    take_all(rt, folder, &handing, files, &mut claims)?;
-    hand_in(handing, claims, out)
+    let are_taken = take_all(rt, folder, &mut handing, files, &mut claims, out)?;
+    let are_handed_in = hand_in(handing, claims, out)?;
+    Ok(are_taken && are_handed_in)
 }
 
-/// Submits the taken files. Returns whether none was refused.
+/// Submits the taken files. Returns whether each was handed in.
 fn hand_in<D: Clerk + Drop>(
     handing: Handing<'_, D>,
     claims: Vec<String>,
@@ -69,8 +67,8 @@ fn hand_in<D: Clerk + Drop>(
     let mut claims = claims;
     let mut is_done = true;
     claims.sort().map_err(|_| Fault::MEMORY)?;
-    for claim in &claims {
-        if !handing.hand_in(claim.as_str(), out)? {
+    for claim in claims {
+        if !handing.hand_in(claim, out)? {
             is_done = false;
         }
     }
@@ -78,14 +76,24 @@ fn hand_in<D: Clerk + Drop>(
 }
 
 /// The names of the files to submit: the regular files whose names are dataset names. Hidden files are left out.
-fn offered(rt: &HostRuntime, folder: &Folder) -> Result<Vec<String>, Fault> {
+fn offered(rt: &HostRuntime, folder: &Room) -> Result<Vec<String>, Fault> {
     let mut names = Vec::new(rt.alloc());
-    for name in files_in(rt, folder.path())? {
-        if is_dataset_name(name.as_str()) {
+    for name in names_in(rt, folder)? {
+        if is_dataset_name(name.as_str()) && is_file(rt, folder, name.as_str())? {
             names.push(name).map_err(|_| Fault::MEMORY)?;
         }
     }
     Ok(names)
+}
+
+/// Whether a name is a regular file's. One that is gone meanwhile isn't.
+fn is_file(rt: &HostRuntime, folder: &Room, name: &str) -> Result<bool, Fault> {
+    let path = path_in(rt, folder.path(), name)?;
+    match fs::symlink_metadata(rt, path.as_str()) {
+        Ok(about) => Ok(about.is_file()),
+        Err(error) if error.kind() == ErrorKind::NotFound => Ok(false),
+        Err(error) => Err(file_fault(&error)),
+    }
 }
 
 /// Whether a file's name is a dataset name that isn't hidden.
@@ -93,11 +101,13 @@ fn is_dataset_name(name: &str) -> bool {
     !name.starts_with('.') && X::<MOST_NAME>::new(name.as_bytes()).is_some()
 }
 
-/// The names of the files that an earlier call took for the partner, and didn't submit or move away.
-fn claimed(rt: &HostRuntime, line: &Offer<'_>, folder: &Folder) -> Result<Vec<String>, Fault> {
-    let taken = path_in(rt, folder.path(), TAKEN)?;
+/// The names that an earlier call has given for the partner in `taken`, and has neither submitted nor moved away.
+fn claimed(rt: &HostRuntime, line: &Offer<'_>, folder: &Room) -> Result<Vec<String>, Fault> {
     let mut claims = Vec::new(rt.alloc());
-    for name in files_in(rt, taken.as_str())? {
+    let Some(taken) = folder.inner(rt, TAKEN)? else {
+        return Ok(claims);
+    };
+    for name in names_in(rt, &taken)? {
         if is_for(rt, line.to, name.as_str())? {
             claims.push(name).map_err(|_| Fault::MEMORY)?;
         }
@@ -113,58 +123,43 @@ fn is_for(rt: &HostRuntime, code: &str, name: &str) -> Result<bool, Fault> {
     }
 }
 
-/// Takes files, and syncs the folders.
+/// Takes files, and syncs the folders. Writes the line of each that can't be moved. Returns whether there is none.
 fn take_all<D: Clerk>(
     rt: &HostRuntime,
-    folder: &Folder,
-    handing: &Handing<'_, D>,
+    folder: &Room,
+    handing: &mut Handing<'_, D>,
     files: &[String],
     claims: &mut Vec<String>,
-) -> Result<(), Fault> {
+    out: &mut impl Write,
+) -> Result<bool, Fault> {
+    let mut are_taken = true;
     for name in files {
-        if let Some(claim) = take(rt, folder, handing, name.as_str())? {
-            claims.push(claim).map_err(|_| Fault::MEMORY)?;
+        let name = name.as_str();
+        match take(rt, folder, handing, name) {
+            Ok(Some(claim)) => claims.push(claim).map_err(|_| Fault::MEMORY)?,
+            Ok(None) => {}
+            Err(fault) => {
+                tell_left(fault, name, out)?;
+                are_taken = false;
+            }
         }
     }
-    keep_names(rt, handing.rooms.taken.as_str())?;
-    folder.keep()
+    handing.rooms.taken.keep()?;
+    folder.keep()?;
+    Ok(are_taken)
 }
 
 /// Takes a file, unless it is gone.
 fn take<D: Clerk>(
     rt: &HostRuntime,
-    folder: &Folder,
-    handing: &Handing<'_, D>,
+    folder: &Room,
+    handing: &mut Handing<'_, D>,
     name: &str,
 ) -> Result<Option<String>, Fault> {
     let path = path_in(rt, folder.path(), name)?;
-    let about = match fs::symlink_metadata(rt, path.as_str()) {
-        Ok(about) => about,
-        Err(error) if error.kind() == ErrorKind::NotFound => return Ok(None),
-        Err(error) => return Err(file_fault(&error)),
-    };
-    let claim = free_claim(handing, name, Moment::of(&about))?;
-    let to = path_in(rt, handing.rooms.taken.as_str(), claim.as_str())?;
-    match fs::rename(rt, path.as_str(), to.as_str()) {
-        Ok(()) => Ok(Some(claim)),
+    match fs::symlink_metadata(rt, path.as_str()) {
+        Ok(about) => handing.take(path.as_str(), name, Moment::of(&about)),
         Err(error) if error.kind() == ErrorKind::NotFound => Ok(None),
         Err(error) => Err(file_fault(&error)),
     }
-}
-
-/// The name under which a file is taken. It has the time of the file's last change, or the first later one that no file with this name to
-/// the partner has in the register, taken or refused.
-fn free_claim<D: Clerk>(
-    handing: &Handing<'_, D>,
-    name: &str,
-    changed: Moment,
-) -> Result<String, Fault> {
-    let mut moment = changed;
-    for _ in 0..MOST_MOMENTS {
-        if let Some(claim) = handing.claim_at(name, moment)? {
-            return Ok(claim);
-        }
-        moment = moment.next();
-    }
-    Err(Fault::File)
 }

@@ -5,6 +5,8 @@ mod writing;
 
 ghost use Rattle.std.specs.Prelude.{◌≡◌, false};
 
+use std::mem;
+
 /// A reader or a writer, with a count of the octets that it gave or took and a count of its errors. The counts run modulo 2^64.
 #[derive(Drop)]
 pub struct Port<X> {
@@ -62,5 +64,13 @@ impl<X> Port<X> {
         ensures { result.now ≡ self.now.inner }
     {
         &self.inner
+    }
+
+    /// Replaces the reader or the writer, and returns the one that it was. The counts stay.
+    pub fn replace(&mut self, inner: X) -> X
+        ensures was { result ≡ self.old.inner }
+        ensures now { self.new ≡ record self.old { inner = inner } }
+    {
+        mem::replace(&mut self.inner, inner)
     }
 }

@@ -1,9 +1,11 @@
 pub mod AnsweredLemmas
 pub mod Asking
+pub mod FinalRows
 pub mod HeadLemmas
 pub mod HidingLemmas
 pub mod ListedUnits
 pub mod Listings
 pub mod RowLemmas
+pub mod RememberingLemmas
 pub mod Reporting
 pub mod RouteLemmas

@@ -1,11 +1,13 @@
 pub mod Details
 pub mod FaultTexts
+pub mod Few
 pub mod Finding
 pub mod Heads
 pub mod Hiding
 pub mod InsideListed
 pub mod Names
 pub mod Objects
+pub mod Remembering
 pub mod Replies
 pub mod Reports
 pub mod Routes

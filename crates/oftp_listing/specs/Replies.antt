@@ -1,7 +1,18 @@
--- The octets of an HTTP reply.
-use Rattle.std.specs.Prelude.{ℕ, ◌==◌, if◌then◌else◌, List, [], ◌++◌, length, codes, decimal}
+-- An HTTP reply.
+use Rattle.std.specs.Prelude.{ℕ, ◌≡◌, ◌==◌, if◌then◌else◌, List, [], ◌++◌, length, codes, decimal}
 use Rattle.std.specs.Option.{unwrap_or}
 use Rattle.http.specs.StatusCode.{code_digits, reason_phrase}
+use Rattle.oftp_listing.specs.declared.state.OfficeState.{OfficeState}
+
+-- a reply: its octets, and whether the office failed while it was made
+pub record Sent : Type 0 where
+  pub octets : List ℕ
+  pub office : OfficeState
+
+-- the reply has this text, and says this of the office
+pub record Says (text : List ℕ) (state : OfficeState) (reply : Sent) : Type 0 where
+  pub octets : reply.octets ≡ text
+  pub office : reply.office ≡ state
 
 -- the reason phrase of a status
 unfoldable pub phrase_of : ℕ → List ℕ

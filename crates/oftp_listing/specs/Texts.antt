@@ -1,5 +1,5 @@
 -- The reply to a request, as a function of the request and the register.
-use Rattle.std.specs.Prelude.{◌≡◌, ◌⊎◌, ℕ, Bool, true, false, if◌then◌else◌, List, [], ◌∷◌, map, codes, Option, Some, None, Result, Ok, Err, ⊤}
+use Rattle.std.specs.Prelude.{◌≡◌, ◌⊎◌, ℕ, Bool, true, false, if◌then◌else◌, List, [], ◌∷◌, map, codes, Option, Some, None, Result, Ok, Err}
 use Rattle.std.specs.Option.{option_map, option_and_then}
 use Rattle.std.specs.Str.{bytes_eq}
 use Rattle.serde_json.specs.Data.{Data, array, object}
@@ -16,9 +16,11 @@ use Rattle.oftp_listing.specs.declared.fault.ListFault.{ListFault}
 use Rattle.oftp_listing.specs.declared.fault.ListFault.TheVariants.{Incomplete, Memory, Office, Write}
 use Rattle.oftp_listing.specs.declared.route.Route.{Route}
 use Rattle.oftp_listing.specs.declared.route.Route.TheVariants.{Incoming, IncomingFile, Outgoing, OutgoingFile, Responses}
+use Rattle.oftp_listing.specs.declared.state.OfficeState.{OfficeState}
+use Rattle.oftp_listing.specs.declared.state.OfficeState.TheVariants.{Failed, Working}
 use Rattle.oftp_listing.specs.Heads.{Heard, Unfinished, Refused, Whole}
 use Rattle.oftp_listing.specs.Objects.{incoming_object, issued_object, members, outgoing_object, received_object}
-use Rattle.oftp_listing.specs.Replies.{error_text, reply_text}
+use Rattle.oftp_listing.specs.Replies.{Says, Sent, error_text, reply_text}
 use Rattle.oftp_listing.specs.Routes.{route_at}
 
 -- the object of an incoming file of the register
@@ -84,39 +86,54 @@ pub record Asks (old new : View) : Type 0 where
   pub stays : new.told ≡ old.told → new.clean → old.stands → new.stands
   pub counts : (new.told ≡ old.told) ⊎ (new.told ≡ next_count old.told)
 
--- The office returned no error, and this is the reply. Whatever the store reads, it shows something, or that there is nothing. If the office
--- was open and its store reads what was written, it is the reply for the register.
-pub record IsShown (is_get : Bool) (route : Option Route) (old new : View) (text : List ℕ) : Type 0 where
+-- The office returned no error, and this is the reply, which says so. Whatever the store reads, it shows something, or that there is nothing.
+-- If the office was open and its store reads what was written, it is the reply for the register.
+pub record IsShown (is_get : Bool) (route : Option Route) (old new : View) (sent : Sent) : Type 0 where
   pub untold : new.told ≡ old.told
+  pub office : sent.office ≡ Working
   pub shown' : Option Data
-  pub reply : text ≡ reply_to is_get shown'
-  pub right : new.clean → old.stands → text ≡ text_of is_get route old.register
+  pub reply : sent.octets ≡ reply_to is_get shown'
+  pub right : new.clean → old.stands → sent.octets ≡ text_of is_get route old.register
 
--- the office was called and returned an error, and this is the reply
-pub record IsFaulty (is_get : Bool) (route : Option Route) (old new : View) (text : List ℕ) : Type 0 where
+-- the office was called and returned an error, and this is the reply, which says so
+pub record IsFaulty (is_get : Bool) (route : Option Route) (old new : View) (sent : Sent) : Type 0 where
   pub told : new.told ≡ next_count old.told
+  pub office : sent.office ≡ Failed
   pub asked : is_asked is_get route ≡ true
-  pub reply : text ≡ (if is_get then error_text 503 else error_text 405)
+  pub reply : sent.octets ≡ (if is_get then error_text 503 else error_text 405)
 
--- the result of a request for a route: its reply, or out of memory
-abbrev pub Serves : (is_get : Bool) → Option Route → (old new : View) → Result (List ℕ) ListFault → Type 0
-Serves is_get route old new (Ok text) = IsShown is_get route old new text ⊎ IsFaulty is_get route old new text
-Serves is_get route old new (Err fault) = fault ≡ Memory
+-- Why there is no reply to a request for a route: out of memory. It is `Office` where the office had returned an error before.
+abbrev pub IsUnserved : (old new : View) → ListFault → Type 0
+IsUnserved old new Incomplete = ⊥
+IsUnserved old new Memory = new.told ≡ old.told
+IsUnserved old new Office = new.told ≡ next_count old.told
+IsUnserved old new Write = ⊥
+
+-- the result of a request for a route: its reply, or why there is none
+abbrev pub Serves : (is_get : Bool) → Option Route → (old new : View) → Result Sent ListFault → Type 0
+Serves is_get route old new (Ok sent) = IsShown is_get route old new sent ⊎ IsFaulty is_get route old new sent
+Serves is_get route old new (Err fault) = IsUnserved old new fault
 
 -- the result of a request that isn't understood: its reply, or out of memory
-abbrev pub Refuses : Result (List ℕ) ListFault → Type 0
-Refuses (Ok text) = text ≡ error_text 400
+abbrev pub Refuses : Result Sent ListFault → Type 0
+Refuses (Ok sent) = Says (error_text 400) Working sent
 Refuses (Err fault) = fault ≡ Memory
 
 -- the answer to a request, by what its octets are
-abbrev pub Answers : Heard → (old new : View) → Result (List ℕ) ListFault → Type 0
+abbrev pub Answers : Heard → (old new : View) → Result Sent ListFault → Type 0
 Answers Unfinished old new result = (new.told ≡ old.told) × (result ≡ Err Incomplete)
 Answers Refused old new result = (new.told ≡ old.told) × Refuses result
 Answers (Whole method target) old new result = Serves (bytes_eq method (codes "GET")) (route_at target) old new result
 
--- an error of an answer
-abbrev pub IsListFault : ListFault → Type 0
-IsListFault Incomplete = ⊤
-IsListFault Memory = ⊤
-IsListFault Office = ⊥
-IsListFault Write = ⊥
+-- how many errors of the office a call counted that says this of it: one, or none
+abbrev pub CountsFor : ℕ → ℕ → OfficeState → Type 0
+CountsFor old new Working = new ≡ old
+CountsFor old new Failed = new ≡ next_count old
+
+-- an answer says that the office failed exactly where the office returned an error in that call
+abbrev pub TellsOffice : (old new : View) → Result Sent ListFault → Type 0
+TellsOffice old new (Ok sent) = CountsFor old.told new.told sent.office
+TellsOffice old new (Err Incomplete) = CountsFor old.told new.told Working
+TellsOffice old new (Err Memory) = CountsFor old.told new.told Working
+TellsOffice old new (Err Office) = CountsFor old.told new.told Failed
+TellsOffice old new (Err Write) = ⊥

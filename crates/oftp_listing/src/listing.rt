@@ -7,12 +7,12 @@ ghost use Rattle.serde_json.specs.Written.{comma_if, compact_text, has_float};
 ghost use Rattle.oftp_listing.specs.Finding.{Finds, IsDataBehind};
 ghost use Rattle.oftp_listing.specs.Heads.{Heard, Hears};
 ghost use Rattle.oftp_listing.specs.InsideListed.{object_in, objects_beside};
-ghost use Rattle.oftp_listing.specs.Texts.{Answers, Asks, IsListFault, Serves, is_asked, list_of, shown, shown_responses};
+ghost use Rattle.oftp_listing.specs.Texts.{Answers, Asks, Serves, TellsOffice, is_asked, list_of, shown, shown_responses};
 
 use crate::fault::ListFault;
 use crate::head::{Head, read_head};
 use crate::listed::{Listed, list_with_numbers};
-use crate::reply::{Reply, body_reply, error_reply};
+use crate::reply::{Reply, body_reply, error_reply, failed_reply};
 use crate::route::{Route, find_route};
 use http::StatusCode;
 use oftp_register::{IncomingEntry, IssuedEntry, Office, OutgoingEntry, ReceivedEntry};
@@ -132,12 +132,13 @@ fn shown<O: Office>(
 // The reply to GET on a route.
 fn show<O: Office>(alloc: Global, route: Route, office: &mut O) -> Result<Reply, ListFault>
     ensures serves { Serves true (Some route) (O.view office.old) (O.view office.new) result }
+    ensures office { TellsOffice (O.view office.old) (O.view office.new) result }
     ensures asks { Asks (O.view office.old) (O.view office.new) }
 {
     match shown(alloc, route, office) {
         Ok(Some(body)) => Ok(body_reply(alloc, body)?),
         Ok(None) => Ok(error_reply(alloc, StatusCode::NOT_FOUND)?),
-        Err(ListFault::Office) => Ok(error_reply(alloc, StatusCode::SERVICE_UNAVAILABLE)?),
+        Err(ListFault::Office) => failed_reply(alloc, StatusCode::SERVICE_UNAVAILABLE),
         Err(fault) => Err(fault),
     }
 }
@@ -157,12 +158,13 @@ fn is_there<O: Office>(route: Route, office: &mut O) -> Result<bool, ListFault>
 // The reply to another method on a route.
 fn refuse<O: Office>(alloc: Global, route: Route, office: &mut O) -> Result<Reply, ListFault>
     ensures serves { Serves false (Some route) (O.view office.old) (O.view office.new) result }
+    ensures office { TellsOffice (O.view office.old) (O.view office.new) result }
     ensures asks { Asks (O.view office.old) (O.view office.new) }
 {
     match is_there(route, office) {
         Ok(false) => Ok(error_reply(alloc, StatusCode::NOT_FOUND)?),
         Ok(true) => Ok(error_reply(alloc, StatusCode::METHOD_NOT_ALLOWED)?),
-        Err(_) => Ok(error_reply(alloc, StatusCode::METHOD_NOT_ALLOWED)?),
+        Err(_) => failed_reply(alloc, StatusCode::METHOD_NOT_ALLOWED),
     }
 }
 
@@ -174,6 +176,7 @@ fn serve<O: Office>(
     office: &mut O,
 ) -> Result<Reply, ListFault>
     ensures serves { Serves is_get route (O.view office.old) (O.view office.new) result }
+    ensures office { TellsOffice (O.view office.old) (O.view office.new) result }
     ensures asks { Asks (O.view office.old) (O.view office.new) }
 {
     match route {
@@ -191,15 +194,18 @@ fn serve<O: Office>(
 /// - 405: the method isn't GET. It is also the reply to another method than GET after an error of the office.
 /// - 503: the office returned an error.
 ///
+/// The reply says whether the office failed: exactly where the office returned an error in this call. Nothing is promised of it after that.
+///
 /// # Errors
 ///
 /// - [`ListFault::Incomplete`]: the head is incomplete, and there are at most 8,192 octets.
 /// - [`ListFault::Memory`]: out of memory.
+/// - [`ListFault::Office`]: the office returned an error, and there is no memory for the reply that says so.
 pub fn answer<O: Office>(alloc: Global, request: &[u8], office: &mut O) -> Result<Reply, ListFault>
     ensures texts { (heard : Heard) → Hears request.now heard → Answers heard (O.view office.old) (O.view office.new) result }
     // These hold of all octets.
     ensures asks { Asks (O.view office.old) (O.view office.new) }
-    ensures faults { IfErr result IsListFault }
+    ensures office { TellsOffice (O.view office.old) (O.view office.new) result }
 {
     match read_head(request) {
         Head::Unfinished => Err(ListFault::Incomplete),

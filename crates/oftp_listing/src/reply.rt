@@ -1,32 +1,51 @@
 //! The octets of an HTTP reply.
 
-ghost use Rattle.std.specs.Prelude.{◌≡◌, ◌++◌, IfOk, decimal, length};
-ghost use Rattle.oftp_listing.specs.Replies.{allow_of, error_text, head_text, phrase_of, reply_text};
+ghost use Rattle.std.specs.Prelude.{◌≡◌, ◌++◌, IfErr, IfOk, decimal, length};
+ghost use Rattle.oftp_listing.specs.Replies.{Says, allow_of, error_text, head_text, phrase_of, reply_text};
+ghost use Rattle.oftp_listing.specs.declared.state.OfficeState.TheVariants.{Failed, Working};
 
+use crate::fault::ListFault;
+use crate::state::OfficeState;
 use http::StatusCode;
 use std::alloc::{AllocError, Global};
 use std::marker::Model;
 
-/// A whole reply.
+/// A whole reply, and whether the office failed while it was made.
 #[derive(Debug, Drop)]
 pub struct Reply {
     octets: Vec<u8>,
+    office: OfficeState,
 }
 
 impl Model for Reply {
-    ghost use Rattle.std.specs.Prelude.{ℕ, List};
+    ghost use Rattle.oftp_listing.specs.Replies.{Sent};
 
-    ghost Value = { List ℕ };
+    ghost Value = { Sent };
 
-    ghost view = { λ reply. reply.octets.items };
+    ghost view = { λ reply. record { octets = reply.octets.items; office = reply.office } };
 }
 
 impl Reply {
     /// The octets of the reply.
     pub fn octets(&self) -> &[u8]
-        ensures { result.now ≡ self.now }
+        ensures { result.now ≡ self.now.octets }
     {
         self.octets.as_slice()
+    }
+
+    /// The octets alone, which aren't copied.
+    pub fn into_octets(self) -> Vec<u8>
+        ensures { result.items ≡ self.octets }
+    {
+        let Reply { octets, office: _ } = self;
+        octets
+    }
+
+    /// Whether the office failed. Nothing is promised of an office that did.
+    pub fn office(&self) -> OfficeState
+        ensures { result ≡ self.now.office }
+    {
+        self.office
     }
 }
 
@@ -75,7 +94,7 @@ fn head(alloc: Global, status: StatusCode, body_length: &str) -> Result<Vec<u8>,
 ///
 /// Out of memory.
 pub(crate) fn body_reply(alloc: Global, body: Vec<u8>) -> Result<Reply, AllocError>
-    ensures { IfOk result (λ reply. reply ≡ reply_text 200 body.items) }
+    ensures { IfOk result (Says (reply_text 200 body.items) Working) }
 {
     let length = body.len();
     let decimal = length.to_string(alloc)?;
@@ -83,7 +102,21 @@ pub(crate) fn body_reply(alloc: Global, body: Vec<u8>) -> Result<Reply, AllocErr
     let mut octets = body;
     octets.extend_from_slice(head.as_slice())?;
     octets.rotate_left(length);
-    Ok(Reply { octets })
+    Ok(Reply {
+        octets,
+        office: OfficeState::Working,
+    })
+}
+
+// The octets of a reply whose body names its status. Nothing else is allocated.
+fn error_octets(alloc: Global, status: StatusCode) -> Result<Vec<u8>, AllocError>
+    ensures { IfOk result (λ octets. octets.items ≡ error_text status) }
+{
+    let mut octets = head(alloc, status, "13")?;
+    octets.extend_from_slice(b"{\"error\":")?;
+    octets.extend_from_slice(status.as_str().as_bytes())?;
+    octets.extend_from_slice(b"}")?;
+    Ok(octets)
 }
 
 /// The reply whose body names its status. It allocates only its own octets.
@@ -92,11 +125,28 @@ pub(crate) fn body_reply(alloc: Global, body: Vec<u8>) -> Result<Reply, AllocErr
 ///
 /// Out of memory.
 pub(crate) fn error_reply(alloc: Global, status: StatusCode) -> Result<Reply, AllocError>
-    ensures { IfOk result (λ reply. reply ≡ error_text status) }
+    ensures { IfOk result (Says (error_text status) Working) }
 {
-    let mut octets = head(alloc, status, "13")?;
-    octets.extend_from_slice(b"{\"error\":")?;
-    octets.extend_from_slice(status.as_str().as_bytes())?;
-    octets.extend_from_slice(b"}")?;
-    Ok(Reply { octets })
+    Ok(Reply {
+        octets: error_octets(alloc, status)?,
+        office: OfficeState::Working,
+    })
+}
+
+/// The reply with this status after an error of the office.
+///
+/// # Errors
+///
+/// [`ListFault::Office`]: there is no memory for it, and the office has failed.
+pub(crate) fn failed_reply(alloc: Global, status: StatusCode) -> Result<Reply, ListFault>
+    ensures says { IfOk result (Says (error_text status) Failed) }
+    ensures fails { IfErr result (λ fault. fault ≡ ListFault.Office) }
+{
+    match error_octets(alloc, status) {
+        Ok(octets) => Ok(Reply {
+            octets,
+            office: OfficeState::Failed,
+        }),
+        Err(_) => Err(ListFault::Office),
+    }
 }

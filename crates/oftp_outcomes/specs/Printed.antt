@@ -1,6 +1,7 @@
 -- The lines that the program prints.
-use Rattle.std.specs.Prelude.{ℕ, Bool, true, false, List, ◌++◌, codes}
-use Rattle.std.specs.Fmt.{decimal}
+use Rattle.std.specs.Prelude.{ℕ, Bool, true, false, List, ◌++◌, Option, IfSome, codes}
+use Rattle.std.specs.Fmt.{decimal, with_newline}
+use Rattle.std.specs.Io.KnownBytes.{Appends}
 use Rattle.oftp_wire.specs.Reasons.{session_number, two_digits}
 use Rattle.oftp_partners.specs.Faults.{number_of}
 use Rattle.oftp_tables.specs.declared.fault.StoreFault.TheVariants as store
@@ -32,6 +33,17 @@ fault_line Socket = codes "fault: 8 socket"
 abbrev pub write_fault : Fault
 write_fault = Run Write
 
+-- the error of what was written to memory
+abbrev pub fault_in_memory : Fault → Fault
+fault_in_memory (Run Read) = Run Read
+fault_in_memory (Run Write) = Run Memory
+fault_in_memory (Run Office) = Run Office
+fault_in_memory (Run Memory) = Run Memory
+fault_in_memory (Book fault) = Book fault
+fault_in_memory (Store fault) = Store fault
+fault_in_memory File = File
+fault_in_memory Socket = Socket
+
 -- a report's error as that of its command; a report never gives `Incomplete`
 abbrev pub fault_of_report : ListFault → Fault
 fault_of_report list.Incomplete = Run Memory
@@ -57,6 +69,10 @@ abbrev pub carried_line : Carried → List ℕ
 carried_line (Collected number name) = codes "done: collect " ++ (decimal number ++ (codes " " ++ name.now))
 carried_line (Offered number name) = codes "done: offer " ++ (decimal number ++ (codes " " ++ name.now))
 carried_line (Refused why name) = why.now ++ (codes " " ++ name.now)
+
+-- an output took this text and a line end, where the text is known, and what the output has
+abbrev pub TakesLine : Option (List ℕ) → Option (List ℕ) → Option (List ℕ) → Type 0
+TakesLine old new text = IfSome (with_newline text) (Appends old new)
 
 -- the command was refused
 abbrev pub is_refusal : Outcome → Bool

@@ -2,7 +2,9 @@
 #![tactic(auto)]
 
 mod outcome;
+mod output;
 mod statuses;
 
 pub use outcome::{Carried, Fault, Outcome, write_line};
-pub use statuses::{DONE, FAILED, status_of, status_where, tell};
+pub use output::{Output, Reader};
+pub use statuses::{DONE, FAILED, is_told, status_of, status_where, tell};

@@ -1,7 +1,7 @@
 //! The results of commands, as they are printed.
 
-ghost use Rattle.std.specs.Prelude.{◌≡◌, IfErr, Some};
-ghost use Rattle.oftp_outcomes.specs.Printed.{carried_line, fault_line, fault_of_report, is_refusal, outcome_line, write_fault};
+ghost use Rattle.std.specs.Prelude.{◌≡◌, IfErr, OnOk, Some};
+ghost use Rattle.oftp_outcomes.specs.Printed.{TakesLine, carried_line, fault_in_memory, fault_line, fault_of_report, is_refusal, outcome_line, write_fault};
 
 use oftp_engine::{End, RunFault};
 use oftp_listing::ListFault;
@@ -28,6 +28,16 @@ pub enum Fault {
 impl Fault {
     /// Out of memory.
     pub const MEMORY: Fault = Fault::Run(RunFault::Memory);
+
+    /// The error of what was written to memory: a write that failed there is out of memory.
+    pub fn in_memory(self) -> Fault
+        ensures { result ≡ fault_in_memory self }
+    {
+        match self {
+            Fault::Run(RunFault::Write) => Fault::MEMORY,
+            other => other,
+        }
+    }
 }
 
 impl From<ListFault> for Fault {
@@ -164,7 +174,8 @@ impl fmt::Display for Carried<'_> {
 /// # Errors
 ///
 /// [`Fault::Run`] with [`RunFault::Write`]: the output returned an error. It may have the line, or a beginning of it.
-pub fn write_line<L: fmt::Display>(out: &mut impl Write, line: &L) -> Result<(), Fault>
+pub fn write_line<L: fmt::Display, W: Write>(out: &mut W, line: &L) -> Result<(), Fault>
+    ensures written { OnOk result (TakesLine (W.contents out.old) (W.contents out.new) (L.output line.now)) }
     ensures fails { IfErr result (λ fault. fault ≡ write_fault) }
 {
     match put_line(out, line) {
@@ -174,7 +185,9 @@ pub fn write_line<L: fmt::Display>(out: &mut impl Write, line: &L) -> Result<(),
 }
 
 /// Writes a line and flushes the output.
-fn put_line<L: fmt::Display>(out: &mut impl Write, line: &L) -> io::Result<()> {
+fn put_line<L: fmt::Display, W: Write>(out: &mut W, line: &L) -> io::Result<()>
+    ensures { OnOk result (TakesLine (W.contents out.old) (W.contents out.new) (L.output line.now)) }
+{
     writeln!(out, "{line}")?;
     out.flush()
 }

@@ -1,11 +1,12 @@
-//! The exit statuses of commands.
+//! The exit statuses of commands, and which errors are printed.
 
-ghost use Rattle.std.specs.Prelude.{◌≡◌, IfErr, IfOk, not};
-ghost use Rattle.oftp_outcomes.specs.Printed.{is_refusal, write_fault};
-ghost use Rattle.oftp_outcomes.specs.Statuses.{status_if, status_of};
+ghost use Rattle.std.specs.Prelude.{◌≡◌, IfErr, IfOk, OnOk, Some, not};
+ghost use Rattle.oftp_outcomes.specs.Printed.{TakesLine, is_refusal, outcome_line, write_fault};
+ghost use Rattle.oftp_outcomes.specs.Statuses.{is_told, status_if, status_of};
 
 use crate::outcome::{Fault, Outcome, write_line};
-use oftp_engine::Told;
+use crate::output::Reader;
+use oftp_engine::{RunFault, Told};
 use std::io::Write;
 
 /// The exit status of a command that is done.
@@ -18,7 +19,8 @@ pub const FAILED: u8 = 1;
 ///
 /// # Errors
 /// [`Fault::Run`]: `out` returned an error.
-pub fn tell(outcome: Outcome, out: &mut impl Write) -> Result<u8, Fault>
+pub fn tell<W: Write>(outcome: Outcome, out: &mut W) -> Result<u8, Fault>
+    ensures written { OnOk result (TakesLine (W.contents out.old) (W.contents out.new) (Some (outcome_line outcome))) }
     ensures status { IfOk result (λ status. status ≡ status_if (is_refusal outcome)) }
     ensures fails { IfErr result (λ fault. fault ≡ write_fault) }
 {
@@ -41,4 +43,14 @@ pub fn status_where(is_done: bool) -> u8
     ensures { result ≡ status_if (not is_done) }
 {
     if is_done { DONE } else { FAILED }
+}
+
+/// Whether the line of a command's error is printed: not that of a failed write if nobody reads the output any more.
+pub fn is_told(fault: Fault, reader: Reader) -> bool
+    ensures { result ≡ is_told fault reader }
+{
+    match (fault, reader) {
+        (Fault::Run(RunFault::Write), Reader::Gone) => false,
+        _ => true,
+    }
 }

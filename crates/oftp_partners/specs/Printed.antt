@@ -2,14 +2,8 @@
 use Rattle.std.specs.Prelude.{List, ℕ, ◌++◌, length, codes}
 use Rattle.std.specs.Fmt.{decimal}
 use Rattle.oftp_wire.specs.declared.command.Mode.{Mode}
-use Rattle.oftp_wire.specs.declared.command.Mode.TheVariants.{Send, Receive, Both}
+use Rattle.oftp_wire.specs.Messages.{mode_text}
 use Rattle.oftp_partners.specs.Book.{BookData}
-
--- the name of a mode
-abbrev pub mode_text : Mode → List ℕ
-mode_text Send = codes "Send"
-mode_text Receive = codes "Receive"
-mode_text Both = codes "Both"
 
 -- a partner by its code, mode and address, without its passwords
 abbrev pub partner_text : List ℕ → Mode → List ℕ → List ℕ

@@ -1,12 +1,11 @@
 //! What is printed of a book: codes, modes and addresses, but no password.
 
 ghost use Rattle.std.specs.Prelude.{◌≡◌, Some, codes};
-ghost use Rattle.oftp_partners.specs.Printed.{mode_text, partner_text, book_text};
+ghost use Rattle.oftp_partners.specs.Printed.{partner_text, book_text};
 
 use crate::book::Book;
 use crate::field::{Address, Code, Password};
 use crate::partner::Partner;
-use oftp_wire::Mode;
 use std::fmt;
 
 impl fmt::Display for Code {
@@ -36,26 +35,15 @@ impl fmt::Debug for Password {
     }
 }
 
-fn mode_text(mode: Mode) -> &'static str
-    ensures { result.now ≡ mode_text mode }
-{
-    match mode {
-        Mode::Send => "Send",
-        Mode::Receive => "Receive",
-        Mode::Both => "Both",
-    }
-}
-
 /// It omits the passwords.
 impl fmt::Debug for Partner {
     ghost debug_output = { λ p. Some (partner_text p.code p.mode p.address) };
 
     fn fmt<W: fmt::Write>(&self, f: &mut fmt::Formatter<W>) -> fmt::Result {
-        let mode = mode_text(self.mode);
         write!(
             f,
-            "Partner {{ code: {}, mode: {mode}, address: {}, .. }}",
-            self.code, self.address
+            "Partner {{ code: {}, mode: {}, address: {}, .. }}",
+            self.code, self.mode, self.address
         )
     }
 }

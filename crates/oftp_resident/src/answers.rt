@@ -1,5 +1,9 @@
 //! The answers to commands: pieces of their output and of files, and then the exit status.
 
+ghost use Rattle.std.specs.Prelude.{◌≡◌, ◌++◌, List, ℕ, IfErr, IfOk, IfSome, OnOk};
+ghost use Rattle.oftp_channel.specs.Answers.{spelled_end};
+ghost use Rattle.oftp_outcomes.specs.declared.statuses.TheConstants.{FAILED};
+
 use oftp_channel::{LONGEST_PIECE, Outlet, write_end, write_piece};
 use oftp_engine::{End, Port};
 use oftp_outcomes::{DONE, FAILED, Fault, Outcome, write_line};
@@ -49,7 +53,9 @@ impl Answer {
     }
 
     /// Adds the exit status, which ends the answer.
-    fn add_end(&mut self, status: u8) -> Result<(), Fault> {
+    fn add_end(&mut self, status: u8) -> Result<(), Fault>
+        ensures { OnOk result (self.new.octets.items ≡ self.old.octets.items ++ spelled_end status) }
+    {
         let mut port = Port::new(Vec::new(self.alloc), 0);
         if write_end(&mut port, status) {
             self.take(port.into_inner())
@@ -59,7 +65,9 @@ impl Answer {
     }
 
     /// Adds octets.
-    fn take(&mut self, octets: Vec<u8>) -> Result<(), Fault> {
+    fn take(&mut self, octets: Vec<u8>) -> Result<(), Fault>
+        ensures { OnOk result (self.new.octets.items ≡ self.old.octets.items ++ octets.items) }
+    {
         match self.octets.extend_from_slice(octets.as_slice()) {
             Ok(()) => Ok(()),
             Err(_) => Err(Fault::MEMORY),
@@ -74,7 +82,10 @@ impl Answer {
     }
 
     /// Adds the end of an answer: the exit status, or the line of an error and the status of a failure.
-    fn end(&mut self, outcome: Result<u8, Fault>) -> Result<(), Fault> {
+    fn end(&mut self, outcome: Result<u8, Fault>) -> Result<(), Fault>
+        ensures status { IfOk outcome (λ status. OnOk result ((front : List ℕ) × (self.new.octets.items ≡ front ++ spelled_end status))) }
+        ensures failed { IfErr outcome (λ fault. OnOk result ((front : List ℕ) × (self.new.octets.items ≡ front ++ spelled_end FAILED))) }
+    {
         match outcome {
             Ok(status) => self.add_end(status),
             Err(fault) => {
@@ -85,7 +96,10 @@ impl Answer {
     }
 
     /// The octets of an answer with this end. `None` if memory runs out.
-    pub(super) fn ended(mut self, outcome: Result<u8, Fault>) -> Option<Vec<u8>> {
+    pub(super) fn ended(mut self, outcome: Result<u8, Fault>) -> Option<Vec<u8>>
+        ensures status { IfOk outcome (λ status. IfSome result (λ octets. (front : List ℕ) × (octets.items ≡ front ++ spelled_end status))) }
+        ensures failed { IfErr outcome (λ fault. IfSome result (λ octets. (front : List ℕ) × (octets.items ≡ front ++ spelled_end FAILED))) }
+    {
         match self.end(outcome) {
             Ok(()) => Some(self.octets),
             Err(_) => None,
@@ -115,7 +129,7 @@ fn add_end_of_session(
         Ok(end) => {
             let outcome = Outcome::Ended(*end);
             let mut line = Vec::new(alloc);
-            write_line(&mut line, &outcome)?;
+            write_line(&mut line, &outcome).map_err(|fault| fault.in_memory())?;
             answer.add(Outlet::Output, line.as_slice())?;
             Ok(DONE)
         }

@@ -4,15 +4,15 @@ use crate::answers::Answer;
 use crate::calls::Wanted;
 use oftp_channel::Outlet;
 use oftp_command_line::{Call, Line, Submit, line_of};
-use oftp_engine::{CallJob, Job, Operator, Port, RunFault, Submission, write_content};
-use oftp_files::book_of;
-use oftp_held::{Errand, HeldOffice, entry_to_fetch, report_to};
-use oftp_listing::ReportKind;
-use oftp_outcomes::{DONE, Fault, Outcome, status_of, tell};
+use oftp_contents::{asked_to_hold, entry_to_fetch, write_outgoing};
+use oftp_engine::{Operator, Port, RunFault, Submission, write_content};
+use oftp_files::{Comparison, book_of};
+use oftp_life::Life;
+use oftp_listing::{self as listing, ReportKind};
+use oftp_outcomes::{DONE, Fault, Outcome, status_of, status_where, tell};
 use oftp_register::Office;
 use oftp_sockets::patience_of;
 use std::alloc::Global;
-use std::io;
 use std::time::Duration;
 
 /// The request of a command: its words, and the contents of the files that it read.
@@ -64,8 +64,8 @@ impl Asked {
         }
     }
 
-    /// Carries out the request with an office.
-    pub(super) fn carry_out(&self, rt: &HostRuntime, office: &mut impl HeldOffice) -> Task {
+    /// Carries out the request in a life, between two sessions.
+    pub(super) fn carry_out<O: Office>(&self, rt: &HostRuntime, life: &mut Life<O>) -> Task {
         let alloc = rt.alloc();
         match line_of(alloc, self.words.as_slice()) {
             Ok(Line::Call(call)) => match self.call(alloc, &call) {
@@ -73,20 +73,33 @@ impl Asked {
                 Err(fault) => Task::Answered(Answer::new(alloc).ended(Err(fault))),
             },
             Ok(Line::Backup(_)) => Task::Copies,
-            Ok(line) => {
-                let mut answer = Answer::new(alloc);
-                let outcome = self.carry_out_line(alloc, office, &line, &mut answer);
-                match outcome {
-                    Ok(None) => Task::Nothing,
-                    Ok(Some(status)) => Task::Answered(answer.ended(Ok(status))),
-                    Err(Fault::Run(RunFault::Office)) => {
-                        Task::Failed(answer.ended(Err(Fault::Run(RunFault::Office))))
-                    }
-                    Err(fault) => Task::Answered(answer.ended(Err(fault))),
-                }
-            }
-            Err(_) => Task::Nothing,
+            Ok(line) => match self.operator(&line) {
+                Some(operator) => self.order(alloc, life, &operator),
+                None => self.look_up_line(alloc, life, &line),
+            },
+            Err(_) => self.compare(alloc, life),
         }
+    }
+
+    /// Carries out a request that only looks something up.
+    pub(super) fn look_up(&self, rt: &HostRuntime, office: &mut impl Office) -> Task {
+        let alloc = rt.alloc();
+        match line_of(alloc, self.words.as_slice()) {
+            Ok(line) => self.look_up_line(alloc, office, &line),
+            Err(_) => self.compare(alloc, office),
+        }
+    }
+
+    /// Compares the content with that of an outgoing file, if that is asked for. The exit status is that of a refusal if they differ, or there
+    /// is no such file.
+    fn compare(&self, alloc: Global, office: &mut impl Office) -> Task {
+        let Some(no) = asked_to_hold(self.words.as_slice()) else {
+            return Task::Nothing;
+        };
+        let mut comparison = Comparison::with(self.content.as_slice());
+        let outcome = write_outgoing(alloc, office, no, &mut comparison);
+        let outcome = outcome.map(|is_there| status_where(is_there && comparison.is_equal()));
+        task_of(Answer::new(alloc), outcome)
     }
 
     /// The call that is asked for.
@@ -103,63 +116,55 @@ impl Asked {
         })
     }
 
-    /// Carries out a command line with an office. Returns its exit status, or `None` if it isn't a request of a command.
-    fn carry_out_line(
-        &self,
-        alloc: Global,
-        office: &mut impl HeldOffice,
-        line: &Line<'_>,
-        answer: &mut Answer,
-    ) -> Result<Option<u8>, Fault> {
-        let status = match line {
-            Line::Submit(submit) => {
-                let operator = Operator::Submit(self.submission(submit));
-                self.operate(alloc, office, operator, answer)?
-            }
-            Line::Release(release) => {
-                let operator = Operator::Release { no: release.no };
-                self.operate(alloc, office, operator, answer)?
-            }
-            Line::Refuse(refuse) => {
-                let operator = Operator::Refuse {
-                    no: refuse.no,
-                    reason: refuse.reason,
-                    text: refuse.text,
-                };
-                self.operate(alloc, office, operator, answer)?
-            }
-            Line::Report(what) => report(alloc, office, what.kind, answer)?,
-            Line::Fetch(fetch) => send_file(alloc, office, fetch.no, answer)?,
-            Line::Init { .. } => tell_in(alloc, Outcome::Initiated, answer)?,
-            _ => return Ok(None),
-        };
-        Ok(Some(status))
+    /// The operator's call that a command line asks for. `None` if it asks for none.
+    fn operator<'a>(&'a self, line: &Line<'a>) -> Option<Operator<'a>> {
+        match line {
+            Line::Submit(submit) => Some(Operator::Submit(self.submission(submit))),
+            Line::Release(release) => Some(Operator::Release { no: release.no }),
+            Line::Refuse(refuse) => Some(Operator::Refuse {
+                no: refuse.no,
+                reason: refuse.reason,
+                text: refuse.text,
+            }),
+            _ => None,
+        }
     }
 
-    /// Does an operator's job with an office, as the next job of the station.
-    fn operate<'a>(
+    /// Carries out an operator's call, as the next job of the station.
+    fn order<O: Office>(&self, alloc: Global, life: &mut Life<O>, operator: &Operator<'_>) -> Task {
+        let mut answer = Answer::new(alloc);
+        let outcome = self.order_with(alloc, life, operator, &mut answer);
+        task_of(answer, outcome)
+    }
+
+    /// Carries out an operator's call, and adds its line to the answer. Returns the exit status.
+    fn order_with<O: Office>(
         &self,
         alloc: Global,
-        office: &mut impl HeldOffice,
-        operator: Operator<'a>,
+        life: &mut Life<O>,
+        operator: &Operator<'_>,
         answer: &mut Answer,
     ) -> Result<u8, Fault> {
         let book = book_of(alloc, self.book.as_slice())?;
-        let mut job = job_of(alloc, operator);
-        office.do_next(alloc, &book, &mut job).map_err(Fault::Run)?;
-        match &job {
-            Job::Call(
-                CallJob {
-                    writer,
-                    result: Some(Ok(told)),
-                    ..
-                },
-            ) => {
-                answer.add(Outlet::Output, writer.inner().as_slice())?;
-                Ok(status_of(*told))
-            }
-            _ => Err(Fault::Run(RunFault::Write)),
-        }
+        let mut port = Port::new(Vec::new(alloc), 0);
+        let told = match life.order(alloc, &book, operator, &mut port) {
+            Ok(told) => told,
+            Err(fault) => return Err(Fault::Run(fault).in_memory()),
+        };
+        answer.add(Outlet::Output, port.into_inner().as_slice())?;
+        Ok(status_of(told))
+    }
+
+    /// Carries out a command line that only looks something up.
+    fn look_up_line(&self, alloc: Global, office: &mut impl Office, line: &Line<'_>) -> Task {
+        let mut answer = Answer::new(alloc);
+        let outcome = match line {
+            Line::Report(what) => report(alloc, office, what.kind, &mut answer),
+            Line::Fetch(fetch) => send_file(alloc, office, fetch.no, &mut answer),
+            Line::Init { .. } => tell_in(alloc, Outcome::Initiated, &mut answer),
+            _ => return Task::Nothing,
+        };
+        task_of(answer, outcome)
     }
 
     /// The file that is submitted.
@@ -177,67 +182,58 @@ impl Asked {
     }
 }
 
-/// An operator's job whose line is kept in memory. It has no reader.
-fn job_of<'a>(alloc: Global, operator: Operator<'a>) -> Job<'a, io::Empty, Vec<u8>> {
-    Job::call(operator, Port::new(Vec::new(alloc), 0))
+/// The result of a request with this answer, by its exit status or error.
+fn task_of(answer: Answer, outcome: Result<u8, Fault>) -> Task {
+    match outcome {
+        Ok(status) => Task::Answered(answer.ended(Ok(status))),
+        Err(Fault::Run(RunFault::Office)) => {
+            Task::Failed(answer.ended(Err(Fault::Run(RunFault::Office))))
+        }
+        Err(fault) => Task::Answered(answer.ended(Err(fault))),
+    }
 }
 
 /// Adds a report to an answer.
 fn report(
     alloc: Global,
-    office: &mut impl HeldOffice,
+    office: &mut impl Office,
     kind: ReportKind,
     answer: &mut Answer,
 ) -> Result<u8, Fault> {
     let mut port = Port::new(Vec::new(alloc), 0);
-    let reported = report_to(alloc, office, kind, &mut port);
+    let reported = listing::report(alloc, kind, office, &mut port);
     answer.add(Outlet::Output, port.into_inner().as_slice())?;
     match reported {
         Ok(()) => Ok(DONE),
-        Err(fault) => Err(Fault::from(fault)),
+        Err(fault) => Err(Fault::from(fault).in_memory()),
     }
 }
 
 /// Adds a whole incoming file to an answer, and its line.
 fn send_file(
     alloc: Global,
-    office: &mut impl HeldOffice,
+    office: &mut impl Office,
     no: u64,
     answer: &mut Answer,
 ) -> Result<u8, Fault> {
-    let (content, outcome) = office.run(Fetching { alloc, no })?;
-    answer.add(Outlet::Content, content.as_slice())?;
+    let mut port = Port::new(Vec::new(alloc), 0);
+    let outcome = match entry_to_fetch(office, no)? {
+        Ok(entry) => {
+            write_content(alloc, office, &entry, &mut port).map_err(|fault| Fault::Run(
+                fault,
+            ).in_memory())?;
+            Outcome::Fetched(entry.no)
+        }
+        Err(refusal) => refusal,
+    };
+    answer.add(Outlet::Content, port.into_inner().as_slice())?;
     tell_in(alloc, outcome, answer)
 }
 
 /// Adds the line of an outcome to an answer. Returns the exit status.
 fn tell_in(alloc: Global, outcome: Outcome, answer: &mut Answer) -> Result<u8, Fault> {
     let mut line = Vec::new(alloc);
-    let status = tell(outcome, &mut line)?;
+    let status = tell(outcome, &mut line).map_err(|fault| fault.in_memory())?;
     answer.add(Outlet::Output, line.as_slice())?;
     Ok(status)
-}
-
-/// The request for the content of an incoming file.
-#[derive(Clone, Copy)]
-struct Fetching {
-    alloc: Global,
-    no: u64,
-}
-
-impl Errand for Fetching {
-    type Outcome = Result<(Vec<u8>, Outcome), Fault>;
-
-    fn run<O: Office>(self, office: &mut O) -> Result<(Vec<u8>, Outcome), Fault> {
-        let Fetching { alloc, no } = self;
-        let mut port = Port::new(Vec::new(alloc), 0);
-        let outcome = match entry_to_fetch(office, no)? {
-            Ok(entry) => {
-                write_content(alloc, office, &entry, &mut port).map_err(Fault::Run)?;
-                Outcome::Fetched(entry.no)
-            }
-            Err(refusal) => refusal,
-        };
-        Ok((port.into_inner(), outcome))
-    }
 }

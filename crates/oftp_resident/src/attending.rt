@@ -1,115 +1,100 @@
 //! A session of the resident station. Whenever it waits for the partner, the station waits for all sockets, and answers requests that only
 //! look something up.
 
-ghost use Rattle.std.specs.Prelude.{◌≢◌, OnOk};
-ghost use Rattle.oftp_session.specs.Standings.{Broken};
-
+use crate::owner::Owner;
 use crate::turns::{Again, Resident};
 use crate::yielding::{GREETING, Yielding};
-use oftp_engine::{Conversation, End, Port, Role, RunFault};
-use oftp_held::HeldOffice;
+use oftp_engine::{End, RunFault};
+use oftp_life::LifeSession;
 use oftp_outcomes::Fault;
-use oftp_sockets::{Desk, Station, Term, Trouble, Wire};
+use oftp_register::Office;
+use oftp_sockets::{Desk, Meanwhile, Start, Station, Term, Trouble, Wire, run_session};
 use std::io::{Read, Write};
 use std::time::Instant;
 
-/// How many octets of the partner are read at once, at most.
-const PIECE: usize = 4_096;
-
-/// The service that runs a session in the resident station: its office, and the clients during the session.
+/// The service that runs a session in the resident station: its life, and the clients during the session.
 #[derive(Drop)]
-pub(super) struct Attending<'r, 'a, O> {
+pub(super) struct Attending<'r, 'a, O: Office> {
     /// The station.
     pub(super) resident: &'r mut Resident<'a>,
-    /// Its office.
-    pub(super) office: &'r mut O,
+    /// The owner of its life.
+    pub(super) owner: &'r mut Owner<O>,
     /// When the session gives way to a caller, if it is a call.
     pub(super) yielding: Option<Yielding>,
 }
 
-/// How to wait for a partner.
-#[derive(Clone, Copy)]
-struct Wait<'a> {
-    // How many of its octets were read already. Nothing is waited for before these are used.
-    at_hand: u64,
-    term: Term<'a>,
-}
-
-impl<O: HeldOffice> Desk for Attending<'_, '_, O> {
+impl<O: Office + Drop> Desk for Attending<'_, '_, O> {
     fn converse<R: Read + Drop, W: Write + Drop>(
         &mut self,
         rt: &HostRuntime,
-        role: Role<'_>,
+        start: Start<'_>,
         station: &Station<'_>,
         wire: Wire<'_, R, W>,
     ) -> Result<End, Trouble> {
-        let wait = Wait {
-            at_hand: wire.heard.len() as u64,
+        let Some(life) = self.owner.take() else {
+            return Err(Trouble::from(RunFault::Office));
+        };
+        let mut attendance = Attendance {
+            resident: self.resident,
+            yielding: self.yielding,
             term: wire.term,
         };
         let (mut reader, mut writer) = wire.into_ports();
-        let mut conversation = Conversation::new(rt.alloc(), station.book, role);
-        self.talk(&mut conversation, &mut reader, &mut writer, wait)
+        let (life, ended) = run_session(
+            rt.alloc(),
+            life,
+            station.book,
+            start,
+            &mut reader,
+            &mut writer,
+            &mut attendance,
+        );
+        self.yielding = attendance.yielding;
+        self.owner.put_back(life);
+        ended
     }
 }
 
-impl<O: HeldOffice> Attending<'_, '_, O> {
-    /// Runs a session to its end.
-    fn talk<R: Read, W: Write>(
-        &mut self,
-        conversation: &mut Conversation<'_>,
-        reader: &mut Port<R>,
-        writer: &mut Port<W>,
-        wait: Wait<'_>,
-    ) -> Result<End, Trouble>
-        requires { conversation.old.seen.standing ≢ Broken }
-    {
-        'pieces: for _ in 0..u64::MAX {
-            if let Some(end) = self.go_on(conversation, reader, writer, wait)? {
-                return Ok(end);
-            }
-        }
-        Err(Trouble::from(Fault::Socket))
-    }
-
-    /// Continues a session as far as its octets allow, and gives it the next ones. Returns how the session ended, if it did.
-    fn go_on<R: Read, W: Write>(
-        &mut self,
-        conversation: &mut Conversation<'_>,
-        reader: &mut Port<R>,
-        writer: &mut Port<W>,
-        wait: Wait<'_>,
-    ) -> Result<Option<End>, Trouble>
-        requires { conversation.old.seen.standing ≢ Broken }
-        ensures { OnOk result (conversation.new.seen.standing ≢ Broken) }
-    {
-        if let Some(ending) = self.office.go_on(conversation, writer)? {
-            return Ok(Some(End::from(ending)));
-        }
-        if reader.moved() >= wait.at_hand {
-            self.attend(wait.term, reader.moved() > GREETING)?;
-        }
-        let mut piece = [0; PIECE];
-        match reader.read(&mut piece) {
-            None => Err(Trouble::from(RunFault::Read)),
-            Some(0) => Ok(Some(End::Input)),
-            Some(count) => {
-                conversation.hear(&piece[..count])?;
-                Ok(None)
-            }
+impl<O: Office> Attending<'_, '_, O> {
+    /// Whether the session was a call that gave way and is to be made again. `times` is how often it gave way before.
+    pub(super) fn is_made_again(&self, times: u32) -> bool {
+        match &self.yielding {
+            Some(yielding) => yielding.is_made_again(times),
+            None => false,
         }
     }
+}
 
+/// What the station does while a session waits.
+#[derive(Drop)]
+struct Attendance<'r, 'a, 't> {
+    resident: &'r mut Resident<'a>,
+    yielding: Option<Yielding>,
+    term: Term<'t>,
+}
+
+impl Meanwhile for Attendance<'_, '_, '_> {
+    fn attend<O: Office>(
+        &mut self,
+        session: &mut LifeSession<'_, O>,
+        count: u64,
+    ) -> Result<(), Trouble> {
+        self.attend_all(session, count > GREETING)
+    }
+}
+
+impl Attendance<'_, '_, '_> {
     /// Waits until octets of the partner arrive, and answers look-ups meanwhile. A call that isn't answered yet may give way.
     ///
     /// # Errors
     /// The partner was idle for too long, the call gave way, or the service ends.
-    fn attend(&mut self, term: Term<'_>, is_answered: bool) -> Result<(), Trouble> {
+    fn attend_all(&mut self, office: &mut impl Office, is_answered: bool) -> Result<(), Trouble> {
+        let term = self.term;
         let Ok(since) = Instant::now(self.resident.rt) else {
             return Err(Trouble::from(RunFault::Read));
         };
         for _ in 0..u64::MAX {
-            let again = self.look_around()?;
+            let again = self.look_around(office)?;
             if term.is_heard() {
                 break;
             }
@@ -132,19 +117,11 @@ impl<O: HeldOffice> Attending<'_, '_, O> {
     }
 
     /// Answers look-ups, without blocking.
-    fn look_around(&mut self) -> Result<Again, Fault> {
-        let again = self.resident.hear(self.office)?;
-        self.resident.answer_look_ups(self.office)?;
+    fn look_around(&mut self, office: &mut impl Office) -> Result<Again, Fault> {
+        let again = self.resident.hear(office)?;
+        self.resident.answer_look_ups(office)?;
         self.resident.clients.send();
         Ok(again)
-    }
-
-    /// Whether the session was a call that gave way and is to be made again. `times` is how often it gave way before.
-    pub(super) fn is_made_again(&self, times: u32) -> bool {
-        match &self.yielding {
-            Some(yielding) => yielding.is_made_again(times),
-            None => false,
-        }
     }
 
     /// Greets new callers if the session is a call. Returns whether it gives way to one that is to be admitted.

@@ -3,13 +3,13 @@
 use crate::answers::answer_of_call;
 use crate::calls::Wanted;
 use crate::turns::Resident;
-use oftp_held::HeldOffice;
 use oftp_outcomes::Fault;
 use oftp_partners::Book;
+use oftp_register::Office;
 
 impl Resident<'_> {
     /// Calls each partner that something is to be sent to, if the interval is over. A partner that is being called isn't called again.
-    pub(super) fn call_due(&mut self, office: &mut impl HeldOffice) -> Result<(), Fault> {
+    pub(super) fn call_due(&mut self, office: &mut impl Office) -> Result<(), Fault> {
         let Some(clock) = &mut self.clock else {
             return Ok(());
         };
@@ -51,11 +51,7 @@ impl Resident<'_> {
     }
 
     /// Whether the clock has to call the partner with this code: something is to be sent to it, and it isn't being called.
-    pub(super) fn is_still_due(
-        &self,
-        code: &str,
-        office: &mut impl HeldOffice,
-    ) -> Result<bool, Fault> {
+    pub(super) fn is_still_due(&self, code: &str, office: &mut impl Office) -> Result<bool, Fault> {
         let Some(clock) = &self.clock else {
             return Ok(false);
         };

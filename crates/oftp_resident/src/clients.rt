@@ -4,7 +4,7 @@ use crate::watch::Watch;
 use oftp_channel::{LONGEST_PIECE, Outlet, lacking, read_request, write_piece, write_ready};
 use oftp_engine::Port;
 use oftp_outcomes::Fault;
-use oftp_sockets::passes;
+use oftp_sockets::{is_gone, passes};
 use std::alloc::Global;
 use std::io::{self, ErrorKind, Read, Write};
 use std::os::unix::net::{UnixListener, UnixStream};
@@ -150,9 +150,12 @@ impl Clients {
         is_more
     }
 
-    /// The first whole request, with the number of its command.
+    /// The first whole request, with the number of its command. The request of a command that is gone is dropped.
     pub(super) fn next_request(&mut self) -> Option<(u64, Vec<Vec<u8>>)> {
         for client in &mut self.clients {
+            if client.standing == Standing::Waits && is_gone(&client.stream) {
+                client.standing = Standing::IsDone;
+            }
             if client.standing == Standing::Waits {
                 client.standing = Standing::IsServed;
                 match client.request(self.alloc) {
@@ -162,6 +165,19 @@ impl Clients {
             }
         }
         None
+    }
+
+    /// Whether the command with a number is still connected. If it is gone, its connection is closed.
+    pub(super) fn is_there(&mut self, number: u64) -> bool {
+        for client in &mut self.clients {
+            if client.number == number {
+                if is_gone(&client.stream) {
+                    client.standing = Standing::IsDone;
+                }
+                return client.standing != Standing::IsDone;
+            }
+        }
+        false
     }
 
     /// Sends an answer to the command with a number, if it is still connected. Without an answer the connection is closed.

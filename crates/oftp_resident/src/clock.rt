@@ -1,7 +1,6 @@
 //! The schedule of the station's own calls.
 
 use oftp_engine::RunFault;
-use oftp_held::{Errand, HeldOffice};
 use oftp_outcomes::Fault;
 use oftp_partners::{Book, Partner};
 use oftp_register::{Cursor, Name, Office};
@@ -70,15 +69,15 @@ impl<'a> Clock<'a> {
     pub(super) fn is_due(
         &self,
         place: usize,
-        office: &mut impl HeldOffice,
+        office: &mut impl Office,
     ) -> Result<Option<bool>, Fault> {
         let Some(code) = self.codes.get(place) else {
             return Ok(None);
         };
         match self.book.partner(code.as_bytes()) {
-            Some(partner) if partner.mode != Mode::Receive => office
-                .run(Looking { partner })
-                .map(Some),
+            Some(partner) if partner.mode != Mode::Receive => {
+                has_item(office, partner).map(Some)
+            }
             _ => Ok(Some(false)),
         }
     }
@@ -92,26 +91,19 @@ impl<'a> Clock<'a> {
     }
 }
 
-/// A look-up whether something is to be sent to a partner.
-#[derive(Clone, Copy)]
-struct Looking<'a> {
-    partner: &'a Partner,
-}
-
-impl Errand for Looking<'_> {
-    type Outcome = Result<bool, Fault>;
-
-    fn run<O: Office>(self, office: &mut O) -> Result<bool, Fault> {
-        let Looking { partner } = self;
-        let code = Name::of(&partner.code.field());
-        let first = Cursor {
-            response: 0,
-            file: 0,
-        };
-        match office.next_item(&code, first, true) {
-            Ok(item) => Ok(item.is_some()),
-            Err(_) => Err(Fault::Run(RunFault::Office)),
-        }
+/// Whether something is to be sent to a partner.
+///
+/// # Errors
+/// The office failed.
+fn has_item(office: &mut impl Office, partner: &Partner) -> Result<bool, Fault> {
+    let code = Name::of(&partner.code.field());
+    let first = Cursor {
+        response: 0,
+        file: 0,
+    };
+    match office.next_item(&code, first, true) {
+        Ok(item) => Ok(item.is_some()),
+        Err(_) => Err(Fault::Run(RunFault::Office)),
     }
 }
 

@@ -3,8 +3,9 @@
 use crate::asked::{Asked, Task};
 use crate::turns::{MOST_AT_ONCE, Resident};
 use oftp_engine::RunFault;
-use oftp_held::HeldOffice;
+use oftp_life::Life;
 use oftp_outcomes::Fault;
+use oftp_register::Office;
 
 /// A request that arrived during a session and waits for its end.
 #[derive(Drop)]
@@ -16,29 +17,36 @@ pub(super) struct Deferred {
 
 impl Resident<'_> {
     /// Carries out the next request of a command. Returns whether it was a job.
-    pub(super) fn serve_command(&mut self, office: &mut impl HeldOffice) -> Result<bool, Fault> {
+    pub(super) fn serve_command<O: Office>(&mut self, life: &mut Life<O>) -> Result<bool, Fault> {
         let Some((client, request)) = self.clients.next_request() else {
             return Ok(false);
         };
-        let asked = Asked::of(self.rt.alloc(), request);
-        self.carry_out(client, asked.as_ref(), office)
+        let task = match Asked::of(self.rt.alloc(), request) {
+            Some(asked) => asked.carry_out(self.rt, life),
+            None => Task::Nothing,
+        };
+        self.settle_task(client, task)
     }
 
-    /// Carries out the next request that waited for the end of a session. Returns whether it was a job.
-    pub(super) fn serve_deferred(&mut self, office: &mut impl HeldOffice) -> Result<bool, Fault> {
+    /// Carries out the next request that waited for the end of a session. That of a command that is gone is dropped. Returns whether it was
+    /// a job.
+    pub(super) fn serve_deferred<O: Office>(&mut self, life: &mut Life<O>) -> Result<bool, Fault> {
         for _ in 0..MOST_AT_ONCE {
             let Some(Deferred { client, asked }) = self.next_deferred() else {
                 break;
             };
-            if self.carry_out(client, Some(&asked), office)? {
-                return Ok(true);
+            if self.clients.is_there(client) {
+                let task = asked.carry_out(self.rt, life);
+                if self.settle_task(client, task)? {
+                    return Ok(true);
+                }
             }
         }
         Ok(false)
     }
 
     /// Carries out the requests that only look something up. The others wait for the end of the session.
-    pub(super) fn answer_look_ups(&mut self, office: &mut impl HeldOffice) -> Result<(), Fault> {
+    pub(super) fn answer_look_ups(&mut self, office: &mut impl Office) -> Result<(), Fault> {
         let alloc = self.rt.alloc();
         for _ in 0..MOST_AT_ONCE {
             let Some((client, request)) = self.clients.next_request() else {
@@ -57,10 +65,11 @@ impl Resident<'_> {
         &mut self,
         client: u64,
         asked: Asked,
-        office: &mut impl HeldOffice,
+        office: &mut impl Office,
     ) -> Result<(), Fault> {
         if asked.is_look_up(self.rt.alloc()) {
-            self.carry_out(client, Some(&asked), office)?;
+            let task = asked.look_up(self.rt, office);
+            self.settle_task(client, task)?;
         } else if self.deferred.push(Deferred { client, asked }).is_err() {
             self.clients.answer(client, None);
         }
@@ -76,17 +85,9 @@ impl Resident<'_> {
         }
     }
 
-    /// Carries out a request. Returns whether it was a job, which is counted. A call is a job only when it has ended.
-    fn carry_out(
-        &mut self,
-        client: u64,
-        asked: Option<&Asked>,
-        office: &mut impl HeldOffice,
-    ) -> Result<bool, Fault> {
-        let task = match asked {
-            Some(asked) => asked.carry_out(self.rt, office),
-            None => Task::Nothing,
-        };
+    /// Answers the command of a request by the request's result. Returns whether it was a job, which is counted. A call is a job only when it
+    /// has ended.
+    fn settle_task(&mut self, client: u64, task: Task) -> Result<bool, Fault> {
         match task {
             Task::Answered(answer) => self.clients.answer(client, answer),
             Task::Failed(answer) => {

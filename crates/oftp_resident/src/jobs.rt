@@ -4,15 +4,16 @@ use crate::answers::answer_of_call;
 use crate::attending::Attending;
 use crate::calling::book_of_call;
 use crate::calls::{Called, Wanted};
+use crate::owner::Owner;
 use crate::session_lines::{Way, settle, tell_caller};
 use crate::turns::Resident;
 use crate::yielding::{Yielded, Yielding};
 use oftp_engine::{End, RunFault};
 use oftp_files::Trace;
-use oftp_held::HeldOffice;
 use oftp_outcomes::Fault;
+use oftp_register::Office;
 use oftp_sockets::{
-    Caller, Connection, Station, Trouble, part, serve_called, serve_caller, trace_end,
+    Connection, Station, Trouble, Visit, part, serve_called, serve_caller, trace_end,
 };
 use std::io::Write;
 use std::net::TcpStream;
@@ -20,9 +21,9 @@ use std::time::Instant;
 
 impl Resident<'_> {
     /// Serves the caller whose turn it is. Returns whether one was served.
-    pub(super) fn serve_caller(
+    pub(super) fn serve_caller<O: Office + Drop>(
         &mut self,
-        office: &mut impl HeldOffice,
+        owner: &mut Owner<O>,
         out: &mut impl Write,
     ) -> Result<bool, Fault> {
         let rt = self.rt;
@@ -34,15 +35,15 @@ impl Resident<'_> {
                 return Ok(false);
             }
         };
-        let code = caller.code(rt.alloc());
+        let (connection, visit) = caller.into_parts();
+        let code = visit.code(rt.alloc());
         let code = match &code {
             Some(code) => Some(code.as_str()),
             None => None,
         };
         let begun = Instant::now(rt);
         let station = self.station;
-        let served = attend_caller(self, &caller, &station, office);
-        let Caller { connection, .. } = caller;
+        let served = attend_caller(self, &connection, visit, &station, owner);
         self.part_from(connection, &station, &served);
         if let Ok(begun) = begun {
             self.waiting.stand_still(begun);
@@ -72,10 +73,11 @@ impl Resident<'_> {
         }
     }
 
-    /// Serves the next partner that was called. Returns whether there was one. A call that gives way waits until the caller was served.
-    pub(super) fn serve_called(
+    /// Serves the next partner that was called. Returns whether there was one. A call that gives way waits until the caller was served. One
+    /// whose command is gone is given up.
+    pub(super) fn serve_called<O: Office + Drop>(
         &mut self,
-        office: &mut impl HeldOffice,
+        owner: &mut Owner<O>,
         out: &mut impl Write,
     ) -> Result<bool, Fault> {
         let Some(called) = self.calls.next_called(&self.watch) else {
@@ -87,25 +89,45 @@ impl Resident<'_> {
             wanted,
             stream,
         } = called;
+        if self.is_given_up(client) {
+            return Ok(true);
+        }
         let begun = Instant::now(rt);
         let trace = Trace::kept(rt);
-        let ended = self.converse(stream, &wanted, &trace, office);
+        let ended = self.converse(stream, &wanted, &trace, owner);
         if let Ok(begun) = begun {
             self.waiting.stand_still(begun);
         }
-        let ended = match ended {
-            Ok(Some(end)) => Ok(end),
-            Ok(None) => {
-                self.yielded = Some(Yielded::new(client, wanted));
-                return Ok(true);
-            }
-            Err(fault) => Err(fault),
+        let Some(ended) = end_of(ended) else {
+            self.yielded = Some(Yielded::new(client, wanted));
+            return Ok(true);
         };
-        self.count_job();
         let told = trace.into_kept();
-        self.answer_call(client, told.as_slice(), &ended);
-        settle(out, Some(wanted.code.as_str()), Way::Out, ended)?;
+        self.finish_call(out, client, told.as_slice(), wanted.code.as_str(), ended)?;
         Ok(true)
+    }
+
+    /// Answers the command that requested a call, and prints the line of its session.
+    fn finish_call(
+        &mut self,
+        out: &mut impl Write,
+        client: Option<u64>,
+        trace: &[u8],
+        code: &str,
+        ended: Result<End, Trouble>,
+    ) -> Result<(), Fault> {
+        self.count_job();
+        let answered = answered_as(&ended);
+        self.answer_call(client, trace, &answered);
+        settle(out, Some(code), Way::Out, ended)
+    }
+
+    /// Whether the command that requested a call is gone. The clock never is.
+    fn is_given_up(&mut self, client: Option<u64>) -> bool {
+        match client {
+            Some(client) => !self.clients.is_there(client),
+            None => false,
+        }
     }
 
     /// Answers the command that requested a call, if one did.
@@ -118,17 +140,20 @@ impl Resident<'_> {
     }
 
     /// Runs one session with a partner that was called over this stream. Returns `None` if the call gave way.
-    fn converse(
+    ///
+    /// # Errors
+    /// [`Trouble::OfCaller`] also where there is no stream to the partner.
+    fn converse<O: Office + Drop>(
         &mut self,
         stream: Result<TcpStream, Fault>,
         wanted: &Wanted,
         trace: &Trace<'_>,
-        office: &mut impl HeldOffice,
-    ) -> Result<Option<End>, Fault> {
-        let stream = stream?;
+        owner: &mut Owner<O>,
+    ) -> Result<Option<End>, Trouble> {
+        let stream = stream.map_err(Trouble::OfCaller)?;
         let book = book_of_call(wanted, self.station.book);
         let Some(partner) = book.partner(wanted.code.as_bytes()) else {
-            return Err(Fault::Socket);
+            return Err(Trouble::OfCaller(Fault::Socket));
         };
         let station = Station {
             book,
@@ -141,12 +166,12 @@ impl Resident<'_> {
             },
         };
         let Ok(connection) = Connection::new(stream, station.patience) else {
-            return Err(Fault::Run(RunFault::Read));
+            return Err(Trouble::from(RunFault::Read));
         };
         let rt = self.rt;
         let mut desk = Attending {
             resident: self,
-            office,
+            owner,
             yielding: Some(Yielding::of(book, partner)),
         };
         let served = serve_called(rt, &connection, partner, &station, &mut desk);
@@ -155,22 +180,40 @@ impl Resident<'_> {
         if is_made_again {
             return Ok(None);
         }
-        served.map(Some).map_err(Trouble::fault)
+        served.map(Some)
     }
 }
 
 /// One session with a caller.
-fn attend_caller<'r, 'a, O: HeldOffice>(
+fn attend_caller<'r, 'a, O: Office + Drop>(
     resident: &'r mut Resident<'a>,
-    caller: &Caller,
+    connection: &Connection,
+    visit: Visit<'_>,
     station: &Station<'_>,
-    office: &'r mut O,
+    owner: &'r mut Owner<O>,
 ) -> Result<End, Trouble> {
     let rt = resident.rt;
     let mut desk = Attending {
         resident,
-        office,
+        owner,
         yielding: None,
     };
-    serve_caller(rt, caller, station, &mut desk)
+    serve_caller(rt, connection, visit, station, &mut desk)
+}
+
+/// How the session of a call ended, or `None` if the call gave way.
+fn end_of(ended: Result<Option<End>, Trouble>) -> Option<Result<End, Trouble>> {
+    match ended {
+        Ok(Some(end)) => Some(Ok(end)),
+        Ok(None) => None,
+        Err(trouble) => Some(Err(trouble)),
+    }
+}
+
+/// What the command that requested a call is told of its end.
+fn answered_as(ended: &Result<End, Trouble>) -> Result<End, Fault> {
+    match ended {
+        Ok(end) => Ok(*end),
+        Err(trouble) => Err(trouble.fault()),
+    }
 }

@@ -12,6 +12,7 @@ mod commands;
 mod copying;
 mod jobs;
 mod listing;
+mod owner;
 mod page;
 mod replies;
 mod session_lines;

@@ -1,12 +1,12 @@
 //! HTTP requests, which are answered between the jobs, and during a session while it waits.
 
-use crate::replies::{Hosts, reply_to};
+use crate::replies::{Answered, Hosts, reply_to};
 use crate::turns::{Again, MOST_AT_ONCE, Resident};
 use crate::visitors::Request;
 use oftp_engine::RunFault;
-use oftp_held::HeldOffice;
-use oftp_listing::ListFault;
+use oftp_listing::{ListFault, OfficeState};
 use oftp_outcomes::Fault;
+use oftp_register::Office;
 use oftp_sockets::Arrival;
 use std::net::TcpListener;
 
@@ -15,7 +15,7 @@ impl Resident<'_> {
     pub(super) fn answer_requests(
         &mut self,
         listener: &TcpListener,
-        office: &mut impl HeldOffice,
+        office: &mut impl Office,
     ) -> Result<Again, Fault> {
         self.visitors.go_on();
         let again = match self.visitors.welcome(listener, &self.watch)? {
@@ -35,11 +35,10 @@ impl Resident<'_> {
     }
 
     /// Answers a request. If memory runs out, its connection is closed.
-    fn answer_request(
-        &mut self,
-        request: Request,
-        office: &mut impl HeldOffice,
-    ) -> Result<(), Fault> {
+    ///
+    /// # Errors
+    /// The office failed. The reply has gone out then, as far as it goes without a wait.
+    fn answer_request(&mut self, request: Request, office: &mut impl Office) -> Result<(), Fault> {
         let Request {
             place,
             octets,
@@ -51,10 +50,15 @@ impl Resident<'_> {
         };
         let hosts = Hosts { address, name };
         match reply_to(self.rt.alloc(), office, hosts, octets.as_slice()) {
-            Ok(reply) => self.visitors.answer(place, reply),
-            Err(ListFault::Office) => return Err(Fault::Run(RunFault::Office)),
-            Err(_) => {}
+            Ok(Answered { octets, office }) => {
+                self.visitors.answer(place, octets);
+                match office {
+                    OfficeState::Working => Ok(()),
+                    OfficeState::Failed => Err(Fault::Run(RunFault::Office)),
+                }
+            }
+            Err(ListFault::Office) => Err(Fault::Run(RunFault::Office)),
+            Err(_) => Ok(()),
         }
-        Ok(())
     }
 }

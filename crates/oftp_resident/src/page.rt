@@ -6,7 +6,7 @@ pub(crate) const PAGE: &str = r###"<!doctype html>
 <head>
 <meta charset="utf-8">
 <meta http-equiv="Content-Security-Policy" content="default-src 'none'; connect-src 'self'; img-src data:;
-  script-src 'sha256-zNxBDo1u83N4M72nus4rZi3FudA+ijWNs9FKJaBqk7k='; style-src 'sha256-6ydgNxWktbe59SKh5qqWlZcNM+Tbv6Qp5vhS0GHFr78=';
+  script-src 'sha256-MCvFA2PAZmOP4t+tgcYaNcy+08uQVP2OXlGvxHDUc8s='; style-src 'sha256-6ydgNxWktbe59SKh5qqWlZcNM+Tbv6Qp5vhS0GHFr78=';
   base-uri 'none'; form-action 'none'; require-trusted-types-for 'script'; trusted-types 'none'">
 <meta name="viewport" content="width=device-width, initial-scale=1">
 <meta name="color-scheme" content="light dark">
@@ -195,6 +195,8 @@ const START_REASONS = {
   "16": "encrypted file not allowed", "17": "unencrypted file not allowed", "18": "compression not allowed",
   "19": "signed file not allowed", "20": "unsigned file not allowed", "99": "unspecified",
 };
+// The reason of a partner who has the file already.
+const DUPLICATE = "13";
 // The reasons of NERP (section 5.3.14): why a file was returned.
 const NEGATIVE_REASONS = {
   "03": "user code not known", "04": "invalid password", "09": "unspecified reason", "11": "invalid file name", "12": "invalid destination",
@@ -233,6 +235,10 @@ const STATES = {
       words: "Refused by the partner", look: "bad", sums: "refused by a partner",
       hint: "Mend what the reason names, and submit it with another date or time.",
     },
+    duplicate: {
+      words: "Refused as a duplicate", look: "act", sums: "refused as a duplicate",
+      hint: "The partner has it: don't send it again before asking.",
+    },
     returned: {
       words: "Returned (NERP)", look: "bad", sums: "returned by a partner",
       hint: "Ask the partner, and submit it with another date or time.",
@@ -249,6 +255,9 @@ const STATES = {
     nerp_sent: { words: "NERP sent", look: "rest" },
   },
 };
+
+// The state of an outgoing file after its response.
+const ANSWERED = { EERP: "delivered", NERP: "returned" };
 
 // The lists: the title, the columns with their headings, and the text of an empty list.
 const VIEWS = {
@@ -299,14 +308,24 @@ function responseState(kind, isSent) {
 }
 
 function outgoingItem(file, response) {
-  return itemOf("out", file.no, file.destination, outgoingState(file), file, file.state === "returned" ? response : undefined);
+  const state = outgoingState(file, response);
+  return itemOf("out", file.no, file.destination, state, file, state === "returned" ? response : undefined);
 }
 
-function outgoingState(file) {
+function outgoingState(file, response) {
   if (file.state === "closing") {
     return isStuck(file) ? "stuck" : "closing";
   }
+  if (isDuplicate(file)) {
+    return response ? ANSWERED[response.kind] : "duplicate";
+  }
   return file.state === "waiting" && file.mark > 0 ? "partly" : file.state;
+}
+
+// Whether the partner refused the file because it has it, as it does after a restore, which makes this station send the file again. The
+// response says what became of such a file.
+function isDuplicate(file) {
+  return file.state === "refused" && file.reason === DUPLICATE;
 }
 
 function isStuck(file) {
@@ -317,7 +336,8 @@ function isStuck(file) {
   return now - since >= CLOSING_SEEN || stamp !== null && now - stamp >= CLOSING_AGE;
 }
 
-// A file's date and time in this machine's time zone, or null if they are no valid date and time: a partner may send any digits.
+// A file's date and time, read as UTC, in which `offer` writes them. It is null if they are no valid date and time: a partner may send any
+// digits.
 function momentOf(date, time) {
   const digits = date + time.slice(0, 6);
   const parts = /^(\d{4})(\d\d)(\d\d)(\d\d)(\d\d)(\d\d)$/.exec(digits);
@@ -325,8 +345,8 @@ function momentOf(date, time) {
     return null;
   }
   const [year, month, ...rest] = parts.slice(1).map(Number);
-  const isReal = new Date(Date.UTC(year, month - 1, ...rest)).toISOString().replace(/\D/g, "").startsWith(digits);
-  return isReal ? new Date(year, month - 1, ...rest).getTime() : null;
+  const moment = Date.UTC(year, month - 1, ...rest);
+  return new Date(moment).toISOString().replace(/\D/g, "").startsWith(digits) ? moment : null;
 }
 
 function receivedItem(response) {
@@ -342,13 +362,15 @@ function issuedItem(response, file) {
 function takeLists(incoming, outgoing, responses) {
   const files = new Map(incoming.map((file) => [file.no, file]));
   const issued = new Map(responses.issued.map((response) => [response.no, response]));
+  const answering = new Map(responses.received.map((it) => [it.file, it]));
   const negatives = new Map(responses.received.filter((it) => it.kind === "NERP").map((it) => [it.file, it]));
+  const responseTo = (file) => (file.state === "returned" ? negatives : answering).get(file.no);
   const closing = new Set(outgoing.filter((file) => file.state === "closing").map((file) => file.no));
   for (const no of [...closingSince.keys()].filter((it) => !closing.has(it))) {
     closingSince.delete(no);
   }
   lists.in = newestFirst(incoming.map((file) => incomingItem(file, issued.get(file.no))));
-  lists.out = newestFirst(outgoing.map((file) => outgoingItem(file, negatives.get(file.no))));
+  lists.out = newestFirst(outgoing.map((file) => outgoingItem(file, responseTo(file))));
   lists.received = newestFirst(responses.received.map(receivedItem));
   lists.issued = newestFirst(responses.issued.map((response) => issuedItem(response, files.get(response.no))));
   partners = [...new Set(Object.values(lists).flat().map((item) => item.partner))].filter(Boolean).sort();
@@ -463,7 +485,7 @@ function reasonOf({ state, file, response }) {
   if (response?.kind === "NERP") {
     return reasonText(response.reason, NEGATIVE_REASONS);
   }
-  return state === "refused" ? reasonText(file.reason, START_REASONS) : "";
+  return state === "refused" || state === "duplicate" ? reasonText(file.reason, START_REASONS) : "";
 }
 
 function reasonText(number, reasons) {
@@ -483,6 +505,7 @@ function stateParts(item) {
     isOfAnother ? make("span", "under", "Created by ", make("bdi", "", plain(response.creator))) : null,
     item.state === "partly" ? under(`${numbers.format(file.mark)} of ${rowsOf(file)} acknowledged.`) : null,
     state.hint ? under(state.hint) : null,
+    isDuplicate(file) && item.state !== "duplicate" ? under("It was sent again, and refused as a duplicate.") : null,
   ];
 }
 

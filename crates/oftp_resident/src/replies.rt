@@ -3,8 +3,8 @@
 use crate::page::PAGE;
 use httparse::Status;
 use httparse::spans::{EMPTY_HEADER_SPAN, HeaderSpan, Span, parse_request};
-use oftp_held::{HeldOffice, answer_from};
-use oftp_listing::ListFault;
+use oftp_listing::{ListFault, OfficeState, answer};
+use oftp_register::Office;
 use std::alloc::{AllocError, Global};
 use std::net::IpAddr;
 
@@ -24,22 +24,42 @@ pub(super) struct Hosts<'a> {
     pub(super) name: Option<&'a str>,
 }
 
+/// A reply, and whether the office failed while it was made.
+#[derive(Drop)]
+pub(super) struct Answered {
+    pub(super) octets: Vec<u8>,
+    pub(super) office: OfficeState,
+}
+
+impl Answered {
+    /// A reply for which the office isn't asked.
+    fn unasked(octets: Vec<u8>) -> Answered {
+        Answered {
+            octets,
+            office: OfficeState::Working,
+        }
+    }
+}
+
 /// The reply to a request.
 ///
 /// # Errors
-/// Out of memory, or the office failed.
+/// Out of memory; [`ListFault::Office`] where the office has failed, too.
 pub(super) fn reply_to(
     alloc: Global,
-    office: &mut impl HeldOffice,
+    office: &mut impl Office,
     hosts: Hosts<'_>,
     request: &[u8],
-) -> Result<Vec<u8>, ListFault> {
+) -> Result<Answered, ListFault> {
     match goal_of(hosts, request) {
-        Asked::OtherHost => Ok(Vec::from_slice(alloc, OTHER_HOST)?),
-        Asked::Page => Ok(page(alloc)?),
+        Asked::OtherHost => Ok(Answered::unasked(Vec::from_slice(alloc, OTHER_HOST)?)),
+        Asked::Page => Ok(Answered::unasked(page(alloc)?)),
         Asked::Register => {
-            let reply = answer_from(alloc, office, request)?;
-            Ok(Vec::from_slice(alloc, reply.octets())?)
+            let reply = answer(alloc, request, office)?;
+            Ok(Answered {
+                office: reply.office(),
+                octets: reply.into_octets(),
+            })
         }
     }
 }

@@ -54,25 +54,28 @@ fn tell_session(
 /// Writes the line of a session.
 ///
 /// # Errors
-/// `out` returned an error, or the office failed in the session.
+/// `out` returned an error; or the error of the session, if it ends the station.
 pub(super) fn settle(
     out: &mut impl Write,
     code: Option<&str>,
     way: Way,
-    ended: Result<End, Fault>,
+    ended: Result<End, Trouble>,
 ) -> Result<(), Fault> {
-    let has_failed = is_of_office(&ended);
-    tell_session(out, code, way, ended)?;
-    if has_failed {
-        Err(Fault::Run(RunFault::Office))
-    } else {
-        Ok(())
+    let last = last_fault(&ended);
+    tell_session(out, code, way, ended.map_err(Trouble::fault))?;
+    match last {
+        Some(fault) => Err(fault),
+        None => Ok(()),
     }
 }
 
-/// Whether the office failed.
-fn is_of_office(ended: &Result<End, Fault>) -> bool {
-    matches!(ended, Err(Fault::Run(RunFault::Office)))
+/// The error that ends the station: each error of the service but out of memory, which ends the session alone.
+fn last_fault(ended: &Result<End, Trouble>) -> Option<Fault> {
+    match ended {
+        Err(Trouble::OfService(Fault::Run(RunFault::Memory))) => None,
+        Err(Trouble::OfService(fault)) => Some(*fault),
+        _ => None,
+    }
 }
 
 /// Writes the line of a session with a caller.
@@ -84,5 +87,5 @@ pub(super) fn tell_caller(
     code: Option<&str>,
     served: Result<End, Trouble>,
 ) -> Result<(), Fault> {
-    settle(out, code, Way::In, served.map_err(Trouble::fault))
+    settle(out, code, Way::In, served)
 }

@@ -4,12 +4,14 @@ use crate::calls::Calls;
 use crate::clients::Clients;
 use crate::clock::Clock;
 use crate::commands::Deferred;
+use crate::owner::Owner;
 use crate::session_lines::tell_caller;
 use crate::visitors::Visitors;
 use crate::watch::Watch;
 use crate::yielding::Yielded;
-use oftp_held::HeldOffice;
+use oftp_life::Life;
 use oftp_outcomes::{Fault, write_line};
+use oftp_register::Office;
 use oftp_sockets::{Arrival, Leaving, Station, Trouble, Waiting};
 use std::io::{self, Write};
 use std::mem;
@@ -83,7 +85,7 @@ pub(super) struct Resident<'a> {
     pub(super) rt: &'a HostRuntime,
     pub(super) station: Station<'a>,
     pub(super) bench: Bench<'a>,
-    pub(super) waiting: Waiting<'a>,
+    pub(super) waiting: Waiting<'a, 'a>,
     pub(super) clients: Clients,
     pub(super) visitors: Visitors<'a>,
     pub(super) calls: Calls<'a>,
@@ -105,17 +107,17 @@ pub(super) struct Resident<'a> {
     last: u8,
 }
 
-/// Serves partners and commands with an office, one job after another, and writes a line to `out` for each session. Before the first it
+/// Serves partners and commands in a life, one job after another, and writes a line to `out` for each session. Before the first it
 /// writes `ready`.
 ///
 /// # Errors
 /// [`Fault::Run`] for an error of the office or of `out`; [`Fault::Socket`] for one of a listener or of the clock; [`Fault::MEMORY`]. The
 /// jobs that were done stay done.
-pub fn reside(
+pub fn reside<O: Office + Drop>(
     rt: &HostRuntime,
     bench: &Bench<'_>,
     station: &Station<'_>,
-    office: &mut impl HeldOffice,
+    life: Life<O>,
     out: &mut impl Write,
 ) -> Result<(), Fault> {
     let Ok(watch) = watch_over(rt, bench) else {
@@ -140,7 +142,7 @@ pub fn reside(
         last: 0,
     };
     write_line(out, &"ready")?;
-    resident.work(office, out)
+    resident.work(&mut Owner::new(life), out)
 }
 
 /// Watches the listeners.
@@ -159,12 +161,16 @@ fn watch_over(rt: &HostRuntime, bench: &Bench<'_>) -> io::Result<Watch> {
 
 impl Resident<'_> {
     /// Does jobs until their number is reached, their answers were sent, and the partners had time to read them.
-    fn work(&mut self, office: &mut impl HeldOffice, out: &mut impl Write) -> Result<(), Fault> {
+    fn work<O: Office + Drop>(
+        &mut self,
+        owner: &mut Owner<O>,
+        out: &mut impl Write,
+    ) -> Result<(), Fault> {
         for _ in 0..u64::MAX {
-            let again = self.take_in(office, out)?;
+            let again = self.take_in(owner.life()?, out)?;
             let is_enough = self.bench.jobs > 0 && self.done >= self.bench.jobs;
             let is_copied = self.is_copied();
-            let has_worked = !is_enough && !is_copied && self.next_job(office, out)?;
+            let has_worked = !is_enough && !is_copied && self.next_job(owner, out)?;
             self.clients.send();
             if is_enough && !self.clients.is_answering() && self.leaving.is_empty() {
                 break;
@@ -212,11 +218,7 @@ impl Resident<'_> {
     }
 
     /// Accepts callers and commands, reads and answers requests, and requests the calls that are due by the clock.
-    fn take_in(
-        &mut self,
-        office: &mut impl HeldOffice,
-        out: &mut impl Write,
-    ) -> Result<Again, Fault> {
+    fn take_in(&mut self, office: &mut impl Office, out: &mut impl Write) -> Result<Again, Fault> {
         let callers = self.welcome_callers(out)?;
         let again = callers.or(self.hear(office)?);
         self.call_due(office)?;
@@ -224,7 +226,7 @@ impl Resident<'_> {
     }
 
     /// Accepts commands, reads their requests, and answers HTTP requests. The register isn't changed.
-    pub(super) fn hear(&mut self, office: &mut impl HeldOffice) -> Result<Again, Fault> {
+    pub(super) fn hear(&mut self, office: &mut impl Office) -> Result<Again, Fault> {
         let mut again = Again::Never;
         if self.clients.welcome(self.bench.commands, &self.watch)? {
             again = Again::Soon;
@@ -240,6 +242,9 @@ impl Resident<'_> {
     }
 
     /// Accepts callers.
+    ///
+    /// # Errors
+    /// The listener fails, or `out` returned an error.
     fn welcome_callers(&mut self, out: &mut impl Write) -> Result<Again, Fault> {
         self.tell_untold(out)?;
         for _ in 0..MOST_AT_ONCE {
@@ -247,6 +252,7 @@ impl Resident<'_> {
                 Ok(Arrival::Somebody) => self.watch_newest(),
                 Ok(Arrival::Nobody) => return Ok(Again::Never),
                 Ok(Arrival::Later) => return Ok(Again::Soon),
+                Err(Trouble::OfService(Fault::Socket)) => return Err(Fault::Socket),
                 Err(trouble) => tell_caller(out, None, Err(trouble))?,
             }
         }
@@ -256,7 +262,7 @@ impl Resident<'_> {
     /// Accepts callers during a session. The line of a caller that can't be greeted is written after it.
     ///
     /// # Errors
-    /// Out of memory.
+    /// The listener fails; out of memory.
     pub(super) fn welcome_callers_within(&mut self) -> Result<(), Fault> {
         for _ in 0..MOST_AT_ONCE {
             if self.untold.len() as u64 >= u64::from(MOST_AT_ONCE) {
@@ -265,6 +271,7 @@ impl Resident<'_> {
             match self.waiting.take_in(&self.station) {
                 Ok(Arrival::Somebody) => self.watch_newest(),
                 Ok(_) => return Ok(()),
+                Err(Trouble::OfService(Fault::Socket)) => return Err(Fault::Socket),
                 Err(trouble) => self.untold.push(trouble).map_err(|_| Fault::MEMORY)?,
             }
         }
@@ -293,20 +300,20 @@ impl Resident<'_> {
 
     /// Does the next job, if there is one: first a request that arrived during a session, then one of each kind in turn. Returns whether
     /// anything was done. A call that gave way isn't a job yet.
-    fn next_job(
+    fn next_job<O: Office + Drop>(
         &mut self,
-        office: &mut impl HeldOffice,
+        owner: &mut Owner<O>,
         out: &mut impl Write,
     ) -> Result<bool, Fault> {
-        if self.serve_deferred(office)? {
+        if self.serve_deferred(owner.life()?)? {
             return Ok(true);
         }
         for _ in 0..KINDS {
             self.last = self.last.wrapping_add(1) % KINDS;
             let is_done = match self.last {
-                0 => self.serve_command(office)?,
-                1 => self.serve_caller_first(office, out)?,
-                _ => self.serve_called(office, out)?,
+                0 => self.serve_command(owner.life()?)?,
+                1 => self.serve_caller_first(owner, out)?,
+                _ => self.serve_called(owner, out)?,
             };
             if is_done {
                 return Ok(true);

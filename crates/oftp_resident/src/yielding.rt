@@ -2,10 +2,11 @@
 //! moment, each would wait for the other's answer.
 
 use crate::calls::Wanted;
+use crate::owner::Owner;
 use crate::turns::Resident;
-use oftp_held::HeldOffice;
 use oftp_outcomes::Fault;
 use oftp_partners::{Book, Partner};
+use oftp_register::Office;
 use std::io::Write;
 use std::time::{Duration, Instant};
 
@@ -93,19 +94,19 @@ fn is_over(rt: &HostRuntime, since: Instant, length: Duration) -> bool {
 
 impl Resident<'_> {
     /// Serves the caller whose turn it is, and then requests the call again that gave way. Returns whether a caller was served.
-    pub(super) fn serve_caller_first(
+    pub(super) fn serve_caller_first<O: Office + Drop>(
         &mut self,
-        office: &mut impl HeldOffice,
+        owner: &mut Owner<O>,
         out: &mut impl Write,
     ) -> Result<bool, Fault> {
-        let is_served = self.serve_caller(office, out)?;
-        self.call_again(office)?;
+        let is_served = self.serve_caller(owner, out)?;
+        self.call_again(owner.life()?)?;
         Ok(is_served)
     }
 
     /// Requests the call again that gave way, if one did. A call by the clock isn't requested if its partner is being called already, or
     /// nothing is to be sent to it any more.
-    fn call_again(&mut self, office: &mut impl HeldOffice) -> Result<(), Fault> {
+    fn call_again(&mut self, office: &mut impl Office) -> Result<(), Fault> {
         let Some(Yielded { client, wanted }) = self.yielded.take() else {
             return Ok(());
         };

@@ -16,3 +16,4 @@ pub mod Payloads
 pub mod Agreements
 pub mod Responses
 pub mod Starting
+pub mod Callers

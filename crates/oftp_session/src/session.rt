@@ -1,11 +1,13 @@
 //! A session: each call is one step.
 
-ghost use Rattle.std.specs.Prelude.{◌≡◌, ◌≢◌, ◌<◌, [], true, false, None, Some, Ok, Err, IfErr, IfOk, IsSome};
+ghost use Rattle.std.specs.Prelude.{◌≡◌, ◌≢◌, ◌<◌, [], true, false, None, Some, Ok, Err, IfErr, IfOk, IsSome, option_map};
 ghost use Rattle.oftp_session.specs.Settings.{setting_of};
-ghost use Rattle.oftp_session.specs.Phases.{Phase, ending_of, esid_of, frame_of};
+ghost use Rattle.oftp_session.specs.Phases.{Phase, ending_of, esid_of, frame_of, framed};
 ghost use Rattle.oftp_session.specs.Steps.{came, has_turn, turned, Holds};
 ghost use Rattle.oftp_session.specs.Standings.{StandsIn, ended_as, is_closed, is_due, is_receiving, is_sending, standing_of, turns_left};
-ghost use Rattle.oftp_session.specs.Calls.{Does, IsFailure, IsFull, Seen, Stands, heard, takes_memory};
+ghost use Rattle.oftp_session.specs.Calls.{Does, IsFailure, IsFull, Seen, Stands, heard, said, takes_memory};
+ghost use Rattle.oftp_session.specs.Opening.{came_awaiting_ssid};
+ghost use Rattle.oftp_session.specs.Callers.{code_of, greeting};
 ghost use Rattle.oftp_session.specs.Recalling.{IsSoAt};
 ghost use Rattle.oftp_session.specs.Inside.{Takes};
 
@@ -18,7 +20,7 @@ use crate::sending::{in_sending, send_next};
 use crate::speaker::{give_way, in_awaiting_rtr, speak};
 use crate::state::State;
 use oftp_partners::{Book, Partner};
-use oftp_register::Office;
+use oftp_register::{Name, Office};
 use oftp_wire::{Command, Count, SessionReason};
 use std::alloc::Global;
 use std::marker::Model;
@@ -179,6 +181,7 @@ fn turned<O: Office>(
 impl<'b> Session<'b> {
     ghost use Rattle.std.specs.Borrow.{sem};
     ghost use Rattle.oftp_session.specs.After.{After, AfterEnd, AfterStep, AfterTurn, InPhase};
+    ghost use Rattle.oftp_session.specs.Callers.{AfterAlone};
 
     /// A session with a partner that calls, by the station's book. It allocates nothing.
     pub fn responder(alloc: Global, book: &'b Book) -> Session<'b>
@@ -235,6 +238,45 @@ impl<'b> Session<'b> {
     {
         match &self.state {
             Some(state) => state.ended(),
+            None => None,
+        }
+    }
+
+    /// Greets a caller: makes the first turn of a responder, SSRM, and returns its frame as a borrowed slice (RFC 5024, section 5.3.1). No
+    /// office is asked, because no greeting depends on a register. It allocates nothing. The session must be a responder's before its first
+    /// step.
+    pub fn greet(&mut self) -> Out<'_>
+        requires { Stands Phase.ResponderOpening self.old }
+        ensures said { said result ≡ framed greeting.output }
+        ensures full { IsFull result }
+        ensures* leaves { sem 𝓛 (After self.entry (AfterAlone greeting self.old)) }
+    {
+        self.frame.say(&Command::Ssrm);
+        self.asks = None;
+        self.state = Some(State::AwaitingSsid);
+        self.frame.out()
+    }
+
+    /// Judges a caller by its first command, and returns the frame that answers it as a borrowed slice: the station's SSID where it is let
+    /// in, or ESID (RFC 5024, section 5.3.2). No office is asked, because no such answer depends on a register. The session must wait for
+    /// SSID.
+    pub fn judge(&mut self, command: &Command<'_>) -> Out<'_>
+        requires { Stands Phase.AwaitingSsid self.old }
+        ensures said { said result ≡ framed (came_awaiting_ssid self.old.setting command.now).output }
+        ensures full { IsFull result }
+        ensures* leaves { sem 𝓛 (After self.entry (AfterAlone (came_awaiting_ssid self.old.setting command.now) self.old)) }
+    {
+        self.asks = None;
+        self.state = Some(in_awaiting_ssid(self.setting, command, &mut self.frame));
+        self.frame.out()
+    }
+
+    /// The code of the partner with whom the session is open, if it is. It allocates nothing.
+    pub fn code(&self) -> Option<&Name<25>>
+        ensures { option_map (λ name. name.now) result ≡ code_of self.now.standing }
+    {
+        match &self.state {
+            Some(state) => state.code(),
             None => None,
         }
     }

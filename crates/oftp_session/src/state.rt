@@ -1,8 +1,9 @@
 //! The states of a session.
 
-ghost use Rattle.std.specs.Prelude.{◌≡◌, if◌then◌else◌, None, is_some};
+ghost use Rattle.std.specs.Prelude.{◌≡◌, if◌then◌else◌, None, is_some, option_map};
 ghost use Rattle.oftp_session.specs.Phases.{fails, leaves, unexpected};
 ghost use Rattle.oftp_session.specs.Standings.{ended_as, is_closed, is_due, standing_of};
+ghost use Rattle.oftp_session.specs.Callers.{code_of};
 ghost use Rattle.oftp_session.specs.Recalling.{recalled_of};
 ghost use Rattle.oftp_session.specs.Inside.{Goes};
 
@@ -148,6 +149,27 @@ impl State {
             | State::AwaitingEnd(_, _)
             | State::EndedHere(_)
             | State::EndedThere(_) => false,
+        }
+    }
+
+    /// The code of the partner with whom the session is open, if it is.
+    pub(crate) fn code(&self) -> Option<&Name<25>>
+        ensures { option_map (λ name. name.now) result ≡ code_of (standing_of self.now) }
+    {
+        match self {
+            State::ListenerIdle(contact)
+            | State::Receiving(contact, _)
+            | State::SpeakerIdle(contact, _)
+            | State::GivingWay(contact)
+            | State::AwaitingRtr(contact, _)
+            | State::AwaitingStart(contact, _)
+            | State::Sending(contact, _)
+            | State::AwaitingEnd(contact, _) => Some(&contact.code),
+            State::ResponderOpening
+            | State::InitiatorOpening
+            | State::AwaitingSsid
+            | State::EndedHere(_)
+            | State::EndedThere(_) => None,
         }
     }
 }

@@ -56,12 +56,7 @@ impl Connection {
 
     /// Whether poll reports one of these events for the connection, or its end.
     fn is_told(&self, events: i16) -> bool {
-        let mut asked = [pollfd {
-            fd: self.stream.as_raw_fd(),
-            events,
-            revents: 0,
-        }];
-        libc::net::poll(&mut asked, 0) > 0
+        is_told(&self.stream, events)
     }
 
     /// Ends the station's direction of the connection.
@@ -101,6 +96,22 @@ impl Write for &Connection {
     fn flush(&mut self) -> io::Result<()> {
         Ok(())
     }
+}
+
+/// Whether poll reports one of these events for a socket, or its end.
+fn is_told<S: AsRawFd>(socket: &S, events: i16) -> bool {
+    let mut asked = [pollfd {
+        fd: socket.as_raw_fd(),
+        events,
+        revents: 0,
+    }];
+    libc::net::poll(&mut asked, 0) > 0
+}
+
+/// Whether a socket's connection has ended in both directions: who was connected is gone, and nothing can be sent to it. One that has only
+/// ended its own direction still waits.
+pub fn is_gone<S: AsRawFd>(socket: &S) -> bool {
+    is_told(socket, 0)
 }
 
 /// Whether a non-blocking call may succeed later.

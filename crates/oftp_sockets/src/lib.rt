@@ -3,7 +3,6 @@
 #![tactic(auto)]
 
 mod addresses;
-mod admission;
 mod callers;
 mod connection;
 mod leaving;
@@ -12,11 +11,12 @@ mod place;
 mod ports;
 mod requests;
 mod sessions;
+mod talking;
 mod waiting;
 
 pub use addresses::{bound, connected, passes, socket_fault};
 pub use callers::Trouble;
-pub use connection::Connection;
+pub use connection::{Connection, is_gone};
 pub use leaving::Leaving;
 pub use moments::{Term, patience_of};
 pub use place::SocketPlace;
@@ -25,4 +25,5 @@ pub use requests::{MOST_REQUEST_OCTETS, REQUEST_SECONDS, Replies, http_on, is_wh
 pub use sessions::{
     Desk, Reception, Station, Wire, dial, listen_on, part, serve_called, serve_caller, trace_end,
 };
-pub use waiting::{Arrival, Caller, Waiting};
+pub use talking::{Idle, Meanwhile, Start, run_session};
+pub use waiting::{Arrival, Caller, Visit, Waiting};

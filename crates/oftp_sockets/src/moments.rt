@@ -123,31 +123,3 @@ impl Write for Timed<'_> {
         Ok(())
     }
 }
-
-/// A reader over a connection that fails once the connection's term is over.
-#[derive(Drop)]
-pub(super) struct Within<'a, R> {
-    reader: R,
-    term: Term<'a>,
-}
-
-impl<'a, R> Within<'a, R> {
-    /// A reader with this term.
-    pub(super) fn new(reader: R, term: Term<'a>) -> Within<'a, R> {
-        Within { reader, term }
-    }
-}
-
-impl<R: Read> Read for Within<'_, R> {
-    fn read(&mut self, piece: &mut [u8]) -> io::Result<usize> {
-        let since = Instant::now(self.term.rt)?;
-        for _ in 0..MOST_CALLS {
-            self.term.hurried(since)?;
-            match self.reader.read(piece) {
-                Err(error) if error.kind() == ErrorKind::Interrupted => {}
-                done => return done,
-            }
-        }
-        Err(io::Error::from(ErrorKind::TimedOut))
-    }
-}

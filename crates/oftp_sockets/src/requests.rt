@@ -7,7 +7,7 @@ use crate::callers::{Trouble, settled};
 use crate::connection::Connection;
 use crate::moments::Timed;
 use oftp_files::LIMITS;
-use oftp_listing::{ListFault, Reply, answer};
+use oftp_listing::{ListFault, OfficeState, Reply, answer};
 use oftp_outcomes::Fault;
 use oftp_register::PlainOffice;
 use std::alloc::Global;
@@ -54,6 +54,9 @@ pub fn http_on<A: Replies>(
 }
 
 /// Answers one request. If the connection fails, or ends before the head is whole, it is closed without a reply.
+///
+/// # Errors
+/// Those of the source of replies. A reply that says that the office failed is sent like any other: the next one has an office of its own.
 fn serve<A: Replies>(rt: &HostRuntime, stream: TcpStream, replies: &mut A) -> Result<(), Trouble> {
     let Ok(connection) = Connection::new(stream, None) else {
         return Ok(());
@@ -99,7 +102,8 @@ pub fn is_whole(alloc: Global, request: &[u8]) -> Result<bool, Fault> {
     match answer(alloc, request, &mut PlainOffice::new(alloc, LIMITS)) {
         Ok(_) => Ok(true),
         Err(ListFault::Incomplete) => Ok(false),
-        Err(fault) => Err(Fault::from(fault)),
+        // A register in memory fails only where memory runs out.
+        Err(_) => Err(Fault::MEMORY),
     }
 }
 
@@ -118,11 +122,12 @@ fn reply_to<A: Replies>(
 /// The reply that is the same for each register, if there is one: to octets that aren't a request, to an unknown target, and to another
 /// method than GET for a list.
 fn reply_of_any(alloc: Global, request: &[u8]) -> Result<Option<Reply>, Fault> {
-    let reply = answer(alloc, request, &mut PlainOffice::new(alloc, LIMITS))?;
-    if is_of_any(reply.octets(), request) {
-        Ok(Some(reply))
-    } else {
-        Ok(None)
+    let reply = answer(alloc, request, &mut PlainOffice::new(alloc, LIMITS)).map_err(
+        |_| Fault::MEMORY,
+    )?;
+    match reply.office() {
+        OfficeState::Working if is_of_any(reply.octets(), request) => Ok(Some(reply)),
+        _ => Ok(None),
     }
 }
 

@@ -1,25 +1,24 @@
 //! Sessions over sockets.
 
-use crate::admission::{Admission, Opening, Skipping, admit};
 use crate::callers::{Trouble, settled};
 use crate::connection::Connection;
-use crate::moments::{Term, Timed, Within};
+use crate::moments::{Term, Timed};
 use crate::ports::ports_of;
-use crate::waiting::{Caller, Waiting};
+use crate::talking::Start;
+use crate::waiting::{Standing, Visit, Waiting};
 use oftp_engine::{End, Port, Role, RunFault};
 use oftp_files::{Trace, Traced};
+use oftp_life::Opening;
 use oftp_outcomes::{Fault, Outcome, write_line};
 use oftp_partners::{Book, Partner};
-use std::io::{Chain, Read, Write};
+use std::io::{Read, Write};
 use std::net::{TcpListener, TcpStream};
 use std::time::{Duration, Instant};
 
 /// The connection of a session.
 #[derive(Drop)]
 pub struct Wire<'a, R, W> {
-    /// The partner's octets that were read already.
-    pub heard: &'a [u8],
-    /// The reader for the following octets.
+    /// The reader for what the partner sends.
     pub reader: R,
     /// The writer to the partner.
     pub writer: W,
@@ -27,10 +26,10 @@ pub struct Wire<'a, R, W> {
     pub term: Term<'a>,
 }
 
-impl<'a, R: Read, W: Write> Wire<'a, R, W> {
-    /// The ports of the session. What was read already comes first.
-    pub fn into_ports(self) -> (Port<Chain<&'a [u8], R>>, Port<W>) {
-        ports_of(self.heard.chain(self.reader), self.writer)
+impl<R: Read, W: Write> Wire<'_, R, W> {
+    /// The ports of the session.
+    pub fn into_ports(self) -> (Port<R>, Port<W>) {
+        ports_of(self.reader, self.writer)
     }
 }
 
@@ -43,7 +42,7 @@ pub trait Desk {
     fn converse<R: Read + Drop, W: Write + Drop>(
         &mut self,
         rt: &HostRuntime,
-        role: Role<'_>,
+        start: Start<'_>,
         station: &Station<'_>,
         wire: Wire<'_, R, W>,
     ) -> Result<End, Trouble>;
@@ -98,17 +97,17 @@ pub fn listen_on<D: Desk>(
 }
 
 /// Serves the session of the next caller, if `most` more are served.
-fn serve_next<D: Desk>(
+fn serve_next<'b, D: Desk>(
     rt: &HostRuntime,
-    waiting: &mut Waiting<'_>,
+    waiting: &mut Waiting<'_, 'b>,
     most: u64,
-    station: &Station<'_>,
+    station: &Station<'b>,
     desk: &mut D,
 ) -> Result<End, Trouble> {
-    let caller = waiting.next_caller(most, station)?;
+    let (connection, visit) = waiting.next_caller(most, station)?.into_parts();
     let begun = Instant::now(rt);
-    let served = serve_caller(rt, &caller, station, desk);
-    part(rt, &caller.connection, station, &served);
+    let served = serve_caller(rt, &connection, visit, station, desk);
+    part(rt, &connection, station, &served);
     if let Ok(begun) = begun {
         waiting.stand_still(begun);
     }
@@ -172,10 +171,9 @@ pub fn serve_called<D: Desk>(
     let term = Term::new(rt, connection, begun, station.longest, station.patience);
     desk.converse(
         rt,
-        Role::Initiator(partner),
+        Start::As(Role::Initiator(partner)),
         station,
         Wire {
-            heard: &[],
             reader: Traced::reader(Timed::of(term), station.trace),
             writer: Traced::writer(Timed::of(term), station.trace),
             term,
@@ -183,50 +181,62 @@ pub fn serve_called<D: Desk>(
     )
 }
 
-/// Runs one session with a caller. The desk is only used once the caller is admitted.
+/// Serves a caller whose turn it is: runs its session if it was let in, and sends the last word if it was sent away. The desk is only used for
+/// a caller that was let in.
 ///
 /// # Errors
-/// An error of the session or of the desk.
+/// An error of the session or of the desk; the caller was given up.
 pub fn serve_caller<D: Desk>(
     rt: &HostRuntime,
-    caller: &Caller,
+    connection: &Connection,
+    visit: Visit<'_>,
     station: &Station<'_>,
     desk: &mut D,
 ) -> Result<End, Trouble> {
-    let connection = &caller.connection;
-    let whole = Term::new(
-        rt,
-        connection,
-        caller.begun,
-        station.longest,
-        station.patience,
-    );
-    let mut reader = Traced::reader(caller.spoken(), station.trace);
-    let said = Skipping::new(Timed::of(whole), caller.greeting);
-    let mut writer = Traced::writer(said, station.trace);
-    let admission = Term::new(
-        rt,
-        connection,
-        caller.begun,
-        caller.length,
-        station.patience,
-    );
-    let first = Within::new(&mut reader, admission);
-    match admit(rt.alloc(), station.book, first, &mut writer)? {
-        Admission::Ended(end) => Ok(end),
-        Admission::LetIn(opening) => {
-            let Opening { heard, said } = opening;
-            desk.converse(
+    let Visit {
+        opening,
+        begun,
+        said,
+        heard,
+        standing,
+    } = visit;
+    let term = Term::new(rt, connection, begun, station.longest, station.patience);
+    let mut reader = Traced::reader(Timed::of(term), station.trace);
+    let mut writer = Traced::writer(Timed::of(term), station.trace);
+    writer.tell(said.as_slice());
+    reader.tell(heard.as_slice());
+    match standing {
+        Standing::Waits | Standing::GivenUp => Err(Trouble::from(RunFault::Read)),
+        Standing::Left => Ok(End::Input),
+        Standing::SentAway(ending) => {
+            send_away(rt, opening, &mut writer)?;
+            Ok(End::from(ending))
+        }
+        Standing::Enters => match opening.into_guest() {
+            Ok(guest) => desk.converse(
                 rt,
-                Role::Responder,
+                Start::Guest(guest),
                 station,
                 Wire {
-                    heard: heard.as_slice(),
-                    reader: Within::new(&mut reader, whole),
-                    writer: Skipping::new(&mut writer, said),
-                    term: whole,
+                    reader,
+                    writer,
+                    term,
                 },
-            )
-        }
+            ),
+            Err(_) => Err(Trouble::from(RunFault::Read)),
+        },
+    }
+}
+
+/// Sends the last word of an opening.
+fn send_away(
+    rt: &HostRuntime,
+    mut opening: Opening<'_>,
+    writer: &mut impl Write,
+) -> Result<(), RunFault> {
+    let last = opening.take_out(rt.alloc());
+    match writer.write_all(last.as_slice()) {
+        Ok(()) => Ok(()),
+        Err(_) => Err(RunFault::Write),
     }
 }

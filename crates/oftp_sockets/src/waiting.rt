@@ -1,15 +1,15 @@
 //! Callers that wait for admission, all at once. They use nothing but their connections.
 
 use crate::addresses::{accepted, passes};
-use crate::admission::{Said, greet, judged};
 use crate::callers::Trouble;
 use crate::connection::{Connection, is_passing};
 use crate::sessions::Station;
-use oftp_engine::RunFault;
+use oftp_engine::{Admission, RunFault};
+use oftp_life::Opening;
 use oftp_outcomes::Fault;
-use oftp_wire::{Command, Deframer, parse};
+use oftp_session::Ending;
 use std::alloc::Global;
-use std::io::{self, ErrorKind, Read};
+use std::io::{ErrorKind, Read, Write};
 use std::net::{TcpListener, TcpStream};
 use std::time::{Clock, Duration, Instant};
 
@@ -19,34 +19,44 @@ const MOST_WAITING: u64 = 128;
 /// The pause before they are looked at again, in milliseconds.
 const PAUSE: u64 = 5;
 
-/// How many octets of a caller are read before its turn: at least as many as an SSID has.
-const MOST_HEARD: usize = 128;
+/// How many octets of a caller are read at once, at most.
+const PIECE: usize = 4_096;
 
 /// A caller that was greeted.
 #[derive(Drop)]
-pub struct Caller {
-    /// The connection.
-    pub connection: Connection,
-    /// When it was greeted. The time of other sessions isn't counted.
-    pub(super) begun: Instant,
-    /// How long it has to be admitted. Zero if it was given up.
-    pub(super) length: Duration,
-    /// The length of the greeting in octets.
-    pub(super) greeting: u64,
-    // Its octets so far.
-    heard: Vec<u8>,
+pub struct Caller<'b> {
+    connection: Connection,
+    visit: Visit<'b>,
+    // How long it has to be admitted.
+    length: Duration,
     // When it last sent something, or was greeted.
     still_since: Instant,
-    standing: Standing,
+}
+
+/// What has come of a caller so far.
+#[derive(Drop)]
+pub struct Visit<'b> {
+    pub(super) opening: Opening<'b>,
+    /// When it was greeted. The time of other sessions isn't counted.
+    pub(super) begun: Instant,
+    /// The greeting, if sessions are traced.
+    pub(super) said: Vec<u8>,
+    /// Its octets so far, if sessions are traced.
+    pub(super) heard: Vec<u8>,
+    pub(super) standing: Standing,
 }
 
 /// The state of a caller.
 #[derive(Clone, Copy)]
-enum Standing {
+pub(super) enum Standing {
     /// It is waited for.
     Waits,
-    /// Its session ends: it sent what ends it, left, or sent too little in its time.
-    Leaves,
+    /// It has ended its direction before it was admitted.
+    Left,
+    /// It sent too little in its time, or its connection failed.
+    GivenUp,
+    /// Its session has ended like this.
+    SentAway(Ending),
     /// It is to be admitted.
     Enters,
 }
@@ -64,17 +74,21 @@ pub enum Arrival {
 
 /// The waiting callers, in the order in which they came.
 #[derive(Drop)]
-pub struct Waiting<'a> {
+pub struct Waiting<'a, 'b> {
     rt: &'a HostRuntime,
     listener: &'a TcpListener,
     // How long each has to be admitted.
     admission: Duration,
-    callers: Vec<Caller>,
+    callers: Vec<Caller<'b>>,
 }
 
-impl<'a> Waiting<'a> {
+impl<'a, 'b> Waiting<'a, 'b> {
     /// No waiting callers.
-    pub fn new(rt: &'a HostRuntime, listener: &'a TcpListener, admission: Duration) -> Waiting<'a> {
+    pub fn new(
+        rt: &'a HostRuntime,
+        listener: &'a TcpListener,
+        admission: Duration,
+    ) -> Waiting<'a, 'b> {
         Waiting {
             rt,
             listener,
@@ -90,8 +104,8 @@ impl<'a> Waiting<'a> {
     pub(super) fn next_caller(
         &mut self,
         most: u64,
-        station: &Station<'_>,
-    ) -> Result<Caller, Trouble> {
+        station: &Station<'b>,
+    ) -> Result<Caller<'b>, Trouble> {
         for _ in 0..u64::MAX {
             self.welcome(most.min(MOST_WAITING), station)?;
             if let Some(caller) = self.due(station)? {
@@ -107,7 +121,7 @@ impl<'a> Waiting<'a> {
     ///
     /// # Errors
     /// [`Trouble::OfCaller`] for an error of that caller; [`Trouble::OfService`] for one that ends the service.
-    pub fn due(&mut self, station: &Station<'_>) -> Result<Option<Caller>, Trouble> {
+    pub fn due(&mut self, station: &Station<'b>) -> Result<Option<Caller<'b>>, Trouble> {
         let Some(place) = self.called(station)? else {
             return Ok(None);
         };
@@ -126,7 +140,7 @@ impl<'a> Waiting<'a> {
     /// # Errors
     /// [`Trouble::OfCaller`] if a caller can't be greeted, whose connection is closed then; [`Trouble::OfService`] for an error of the
     /// listener, or out of memory.
-    pub fn take_in(&mut self, station: &Station<'_>) -> Result<Arrival, Trouble> {
+    pub fn take_in(&mut self, station: &Station<'b>) -> Result<Arrival, Trouble> {
         if self.callers.len() as u64 >= MOST_WAITING {
             return Ok(Arrival::Nobody);
         }
@@ -157,7 +171,7 @@ impl<'a> Waiting<'a> {
     }
 
     /// Accepts callers, until `most` wait.
-    fn welcome(&mut self, most: u64, station: &Station<'_>) -> Result<(), Trouble> {
+    fn welcome(&mut self, most: u64, station: &Station<'b>) -> Result<(), Trouble> {
         for _ in self.callers.len() as u64..most {
             let Some(stream) = self.arrived()? else {
                 return Ok(());
@@ -187,37 +201,49 @@ impl<'a> Waiting<'a> {
     }
 
     /// Greets the caller of a stream, and makes the stream non-blocking.
-    fn greeted(&self, stream: TcpStream, station: &Station<'_>) -> Result<Caller, Trouble> {
+    fn greeted(&self, stream: TcpStream, station: &Station<'b>) -> Result<Caller<'b>, Trouble> {
         let Ok(connection) = Connection::new(stream, station.patience) else {
             return Err(Trouble::from(RunFault::Read));
         };
         let Ok(begun) = Instant::now(self.rt) else {
             return Err(Trouble::from(RunFault::Read));
         };
-        let alloc = self.rt.alloc();
-        let greeting = greet(alloc, station.book, &connection)?;
+        let mut opening = Opening::new(self.rt.alloc(), station.book);
+        if opening.admission().is_err() {
+            return Err(Trouble::from(Fault::MEMORY));
+        }
+        let said = opening.take_out(self.rt.alloc());
+        let mut writer = &connection;
+        if writer.write_all(said.as_slice()).is_err() {
+            return Err(Trouble::from(RunFault::Write));
+        }
         if connection.set_waiting(false).is_err() {
             return Err(Trouble::from(RunFault::Read));
         }
         Ok(Caller {
             connection,
-            begun,
+            visit: Visit {
+                opening,
+                begun,
+                said,
+                heard: Vec::new(self.rt.alloc()),
+                standing: Standing::Waits,
+            },
             length: self.admission,
-            greeting,
-            heard: Vec::new(alloc),
             still_since: begun,
-            standing: Standing::Waits,
         })
     }
 
     /// The index of the caller whose turn it is, if there is one.
-    fn called(&mut self, station: &Station<'_>) -> Result<Option<usize>, Fault> {
+    fn called(&mut self, station: &Station<'b>) -> Result<Option<usize>, Fault> {
         let rt = self.rt;
         let mut first = None;
         for (place, caller) in self.callers.iter_mut().enumerate() {
             match caller.look(rt, station)? {
                 Standing::Enters => return Ok(Some(place)),
-                Standing::Leaves if first.is_none() => first = Some(place),
+                Standing::Left | Standing::GivenUp | Standing::SentAway(_) if first.is_none() => {
+                    first = Some(place);
+                }
                 _ => {}
             }
         }
@@ -228,7 +254,7 @@ impl<'a> Waiting<'a> {
     ///
     /// # Errors
     /// [`Fault::MEMORY`].
-    pub fn has_guest(&mut self, station: &Station<'_>) -> Result<bool, Fault> {
+    pub fn has_guest(&mut self, station: &Station<'b>) -> Result<bool, Fault> {
         let rt = self.rt;
         for caller in &mut self.callers {
             let standing = caller.look(rt, station)?;
@@ -247,7 +273,7 @@ impl<'a> Waiting<'a> {
             return;
         };
         for caller in &mut self.callers {
-            caller.begun = postponed(rt, caller.begun, passed);
+            caller.visit.begun = postponed(rt, caller.visit.begun, passed);
             caller.still_since = postponed(rt, caller.still_since, passed);
         }
     }
@@ -262,62 +288,42 @@ fn postponed(rt: &HostRuntime, moment: Instant, length: Duration) -> Instant {
     moment.checked_add(length).unwrap_or(moment)
 }
 
-/// A reader over a caller's octets so far, and then its connection.
-#[derive(Drop)]
-pub(super) struct Spoken<'a> {
-    heard: &'a [u8],
-    connection: &'a Connection,
-}
-
-impl Read for Spoken<'_> {
-    fn read(&mut self, piece: &mut [u8]) -> io::Result<usize> {
-        if self.heard.is_empty() {
-            self.connection.read(piece)
-        } else {
-            self.heard.read(piece)
-        }
-    }
-}
-
-impl Caller {
-    /// The code of the partner that it is admitted as. `None` if it isn't admitted, or memory runs out.
+impl Visit<'_> {
+    /// The code of the partner that is let in. `None` if none is, or memory runs out.
     pub fn code(&self, alloc: Global) -> Option<String> {
-        if !matches!(&self.standing, Standing::Enters) {
-            return None;
-        }
-        let mut stream = Deframer::new(alloc, MOST_HEARD);
-        stream.feed(self.heard.as_slice()).ok()?;
-        match parse(stream.next().ok()??) {
-            Ok(Command::Ssid(ssid)) => format!(in alloc; "{}", ssid.code).ok(),
-            _ => None,
-        }
+        let code = str::from_utf8(self.opening.code()?.octets()).ok()?;
+        String::from_str(alloc, code).ok()
     }
+}
 
-    /// A reader over its octets so far, and then its connection.
-    pub(super) fn spoken(&self) -> Spoken<'_> {
-        Spoken {
-            heard: self.heard.as_slice(),
-            connection: &self.connection,
-        }
+impl<'b> Caller<'b> {
+    /// Its connection, and what has come of it.
+    pub fn into_parts(self) -> (Connection, Visit<'b>) {
+        let Caller {
+            connection,
+            visit,
+            ..
+        } = self;
+        (connection, visit)
     }
 
     /// Its state now.
     fn look(&mut self, rt: &HostRuntime, station: &Station<'_>) -> Result<Standing, Fault> {
-        if matches!(&self.standing, Standing::Waits) {
-            self.standing = self.heed(rt, station)?;
+        if matches!(&self.visit.standing, Standing::Waits) {
+            self.visit.standing = self.heed(rt, station)?;
         }
-        Ok(self.standing)
+        Ok(self.visit.standing)
     }
 
     /// Its state after the octets that have arrived were read.
     fn heed(&mut self, rt: &HostRuntime, station: &Station<'_>) -> Result<Standing, Fault> {
-        let mut piece = [0; MOST_HEARD];
+        let mut piece = [0; PIECE];
         let mut connection = &self.connection;
         match connection.read(&mut piece) {
             Ok(count) if count > 0 => self.hear(rt, station, &piece[..count]),
-            Ok(_) => Ok(Standing::Leaves),
+            Ok(_) => Ok(Standing::Left),
             Err(error) if is_passing(&error) => Ok(self.waited(rt, station)),
-            Err(_) => Ok(self.given_up()),
+            Err(_) => Ok(Standing::GivenUp),
         }
     }
 
@@ -328,43 +334,33 @@ impl Caller {
         station: &Station<'_>,
         piece: &[u8],
     ) -> Result<Standing, Fault> {
-        if self.heard.extend_from_slice(piece).is_err() {
+        let visit = &mut self.visit;
+        if station.trace.is_some() && visit.heard.extend_from_slice(piece).is_err() {
             return Err(Fault::MEMORY);
         }
         if let Ok(now) = Instant::now(rt) {
             self.still_since = now;
         }
-        let said = judged(rt.alloc(), station.book, self.heard.as_slice())?;
-        if let Said::TooLittle = said {
-            return Ok(if self.heard.len() < MOST_HEARD {
-                self.waited(rt, station)
-            } else {
-                Standing::Leaves
-            });
+        match visit.opening.hear(piece) {
+            Ok(Admission::Undecided) => Ok(self.waited(rt, station)),
+            Ok(Admission::SentAway(ending)) => Ok(Standing::SentAway(ending)),
+            Ok(Admission::LetIn) => Ok(Standing::Enters),
+            // What an opening says is kept in memory.
+            Err(fault) => Err(Fault::Run(fault).in_memory()),
         }
-        // What arrived in time is answered, however busy the machine is.
-        self.length = station.longest;
-        Ok(match said {
-            Said::Password => Standing::Enters,
-            _ => Standing::Leaves,
-        })
     }
 
     /// Its state if it sent too little so far.
-    fn waited(&mut self, rt: &HostRuntime, station: &Station<'_>) -> Standing {
-        if is_over(rt, self.begun, self.length) {
-            return self.given_up();
+    fn waited(&self, rt: &HostRuntime, station: &Station<'_>) -> Standing {
+        let is_late = match station.patience {
+            Some(patience) => is_over(rt, self.still_since, patience),
+            None => false,
+        };
+        if is_late || is_over(rt, self.visit.begun, self.length) {
+            Standing::GivenUp
+        } else {
+            Standing::Waits
         }
-        match station.patience {
-            Some(patience) if is_over(rt, self.still_since, patience) => self.given_up(),
-            _ => Standing::Waits,
-        }
-    }
-
-    /// The state of a caller that is given up.
-    fn given_up(&mut self) -> Standing {
-        self.length = Duration::from_secs(0);
-        Standing::Leaves
     }
 }
 

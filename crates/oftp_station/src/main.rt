@@ -3,6 +3,7 @@
 
 mod perform;
 
+use oftp_outcomes::Output;
 use perform::{perform, tell_unread};
 use std::process::ExitCode;
 use std::{env, io};
@@ -19,7 +20,12 @@ fn words_of(rt: &HostRuntime) -> io::Result<Vec<String>> {
 fn main(rt: HostRuntime) -> ExitCode {
     let mut err = rt.stderr();
     ExitCode::from(match words_of(&rt) {
-        Ok(words) => perform(&rt, words.as_slice(), &mut rt.stdout(), &mut err),
+        Ok(words) => perform(
+            &rt,
+            words.as_slice(),
+            &mut Output::new(rt.stdout()),
+            &mut err,
+        ),
         Err(error) => tell_unread(&error, &mut err),
     })
 }

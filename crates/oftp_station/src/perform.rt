@@ -2,10 +2,12 @@
 
 mod residence;
 
-use oftp_command_line::{Line, LineFault, line_of};
-use oftp_commands::{self as commands, Asking, reached};
+use oftp_command_line::{Line, LineFault, VERSION, help, line_of};
+use oftp_commands::{self as commands, Asking, Content, reached};
 use oftp_files::{read_book, show};
-use oftp_outcomes::{DONE, FAILED, Fault, Outcome, status_of, tell};
+use oftp_outcomes::{
+    DONE, FAILED, Fault, Outcome, Output, Reader, is_told, status_of, tell, write_line,
+};
 use oftp_store::StoreFault;
 use std::io::{self, ErrorKind, Write};
 use std::os::unix::net::UnixStream;
@@ -18,16 +20,13 @@ const BAD_LINE: u8 = 2;
 pub fn perform(
     rt: &HostRuntime,
     words: &[String],
-    out: &mut impl Write,
+    out: &mut Output<impl Write>,
     err: &mut impl Write,
 ) -> u8 {
     match line_of(rt.alloc(), words) {
         Ok(line) => match carry_out(rt, words, &line, out, err) {
             Ok(status) => status,
-            Err(fault) => {
-                let _ = writeln!(err, "{fault}");
-                FAILED
-            }
+            Err(fault) => tell_fault(fault, reader_of(&line, out), err),
         },
         Err(LineFault::Bad(text)) => {
             let _ = err.write_all(text.as_bytes());
@@ -38,6 +37,23 @@ pub fn perform(
             FAILED
         }
     }
+}
+
+/// Whether somebody reads the output of a command, as far as that matters: a command that does more than to print tells each error.
+fn reader_of<W>(line: &Line<'_>, out: &Output<W>) -> Reader {
+    if line.only_prints() {
+        out.reader()
+    } else {
+        Reader::There
+    }
+}
+
+/// Prints the line of an error to `err`, unless nobody is there to read it. Returns the exit status.
+fn tell_fault(fault: Fault, reader: Reader, err: &mut impl Write) -> u8 {
+    if is_told(fault, reader) {
+        let _ = writeln!(err, "{fault}");
+    }
+    FAILED
 }
 
 /// Reports to `err` that the arguments can't be read. Returns the exit status: 1 if memory ran out, or 2 for a word that isn't UTF-8.
@@ -68,7 +84,7 @@ fn shared_database<'a>(line: &Line<'a>) -> Option<&'a str> {
 }
 
 /// Carries out a command: by the station that runs over its database, or else with the database itself. After an error of the store, such
-/// as a locked database, a station that has started meanwhile is asked.
+/// as a locked database, a station that has started meanwhile is asked. What is read of a pipe is read once, before that.
 fn carry_out(
     rt: &HostRuntime,
     words: &[String],
@@ -76,18 +92,19 @@ fn carry_out(
     out: &mut impl Write,
     err: &mut impl Write,
 ) -> Result<u8, Fault> {
+    let mut content = Content::of(rt, line);
     let Some(database) = shared_database(line) else {
-        return carry_out_alone(rt, line, out, err);
+        return carry_out_alone(rt, line, &mut content, out, err);
     };
     if let Some(stream) = &reached(rt, database) {
-        return carry_out_beside(rt, words, stream, line, out, err);
+        return carry_out_beside(rt, words, stream, line, &mut content, out, err);
     }
-    let done = carry_out_alone(rt, line, out, err);
+    let done = carry_out_alone(rt, line, &mut content, out, err);
     if !matches!(&done, Err(Fault::Store(StoreFault::Store))) {
         return done;
     }
     match &reached(rt, database) {
-        Some(stream) => carry_out_beside(rt, words, stream, line, out, err),
+        Some(stream) => carry_out_beside(rt, words, stream, line, &mut content, out, err),
         None => done,
     }
 }
@@ -98,13 +115,14 @@ fn carry_out_beside(
     words: &[String],
     stream: &UnixStream,
     line: &Line<'_>,
+    content: &mut Content,
     out: &mut impl Write,
     err: &mut impl Write,
 ) -> Result<u8, Fault> {
     match line {
         Line::Collect(collect) => commands::collect_beside(rt, collect, out),
         Line::Offer(offer) => commands::offer_beside(rt, offer, out),
-        _ => ask(Asking::new(rt, words, stream), line, out, err),
+        _ => ask(Asking::new(rt, words, stream), line, content, out, err),
     }
 }
 
@@ -112,11 +130,12 @@ fn carry_out_beside(
 fn ask(
     asking: Asking<'_>,
     line: &Line<'_>,
+    content: &mut Content,
     out: &mut impl Write,
     err: &mut impl Write,
 ) -> Result<u8, Fault> {
     match line {
-        Line::Submit(submit) => asking.submit(submit, out, err),
+        Line::Submit(submit) => asking.submit(submit, content, out, err),
         Line::Release(release) => asking.respond(&release.files, out, err),
         Line::Refuse(refuse) => asking.respond(&refuse.files, out, err),
         Line::Fetch(fetch) => asking.fetch(fetch, out, err),
@@ -132,11 +151,14 @@ fn ask(
 fn carry_out_alone(
     rt: &HostRuntime,
     line: &Line<'_>,
+    content: &mut Content,
     out: &mut impl Write,
     err: &mut impl Write,
 ) -> Result<u8, Fault> {
     match line {
-        Line::Submit(submit) => Ok(status_of(commands::submit(rt, submit, out)?)),
+        Line::Help => print_help(rt, out),
+        Line::Version => print(VERSION, out),
+        Line::Submit(submit) => Ok(status_of(commands::submit(rt, submit, content, out)?)),
         Line::Offer(offer) => commands::offer(rt, offer, out),
         Line::Collect(collect) => commands::collect(rt, collect, out),
         Line::Release(release) => Ok(status_of(commands::release(rt, release, out)?)),
@@ -166,6 +188,20 @@ fn carry_out_alone(
             Ok(DONE)
         }
     }
+}
+
+/// Prints what each command takes and does.
+fn print_help(rt: &HostRuntime, out: &mut impl Write) -> Result<u8, Fault> {
+    match help(rt.alloc()) {
+        Ok(text) => print(text.as_str(), out),
+        Err(_) => Err(Fault::MEMORY),
+    }
+}
+
+/// Prints a text of the program and a line end.
+fn print(text: &str, out: &mut impl Write) -> Result<u8, Fault> {
+    write_line(out, &text)?;
+    Ok(DONE)
 }
 
 /// Reads the book, and counts its partners.

@@ -1,10 +1,13 @@
 -- What opening an office does to the store of a register, in memory or in files.
-use Rattle.std.proofs.Common.{◌≡◌, ◌≤◌, ◌↔◌, ◌∙◌, IsTrue, [], Result, Ok, Err, IfErr, inl, inr, refl, sym, ap, subst, arith}
+use Rattle.std.proofs.Common.{◌≡◌, ◌≤◌, ◌↔◌, ◌⊎◌, ◌∙◌, IsTrue, [], Result, Ok, Err, IfErr, IfOk, MatchResult, inl, inr, refl, sym, ap, subst, arith}
 use Rattle.std.specs.Result.{IsErrAnd}
 use Rattle.std.proofs.lemmas.Result.{err_from_is_err_and}
 use Rattle.sqlite.specs.Tree.{Trees}
 use Rattle.sqlite.specs.Schema.{Schema}
 use Rattle.sqlite.specs.Effect.{Database, IsDatabase}
+use Rattle.sqlite.specs.declared.error.Error.{Error}
+use Rattle.sqlite.specs.Held.{Held}
+use Rattle.sqlite.specs.Opening.{is_open_error}
 use Rattle.sqlite.specs.Files.{HoldsDatabase}
 use Rattle.sqlite.specs.Recovery.{Image}
 use Rattle.sqlite.specs.State.{State, HasCleanDisk, IsLive}
@@ -23,11 +26,13 @@ use Rattle.oftp_tables.specs.Making.{HasFirst, HasOffice, IsEmpty, about_told}
 use Rattle.oftp_tables.specs.Opening.{IsAt, IsAtFirst, IsFirstOf, IsStoreOf}
 use Rattle.oftp_tables.proofs.AboutLemmas.{not_empty}
 use Rattle.oftp_tables.proofs.SchemaLemmas.{same_first, same_none, same_schema}
-use Rattle.oftp_store.specs.declared.file.PathFault.TheVariants.{Unkept}
+use Rattle.oftp_store.specs.declared.path.PathFault.{PathFault}
+use Rattle.oftp_store.specs.declared.path.PathFault.TheVariants.{Unkept}
 use Rattle.oftp_store.specs.declared.file.PathRefused.{PathRefused}
 use Rattle.oftp_store.specs.declared.file.PathRefused.TheVariants as refusal
 use Rattle.oftp_store.specs.declared.open.OpenRefused.{OpenRefused}
-use Rattle.oftp_store.specs.Opens.{Demand, Has, HoldsNoTable, HoldsTaken, IsMigratable, IsOpenable, IsUnopened, LeavesCommitted, Opens, Refuses, RefusesFiles, RefusesPath, to_migrate, to_open}
+use Rattle.oftp_store.specs.Opens.{Demand, Has, HoldsNoTable, HoldsTaken, IsMigratable, IsOpenable, IsUnopened, LeavesCommitted, Opens, Refuses, RefusesFiles, RefusesPath, TellsPath, to_migrate, to_open}
+use Rattle.oftp_store.specs.Paths.{IsFaultFor, IsOpeningFault}
 
 -- an office that was opened over the store of a register has the register
 pub has_after : (Takes Changes : Database → Type 0) (IsOf : Register → State → Type 0) (limits : Limits) (old new : State) (r : Register) → Opens Takes Changes IsOf limits old new
@@ -196,3 +201,63 @@ module _ {S : Type 0} (g : Ghosts S) (demand : Demand) (image : Image) where
       let is : r ≡ Err e = told.1 ∙ ap (λ (x : PathRefused S). Err x) told.2 in
       subst (λ (y : Result Y (PathRefused S)). IfErr y (RefusesPath g demand image)) (sym is)
       (unopened_path e (subst (λ (y : Result X (PathRefused S)). IfErr y IsUnopened) was unopened))
+
+  untold_path : (Fails : Held S → Held S → StoreFault → Type 0) (e : PathRefused S) → IsUnopened e → TellsPath g Fails image e
+  untold_path Fails (refusal.Path fault) h = tt
+  untold_path Fails (refusal.Store refused) h = absurd h
+
+  pub unopened_untold : {X Y : Type 0} (Fails : Held S → Held S → StoreFault → Type 0) (e : PathRefused S) (r : Result Y (PathRefused S)) → IsErrAnd r (λ x. x ≡ e)
+      → (it : Result X (PathRefused S)) → it ≡ Err e → IfErr it IsUnopened → IfErr r (TellsPath g Fails image)
+  unopened_untold {X} {Y} Fails e r h it was unopened =
+      let told = err_from_is_err_and r h in
+      let is : r ≡ Err e = told.1 ∙ ap (λ (x : PathRefused S). Err x) told.2 in
+      subst (λ (y : Result Y (PathRefused S)). IfErr y (TellsPath g Fails image)) (sym is)
+      (untold_path Fails e (subst (λ (y : Result X (PathRefused S)). IfErr y IsUnopened) was unopened))
+
+-- ---- the results of an opening
+
+module _ {X E : Type 0} (A : X → Type 0) (B : E → Type 0) where
+  pub matched_ok : (result : Result X E) (P : X → Type 0) → MatchResult result A B → ((x : X) → A x → P x) → IfOk result P
+  matched_ok (Ok x) P h f = f x h
+  matched_ok (Err e) P h f = tt
+
+  -- of a result of which something else is known too
+  pub both_ok : (result : Result X E) (Q P : X → Type 0) → MatchResult result A B → IfOk result Q → ((x : X) → A x → Q x → P x) → IfOk result P
+  both_ok (Ok x) Q P h k f = f x h k
+  both_ok (Err e) Q P h k f = tt
+
+  -- and of one that has to be an error where this is known
+  pub refused_ok : {Known : Type 0} (result : Result X E) (Q : E → Type 0) (P : X → Type 0) → MatchResult result A B → (Known → MatchResult result (λ _. ⊥) Q) → ((x : X) → A x → ¬ Known → P x)
+      → IfOk result P
+  refused_ok (Ok x) Q P h k f = f x h k
+  refused_ok (Err e) Q P h k f = tt
+
+  pub both_err : {Known : Type 0} (result : Result X E) (Q P : E → Type 0) → MatchResult result A B → (Known → MatchResult result (λ _. ⊥) Q) → ((e : E) → B e → (Known → Q e) → P e)
+      → IfErr result P
+  both_err (Ok x) Q P h k f = tt
+  both_err (Err e) Q P h k f = f e h k
+
+-- the library's answer is carried to the caller of `connect`
+module _ {C L : Type 0} where
+  pub connected_ok : (opened : Result C (Error × L)) (result : Result C PathFault) (P : C → Type 0) → IfOk opened (λ conn. result ≡ Ok conn)
+      → IfErr opened (λ e. IsErrAnd result (IsFaultFor e.0)) → IfOk opened P → IfOk result P
+  connected_ok (Ok conn) result P is other holds = rw is holds
+  connected_ok (Err e) (Ok conn) P is other holds = absurd other
+  connected_ok (Err e) (Err fault) P is other holds = tt
+
+  pub connected_err : (opened : Result C (Error × L)) (result : Result C PathFault) → IfOk opened (λ conn. result ≡ Ok conn) → IfErr opened (λ e. IsErrAnd result (IsFaultFor e.0))
+      → IfErr opened (λ e. IsTrue (is_open_error e.0)) → IfErr result (λ fault. (fault ≡ Unkept) ⊎ IsOpeningFault fault)
+  connected_err (Ok conn) result is other named = rw is tt
+  connected_err (Err e) (Ok conn) is other named = absurd other
+  connected_err (Err e) (Err fault) is other named = inr (record { error = e.0; opening = named; told = other })
+
+  pub connected_kept : {IsKept : Type 0} (opened : Result C (Error × L)) (result : Result C PathFault) → IfOk opened (λ conn. result ≡ Ok conn)
+      → IfErr opened (λ e. IsErrAnd result (IsFaultFor e.0)) → IsKept → (result ≡ Err Unkept) ↔ ¬ IsKept
+  connected_kept (Ok conn) result is other kept = (λ unkept. absurd (let no = is in let so = unkept in cc), λ unkept. absurd (unkept kept))
+  connected_kept (Err e) (Ok conn) is other kept = absurd other
+  connected_kept (Err e) (Err fault) is other kept = (λ unkept. absurd (other.kept (let so = unkept in cc)), λ unkept. absurd (unkept kept))
+
+-- the fault of a path in the error of an office that wasn't opened
+pub told_of_path : {X Y S IsKept : Type 0} (fault : PathFault) → (let first : Result X PathFault = Err fault in first ≡ Err Unkept) ↔ ¬ IsKept
+    → (let last : Result Y (PathRefused S) = Err (refusal.Path fault) in last ≡ Err (refusal.Path Unkept)) ↔ ¬ IsKept
+told_of_path fault files = (λ is. files.0 (let so = is in cc), λ unkept. let so = files.1 unkept in cc)

@@ -33,7 +33,7 @@ pub record CommitsOn {T : Type 0} (limits : Limits) (change : Change) (old new :
   pub left : HasCleanDisk new → Stands limits old → IsFit (register_in limits old.now.trees) change → (db : Trees) → new.may_leave db
       → old.may_leave db ⊎ ((r : Register) × (apply (register_in limits old.now.trees) change ≡ Ok r) × IsContentOf db r)
 
--- Edits run in one transaction: all of them are committed, or none is. An error is one of SQLite.
+-- Edits run in one transaction: all of them are committed, or none is.
 pub record AreCarriedOut {S : Type 0} (edits : List Edit) (g : Ghosts S) (old new : Held S) (result : Result (Unit {0}) OfficeFault) : Type 0 where
   pub transacts : Transacts IsOffice (Moves (MakesAll edits)) (state g old) (state g new) result
   pub told : HasCleanDisk (state g new) → IfErr result (IsFaultOf (IsTransactionError g new))

@@ -6,6 +6,7 @@ pub mod Commits
 pub mod FileProgress
 pub mod Tells
 pub mod Views
+pub mod Paths
 pub mod Opens
 pub mod Allocations
 pub mod ResponseMatches

@@ -1,11 +1,12 @@
 -- What opening an office does to a connection, and to files.
-use Rattle.std.specs.Prelude.{◌≡◌, ◌≢◌, ◌⊎◌, List, ℕ, [], codes, IsTrue}
+use Rattle.std.specs.Prelude.{◌≡◌, ◌≢◌, ◌⊎◌, ⊤, IsTrue}
 use Rattle.sqlite.specs.Tree.{Trees}
 use Rattle.sqlite.specs.Effect.{Database, IsDatabase}
-use Rattle.sqlite.specs.Held.{state}
+use Rattle.sqlite.specs.Held.{Held, IsNew, state}
 use Rattle.sqlite.specs.State.{State, HasCleanDisk}
 use Rattle.sqlite.specs.Files.{HoldsDatabase, IsNothing}
 use Rattle.sqlite.specs.Recovery.{Image}
+use Rattle.sqlite.specs.Start.{FindsIn}
 use Rattle.sqlite_catalog.specs.Listing.{IsSound as IsSoundStore}
 use Rattle.sqlite_trees.specs.declared.store.Store.{Ghosts}
 use Rattle.oftp_register.specs.Register.{Register}
@@ -16,16 +17,12 @@ use Rattle.oftp_tables.specs.Schema.{first_schema, no_schema, office_schema}
 use Rattle.oftp_tables.specs.Making.{HasFirst, IsEmpty}
 use Rattle.oftp_tables.specs.Opening.{IsFirstOf, IsStoreOf}
 use Rattle.oftp_tables.specs.Stands.{IsContentOf}
-use Rattle.oftp_store.specs.declared.file.PathFault.{PathFault}
-use Rattle.oftp_store.specs.declared.file.PathFault.TheVariants as path
+use Rattle.oftp_store.specs.declared.path.PathFault.{PathFault}
+use Rattle.oftp_store.specs.declared.path.PathFault.TheVariants as path
 use Rattle.oftp_store.specs.declared.file.PathRefused.{PathRefused}
 use Rattle.oftp_store.specs.declared.file.PathRefused.TheVariants as refusal
 pub use Rattle.oftp_tables.specs.Stands.{Has}
 pub use Rattle.oftp_tables.specs.Opening.{IsMigratable, IsOpenable, Leaves, Opens, Refuses}
-
--- SQLite keeps a database under this path. Under an empty path it uses a temporary file, and under `:memory:` it uses memory.
-abbrev pub IsKept : List ℕ → Type 0
-IsKept path = (path ≢ []) × (path ≢ codes ":memory:")
 
 -- every database that the files may hold is one that the opening accepts
 abbrev pub HoldsTaken : (Database → Type 0) → (Trees → Type 0) → Type 0
@@ -101,3 +98,10 @@ IsUnopened (refusal.Store refused) = ⊥
 abbrev pub RefusesPath : {S : Type 0} → Ghosts S → Demand → Image → PathRefused S → Type 0
 RefusesPath g demand image (refusal.Path fault) = fault ≢ path.Store WrongSchema
 RefusesPath g demand image (refusal.Store refused) = HasCleanDisk (state g refused.conn) → RefusesFiles demand image refused.fault (state g refused.conn)
+
+-- the store in the files was refused for what SQLite answered in the call, from the connection on that was opened over them
+abbrev pub TellsPath : {S : Type 0} → Ghosts S → (Held S → Held S → StoreFault → Type 0) → Image → PathRefused S → Type 0
+TellsPath {S} g Fails image (refusal.Path fault) = ⊤
+TellsPath {S} g Fails image (refusal.Store refused) =
+    HasCleanDisk (state g refused.conn) → refused.fault ≢ WrongSchema
+    → (first : Held S) × IsNew first × (HasCleanDisk (state g first) → FindsIn image (state g first)) × Fails first refused.conn refused.fault

@@ -6,9 +6,11 @@ mod file;
 mod numbers;
 mod office;
 mod open;
+mod path;
 mod queries;
 
-pub use file::{PathFault, PathRefused, migrate_at, open_at};
+pub use file::{PathRefused, migrate_at, migrate_over, open_at, open_over};
 pub use office::SqlOffice;
 pub use oftp_tables::StoreFault;
 pub use open::OpenRefused;
+pub use path::{PathFault, Unopened, connect};

@@ -1,13 +1,13 @@
 //! Opening and migrating an office over a database connection.
 
-ghost use Rattle.std.specs.Prelude.{◌≡◌, ◌≢◌, ◌≤◌, false, IfOk, MatchResult};
+ghost use Rattle.std.specs.Prelude.{◌≡◌, ◌≢◌, ◌≤◌, false, IfErr, IfOk, MatchResult};
 ghost use Rattle.sqlite.specs.Held.{state};
 ghost use Rattle.sqlite.specs.State.{HasCleanDisk};
 ghost use Rattle.oftp_register.specs.Register.{Register};
 ghost use Rattle.oftp_tables.specs.Schema.{first_schema, office_schema};
 ghost use Rattle.oftp_tables.specs.Making.{HasFirst, HasOffice, IsEmpty};
 ghost use Rattle.oftp_register.specs.declared.fit.TheConstants.{MOST_FILES, MOST_OCTETS};
-ghost use Rattle.oftp_tables.specs.Opening.{IsAt, IsAtFirst};
+ghost use Rattle.oftp_tables.specs.Opening.{FailsToMigrate, FailsToOpen, IsAt, IsAtFirst};
 ghost use Rattle.oftp_store.specs.Opens.{Has, IsMigratable, IsOpenable, Opens, Refuses};
 
 use crate::office::SqlOffice;
@@ -34,7 +34,7 @@ impl<S: Alter> SqlOffice<S> {
     ///
     /// - [`StoreFault::WrongSchema`] exactly where the store isn't empty and doesn't hold just the office's tables, as this call makes
     ///   them, with the right `about`. The store is unchanged.
-    /// - [`StoreFault::Store`] and [`StoreFault::Memory`]: the store has its old content or the new tables.
+    /// - [`StoreFault::Store`] and [`StoreFault::Memory`], from an error of SQLite: the store has its old content or the new tables.
     pub fn open(
         alloc: Global,
         conn: Connection<S>,
@@ -48,6 +48,7 @@ impl<S: Alter> SqlOffice<S> {
             (λ e. Refuses IsOpenable IsEmpty IsAt e.fault (state S.Store conn) (state S.Store e.conn)) }
         ensures foreign { ¬ IsEmpty (state S.Store conn).now → (state S.Store conn).now.schema ≢ office_schema
             → MatchResult result (λ _. ⊥) (λ refused. refused.fault ≡ StoreFault.WrongSchema) }
+        ensures told { IfErr result (λ e. HasCleanDisk (state S.Store e.conn) → e.fault ≢ StoreFault.WrongSchema → FailsToOpen S.Store conn e.conn e.fault) }
     {
         let mut conn = conn;
         match open_tables(&mut conn) {
@@ -81,6 +82,7 @@ impl<S: Alter> SqlOffice<S> {
             → HasOffice (state S.Store conn).now → Has limits r (state S.Store o.conn)) }
         ensures foreign { (state S.Store conn).now.schema ≢ first_schema → (state S.Store conn).now.schema ≢ office_schema
             → MatchResult result (λ _. ⊥) (λ refused. refused.fault ≡ StoreFault.WrongSchema) }
+        ensures told { IfErr result (λ e. HasCleanDisk (state S.Store e.conn) → e.fault ≢ StoreFault.WrongSchema → FailsToMigrate S.Store conn e.conn e.fault) }
     {
         let mut conn = conn;
         match migrate_tables(&mut conn) {

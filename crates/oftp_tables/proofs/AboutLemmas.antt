@@ -14,14 +14,11 @@ use Rattle.sqlite.specs.Listing.{understood, reads_listing}
 use Rattle.sqlite.specs.State.{State, CommitsShowing, FailsToQuery, HasCleanDisk, IsUnchanged, Shown, Survives}
 use Rattle.sqlite.proofs.Callers.{IsPlain, command_of, one_permutation, reads_as}
 use Rattle.oftp_tables.specs.Schema.{about_tree, first_schema, no_schema, office_schema}
-use Rattle.oftp_tables.specs.Making.{HasAbout, about_rows, about_told}
+use Rattle.oftp_tables.specs.Making.{HasAbout, about_rows, about_text, about_told}
 use Rattle.oftp_tables.specs.Transactions.{IsSpared}
 use Rattle.oftp_tables.proofs.ConnectionLemmas.{query_leaves, spared_query, unchanged_query}
 use Rattle.sqlite.specs.declared.error.Error.{Error}
 use Rattle.oftp_tables.proofs.QueryLemmas.{plain_query, chosen, answers}
-
-abbrev pub query_text : List ℕ
-query_text = codes "SELECT id, schema FROM about"
 
 abbrev project : List Term
 project = col 1 0 ∷ col 1 2 ∷ []
@@ -31,9 +28,9 @@ select = Select (record { lets = []; body = plain_query about_tree [] project })
 
 -- what the SQL means over the tables of a schema
 record IsMeant (schema : Schema) : Type 0 where
-  command : command_of (understood schema query_text) ≡ select
-  unlisted : reads_listing schema query_text ≡ false
-  plain : IsPlain (understood schema query_text)
+  command : command_of (understood schema about_text) ≡ select
+  unlisted : reads_listing schema about_text ≡ false
+  plain : IsPlain (understood schema about_text)
 
 meant_first : IsMeant first_schema
 unfolding understood everything
@@ -56,10 +53,10 @@ pub record IsTold (schema : ℕ) (db : Trees) (rows : List Row) : Type 0 where
   pub there : rows ≡ about_rows schema → about_told db ≡ about_rows schema
   pub back : about_told db ≡ about_rows schema → rows ≡ about_rows schema
 
-finds_about : (schema : ℕ) (old new : State) (rows : List Row) → HasAbout old.now.schema → Shown query_text [] old new rows → IsTold schema old.now.trees rows
+finds_about : (schema : ℕ) (old new : State) (rows : List Row) → HasAbout old.now.schema → Shown about_text [] old new rows → IsTold schema old.now.trees rows
 finds_about schema old new rows has h =
     let it = meant old.now.schema has in
-    let read = reads_as query_text [] old new old.now.schema refl select it.command it.plain it.unlisted rows h in
+    let read = reads_as about_text [] old new old.now.schema refl select it.command it.plain it.unlisted rows h in
     let told = about_told old.now.trees in
     let perm : IsPermutation told rows = subst (λ xs. IsPermutation xs rows) (all_chosen (old.now.trees about_tree)) (answers old.now.trees about_tree [] project [] rows (read.answer Null)) in
     record {
@@ -74,16 +71,16 @@ after_error P (Err e) holds = holds
 
 -- what the query does
 module _ (old new : State) (has : HasAbout old.now.schema) where
-  pub about_same : (rows : List Row) → Shown query_text [] old new rows → IsUnchanged old new
-  about_same rows shown = unchanged_query query_text [] old new rows (meant old.now.schema has).plain shown
+  pub about_same : (rows : List Row) → Shown about_text [] old new rows → IsUnchanged old new
+  about_same rows shown = unchanged_query about_text [] old new rows (meant old.now.schema has).plain shown
 
-  pub about_failed : (e : Error) → FailsToQuery query_text [] old new e → IsSpared old new
-  about_failed e fails = spared_query query_text [] old new e (meant old.now.schema has).plain fails
+  pub about_failed : (e : Error) → FailsToQuery about_text [] old new e → IsSpared old new
+  about_failed e fails = spared_query about_text [] old new e (meant old.now.schema has).plain fails
 
-  pub about_leaves : Survives old new (CommitsShowing query_text [] old) → HasCleanDisk new → (db : Trees) → new.may_leave db → old.may_leave db
-  about_leaves survives = query_leaves query_text [] old new (meant old.now.schema has).plain survives
+  pub about_leaves : Survives old new (CommitsShowing about_text [] old) → HasCleanDisk new → (db : Trees) → new.may_leave db → old.may_leave db
+  about_leaves survives = query_leaves about_text [] old new (meant old.now.schema has).plain survives
 
-  pub about_told_by : (schema : ℕ) (rows : List Row) → Shown query_text [] old new rows → IsTold schema old.now.trees rows
+  pub about_told_by : (schema : ℕ) (rows : List Row) → Shown about_text [] old new rows → IsTold schema old.now.trees rows
   about_told_by schema rows shown = finds_about schema old new rows has shown
 
 pub not_empty : no_schema ≡ office_schema → ⊥

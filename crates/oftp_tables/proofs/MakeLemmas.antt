@@ -1,5 +1,5 @@
 -- What the CREATE statements make.
-use Rattle.std.proofs.Common.{◌≡◌, ◌+◌, ◌<◌, ◌∙◌, ℕ, zero, suc, pos, List, [], ◌∷◌, ◌++◌, codes, false, None, Ok, refl, sym, ap, subst, arith}
+use Rattle.std.proofs.Common.{◌≡◌, ◌+◌, ◌<◌, ◌≤◌, ◌∙◌, ℕ, zero, suc, pos, List, [], ◌∷◌, ◌++◌, codes, true, false, None, Result, Ok, Err, IfErr, IsTrue, inl, inr, refl, sym, ap, subst, arith}
 use Rattle.std.specs.List.{AllByRecursion}
 use Rattle.sqlite_tied.specs.Compute.{everything}
 use Rattle.sqlite.specs.declared.types.Value.TheVariants.{Null, Int}
@@ -19,10 +19,16 @@ use Rattle.sqlite.specs.Rowids.TheVariants.{Chosen}
 use Rattle.sqlite.specs.Listing.{understood}
 use Rattle.sqlite.specs.Effect.{Database}
 use Rattle.sqlite.specs.Does.{Does, Tally, lacks_sequence}
-use Rattle.sqlite.specs.State.{State, ExecutesInside, Writes, mode_of}
+use Rattle.sqlite.specs.State.{State, ExecutesInside, HasCleanDisk, Survives, Writes, mode_of}
+use Rattle.sqlite.specs.declared.error.Error.{Error}
+use Rattle.sqlite.specs.Held.{Held, state}
+use Rattle.sqlite.specs.Steps.{FailsToCommit}
+use Rattle.sqlite.specs.View.{doubt}
+use Rattle.sqlite_trees.specs.declared.store.Store.{Ghosts}
+use Rattle.oftp_tables.specs.Transactions.{IsInside, Runs}
 use Rattle.sqlite.proofs.Callers.{IsPlain, command_of, statement_of, runs_as}
 use Rattle.oftp_tables.specs.Schema.{about, about_tree, office_schema, schema_at, table_at, text_at}
-use Rattle.oftp_tables.specs.Making.{Creates, HasEmptyTables, HasTables, IsEmpty, IsNew}
+use Rattle.oftp_tables.specs.Making.{Creates, FailsToKeep, FailsToMake, HasEmptyTables, HasTables, IsEmpty, IsMakingError, IsNew, add_about_text}
 use Rattle.oftp_tables.specs.Tables.{about_row}
 use Rattle.oftp_tables.proofs.WriteLemmas.{inserts, same_value, went}
 use Rattle.oftp_tables.proofs.TermLemmas.{no_works, cast_null, cast_int}
@@ -91,9 +97,6 @@ none_yet db none = record { has = none; empty = tt }
 
 -- ---- the row of `about`
 
-abbrev pub add_about_text : List ℕ
-add_about_text = codes "INSERT INTO about (id, schema) VALUES (1, 2)"
-
 abbrev terms : List Term
 terms = lit (Int (pos 1)) ∷ lit Null ∷ lit (Int (pos 2)) ∷ []
 
@@ -133,3 +136,59 @@ readies count old new up h =
         notes = others.1.1.1.1.1.1.1.0 (λ e. omega (arith, e)) ∙ none.1.1.1.1.1.1.1.0;
       };
     }
+
+-- ---- why the tables weren't made
+
+-- the error of a statement that ran in a transaction
+pub fails_inside : (sql : List ℕ) (params : Row) (old new : State) (result : Result ℕ Error) → (IsTrue old.in_transaction → ExecutesInside 0 sql params old new result) → IsInside old
+    → IfErr result (λ e. ExecutesInside 0 sql params old new (Err e))
+fails_inside sql params old new (Ok count) runs within = tt
+fails_inside sql params old new (Err e) runs within = runs within.inside
+
+-- a transaction goes on after what ran in it
+stays_inside : {T E : Type 0} (Before : Database → Type 0) (Made : Database → Database → Type 0) (old new : State) (x : T) → HasCleanDisk new → IsInside old → Before old.now
+    → Runs {E = E} Before Made old new (Ok x) → Made old.now new.now × IsInside new
+stays_inside Before Made old new x clean within before runs =
+    let done = runs.done clean within before in (done.0, record { is_open = done.1.is_open; inside = done.1.mode })
+
+-- some tables were made, and the next wasn't
+pub fails_at_table : {S : Type 0} (g : Ghosts S) (old mid new : Held S) (at : ℕ) (e : Error) → at < 8
+    → Runs {T = Unit {0}} {E = Error} IsEmpty (λ old new. HasEmptyTables at new) (state g old) (state g mid) (Ok tt) → doubt (state g mid).is_clean ≤ doubt (state g new).is_clean
+    → (HasCleanDisk (state g new) → IsTrue (state g mid).in_transaction → ExecutesInside 0 (text_at at) [] (state g mid) (state g new) (Err e))
+    → HasCleanDisk (state g new) → IsInside (state g old) → IsEmpty (state g old).now → FailsToMake g old new e
+fails_at_table g old mid new at e less runs sure executes clean within empty =
+    let done = stays_inside _ _ _ _ tt (omega (arith, sure, clean)) within empty runs in
+    record { last = mid; before = runs.survives; inside = done.1; statement = inl (at, less, done.0, executes clean done.1.inside) }
+
+-- the tables were made, and `about` wasn't filled
+pub fails_at_about : {S : Type 0} (g : Ghosts S) (old mid new : Held S) (e : Error)
+    → Runs {T = Unit {0}} {E = Error} IsEmpty (λ old new. HasEmptyTables 8 new) (state g old) (state g mid) (Ok tt) → doubt (state g mid).is_clean ≤ doubt (state g new).is_clean
+    → (HasCleanDisk (state g new) → IsInside (state g mid) → ExecutesInside 0 add_about_text [] (state g mid) (state g new) (Err e))
+    → HasCleanDisk (state g new) → IsInside (state g old) → IsEmpty (state g old).now → FailsToMake g old new e
+fails_at_about g old mid new e runs sure executes clean within empty =
+    let done = stays_inside _ _ _ _ tt (omega (arith, sure, clean)) within empty runs in
+    record { last = mid; before = runs.survives; inside = done.1; statement = inr (done.0, executes clean done.1) }
+
+module _ {S : Type 0} (g : Ghosts S) (old begun : Held S) (is : begun ≡ record old { in_transaction = true }) (is_open : IsTrue (state g old).is_open) (empty : IsEmpty (state g old).now) where
+  within : IsInside (state g begun)
+  within = rw is (record { is_open = is_open; inside = refl })
+
+  none : IsEmpty (state g begun).now
+  none = rw is empty
+
+  -- the transaction failed at a statement, and was undone
+  pub fails_on_the_way : {U : Type 0} (failed new : Held S) (result : Result U Error) (e : Error) → result ≡ Err e
+      → (HasCleanDisk (state g failed) → IsInside (state g begun) → IsEmpty (state g begun).now → FailsToMake g begun failed e) → Survives (state g failed) (state g new) (λ _. ⊥)
+      → HasCleanDisk (state g new) → IfErr result (IsMakingError g old new)
+  fails_on_the_way failed new result e told fails undone clean =
+      let made = fails (omega (arith, undone.clean, clean)) within none in
+      rw told (inl (failed, subst (λ h. FailsToMake g h failed e) is made, undone))
+
+  -- it failed at its commit
+  pub fails_at_its_end : (last new : Held S) (result : Result (Unit {0}) Error)
+      → Runs {T = Unit {0}} {E = Error} IsEmpty (λ old new. IsNew new) (state g begun) (state g last) (Ok tt) → doubt (state g last).is_clean ≤ doubt (state g new).is_clean
+      → IfErr result (FailsToCommit (state g last) (state g new)) → HasCleanDisk (state g new) → IfErr result (IsMakingError g old new)
+  fails_at_its_end last new (Ok x) runs sure ends clean = tt
+  fails_at_its_end last new (Err e) runs sure ends clean =
+      let done = stays_inside _ _ _ _ tt (omega (arith, sure, clean)) within none runs in
+      inr (record { last = last; before = subst (λ h. Survives (state g h) (state g last) (λ _. ⊥)) is runs.survives; inside = done.1; made = done.0; commit = ends })

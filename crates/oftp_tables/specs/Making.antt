@@ -1,6 +1,7 @@
 -- How the tables are made.
-use Rattle.std.specs.Prelude.{◌≡◌, ◌⊎◌, ◌+◌, ℕ, List, [], ◌∷◌, map, pos}
+use Rattle.std.specs.Prelude.{◌≡◌, ◌⊎◌, ◌+◌, ◌<◌, ℕ, List, [], ◌∷◌, Err, codes, map, pos, true}
 use Rattle.std.specs.List.{AllByRecursion}
+use Rattle.sqlite.specs.declared.error.Error.{Error}
 use Rattle.sqlite.specs.declared.types.Value.TheVariants.{Int}
 use Rattle.sqlite.specs.Order.{Row, column}
 use Rattle.sqlite.specs.Table.{Table}
@@ -8,9 +9,13 @@ use Rattle.sqlite.specs.Tree.{Trees}
 use Rattle.sqlite.specs.Schema.{Schema}
 use Rattle.sqlite.specs.Change.{next_tree, KeepsRows}
 use Rattle.sqlite.specs.Effect.{Database, IsDatabase}
-use Rattle.sqlite.specs.State.{State}
-use Rattle.oftp_tables.specs.Schema.{about_tree, first_schema, in_file_tree, in_row_tree, issued_tree, no_schema, note_tree, office_schema, out_file_tree, out_row_tree, received_tree, schema_at}
+use Rattle.sqlite.specs.State.{State, ExecutesInside, Survives}
+use Rattle.sqlite.specs.Steps.{FailsToCommit}
+use Rattle.sqlite.specs.Held.{Held, state}
+use Rattle.sqlite_trees.specs.declared.store.Store.{Ghosts}
+use Rattle.oftp_tables.specs.Schema.{about_tree, first_schema, in_file_tree, in_row_tree, issued_tree, no_schema, note_tree, office_schema, out_file_tree, out_row_tree, received_tree, schema_at, text_at}
 use Rattle.oftp_tables.specs.Tables.{about_row}
+use Rattle.oftp_tables.specs.Transactions.{IsInside}
 
 -- the first n tables exist
 abbrev pub HasTables : ℕ → Database → Type 0
@@ -55,6 +60,10 @@ IsEmpty db = db.schema ≡ no_schema
 abbrev pub HasAbout : Schema → Type 0
 HasAbout schema = (schema ≡ first_schema) ⊎ (schema ≡ office_schema)
 
+-- the SQL that reads `about`
+abbrev pub about_text : List ℕ
+about_text = codes "SELECT id, schema FROM about"
+
 -- the rows of `about`: its columns `id` and `schema`
 abbrev pub about_told : Trees → List Row
 about_told db = map (λ row. column row 0 ∷ column row 2 ∷ []) (db about_tree)
@@ -77,3 +86,32 @@ pub record HasFirst (db : Database) : Type 0 where
 pub record IsAsBefore (old new : State) : Type 0 where
   pub now : new.now ≡ old.now
   pub committed : new.committed ≡ old.committed
+
+-- ---- why the tables weren't made
+
+-- the SQL that writes the row of `about`
+abbrev pub add_about_text : List ℕ
+add_about_text = codes "INSERT INTO about (id, schema) VALUES (1, 2)"
+
+-- The making came so far in its transaction, and then this statement returned this error: the one that makes the next table, or the one that
+-- writes the row of `about`.
+pub record FailsToMake {S : Type 0} (g : Ghosts S) (old new : Held S) (e : Error) : Type 0 where
+  pub last : Held S
+  pub before : Survives (state g old) (state g last) (λ _. ⊥)
+  pub inside : IsInside (state g last)
+  pub statement : ((at : ℕ) × (at < 8) × HasEmptyTables at (state g last).now × ExecutesInside 0 (text_at at) [] (state g last) (state g new) (Err e))
+      ⊎ (HasEmptyTables 8 (state g last).now × ExecutesInside 0 add_about_text [] (state g last) (state g new) (Err e))
+
+-- the tables were made in the transaction, and its commit returned this error
+pub record FailsToKeep {S : Type 0} (g : Ghosts S) (old new : Held S) (e : Error) : Type 0 where
+  pub last : Held S
+  pub before : Survives (state g old) (state g last) (λ _. ⊥)
+  pub inside : IsInside (state g last)
+  pub made : IsNew (state g last).now
+  pub commit : FailsToCommit (state g last) (state g new) e
+
+-- the transaction that makes the tables returned this error, at a statement, after which it was undone, or at its commit
+abbrev pub IsMakingError : {S : Type 0} → Ghosts S → Held S → Held S → Error → Type 0
+IsMakingError {S} g old new e =
+    ((failed : Held S) × FailsToMake g (record old { in_transaction = true }) failed e × Survives (state g failed) (state g new) (λ _. ⊥))
+    ⊎ FailsToKeep g (record old { in_transaction = true }) new e

@@ -1,9 +1,11 @@
 -- Which register a store has when it is opened.
-use Rattle.std.specs.Prelude.{◌≡◌, ◌≤◌, ◌⊎◌, false, IsTrue}
+use Rattle.std.specs.Prelude.{◌≡◌, ◌≢◌, ◌≤◌, ◌⊎◌, [], false, IsTrue}
 use Rattle.sqlite.specs.Tree.{Trees}
 use Rattle.sqlite.specs.View.{doubt}
 use Rattle.sqlite.specs.Effect.{Database, IsDatabase}
-use Rattle.sqlite.specs.State.{State, HasCleanDisk}
+use Rattle.sqlite.specs.Held.{Held, state}
+use Rattle.sqlite.specs.State.{State, FailsToQuery, HasCleanDisk}
+use Rattle.sqlite_trees.specs.declared.store.Store.{Ghosts}
 use Rattle.sqlite_catalog.specs.Listing.{IsSound as IsSoundStore}
 use Rattle.oftp_vfile.specs.declared.format.Limits.{Limits}
 use Rattle.oftp_register.specs.Register.{Register, empty}
@@ -11,7 +13,8 @@ use Rattle.oftp_register.specs.Soundness.{IsSound}
 use Rattle.oftp_tables.specs.declared.fault.StoreFault.{StoreFault}
 use Rattle.oftp_tables.specs.declared.fault.StoreFault.TheVariants.{WrongSchema}
 use Rattle.oftp_tables.specs.Schema.{first_schema, no_schema}
-use Rattle.oftp_tables.specs.Making.{HasFirst, HasOffice, IsAsBefore, IsEmpty}
+use Rattle.oftp_tables.specs.Making.{HasFirst, HasOffice, IsAsBefore, IsEmpty, IsMakingError, about_text}
+use Rattle.oftp_tables.specs.Transactions.{IsStoreFaultOf}
 use Rattle.oftp_tables.specs.Migration.{FirstTables, less_texts}
 use Rattle.oftp_tables.specs.Stands.{Has, IsContentOf}
 
@@ -75,3 +78,12 @@ pub record Refuses (Takes Changes : Database → Type 0) (IsOf : Register → St
   pub wrong : HasCleanDisk new → fault ≡ WrongSchema → ¬ Takes old.now × IsAsBefore old new
   pub left : HasCleanDisk new → Leaves IsOf old new
   pub spared : HasCleanDisk new → SparesUnless Changes old new
+
+-- why a store wasn't opened: an error of making the tables, where it had none, or of reading `about`
+pub record FailsToOpen {S : Type 0} (g : Ghosts S) (old new : Held S) (fault : StoreFault) : Type 0 where
+  pub making : IsTrue (state g old).is_open → IsEmpty (state g old).now → IsStoreFaultOf (IsMakingError g old new) fault
+  pub reading : ¬ IsEmpty (state g old).now → IsStoreFaultOf (FailsToQuery about_text [] (state g old) (state g new)) fault
+
+-- why a store wasn't migrated: an error of reading `about`, where it didn't have the tables of schema 1; of those nothing is said
+abbrev pub FailsToMigrate : {S : Type 0} → Ghosts S → Held S → Held S → StoreFault → Type 0
+FailsToMigrate g old new fault = (state g old).now.schema ≢ first_schema → IsStoreFaultOf (FailsToQuery about_text [] (state g old) (state g new)) fault

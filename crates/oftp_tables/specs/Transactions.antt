@@ -66,10 +66,6 @@ IsStatementError {S} g new e = (e ≡ SqliteFailure TransactionState) ⊎ ((old 
 abbrev pub IsTransactionError : {S : Type 0} → Ghosts S → Held S → Error → Type 0
 IsTransactionError {S} g new e = (last : Held S) × (IsStatementError g last e ⊎ FailsToCommit (state g last) (state g new) e)
 
--- a transaction or a query returned it
-abbrev pub IsToldError : {S : Type 0} → Ghosts S → Held S → Held S → Error → Type 0
-IsToldError g old new e = IsTransactionError g new e ⊎ ((text : List ℕ) × (params : Row) × FailsToQuery text params (state g old) (state g new) e)
-
 -- the fault of an error of which this holds
 abbrev pub IsStoreFaultOf : (Error → Type 0) → StoreFault → Type 0
 IsStoreFaultOf Was fault = (e : Error) × Was e × (fault ≢ WrongSchema) × ((fault ≡ Memory) ↔ (e ≡ SqliteFailure OutOfMemory))

@@ -1,14 +1,14 @@
 //! The table `about`, which has the number of the schema.
 
-ghost use Rattle.std.specs.Prelude.{◌≡◌, ◌≢◌, ◌↔◌, ◌⊎◌, ◌<◌, ◌≤◌, [], codes, false, length, pos, IfErr, IfOk, OnOk, OnErr, IsTrue};
+ghost use Rattle.std.specs.Prelude.{◌≡◌, ◌≢◌, ◌↔◌, ◌⊎◌, ◌<◌, ◌≤◌, [], false, length, pos, IfErr, IfOk, OnOk, OnErr, IsTrue};
 ghost use Rattle.sqlite.specs.declared.types.Value.TheVariants.{Int};
 ghost use Rattle.sqlite.specs.Order.{column};
 ghost use Rattle.sqlite.specs.Held.{state};
 ghost use Rattle.sqlite.specs.Tree.{Trees};
 ghost use Rattle.sqlite.specs.View.{doubt};
 ghost use Rattle.sqlite.specs.State.{FailsToQuery, HasCleanDisk, IsUnchanged};
-ghost use Rattle.oftp_tables.specs.Transactions.{IsSpared, IsStoreFaultOf, IsToldError};
-ghost use Rattle.oftp_tables.specs.Making.{HasAbout, IsAsBefore, about_rows, about_told};
+ghost use Rattle.oftp_tables.specs.Transactions.{IsSpared, IsStoreFaultOf};
+ghost use Rattle.oftp_tables.specs.Making.{HasAbout, IsAsBefore, about_rows, about_text, about_told};
 
 use crate::fault::{StoreFault, store_fault_of};
 use sqlite::types::ValueRef;
@@ -45,7 +45,7 @@ fn about_tells<S: Alter>(conn: &mut Connection<S>, schema: u32) -> Result<bool, 
     ensures failed { HasCleanDisk (state S.Store conn.new) → OnErr result (IsSpared (state S.Store conn.old) (state S.Store conn.new)) }
     ensures left { HasCleanDisk (state S.Store conn.new) → (db : Trees) → (state S.Store conn.new).may_leave db → (state S.Store conn.old).may_leave db }
     ensures answer { HasCleanDisk (state S.Store conn.new) → IfOk result (λ right. IsTrue right ↔ (about_told (state S.Store conn.old).now.trees ≡ about_rows schema)) }
-    ensures error { HasCleanDisk (state S.Store conn.new) → IfErr result (FailsToQuery (codes "SELECT id, schema FROM about") [] (state S.Store conn.old) (state S.Store conn.new)) }
+    ensures error { HasCleanDisk (state S.Store conn.new) → IfErr result (FailsToQuery about_text [] (state S.Store conn.old) (state S.Store conn.new)) }
 {
     let rows = conn.query_all("SELECT id, schema FROM about", &[])?;
     Ok(tells(rows.as_slice(), schema))
@@ -65,7 +65,7 @@ pub(crate) fn expect_schema<S: Alter>(
     ensures wrong { HasCleanDisk (state S.Store conn.new) → IfErr result (λ fault. fault ≡ StoreFault.WrongSchema
         → (about_told (state S.Store conn.old).now.trees ≢ about_rows schema) × IsAsBefore (state S.Store conn.old) (state S.Store conn.new)) }
     ensures told { HasCleanDisk (state S.Store conn.new) → IfErr result (λ fault. (fault ≡ StoreFault.WrongSchema)
-        ⊎ IsStoreFaultOf (IsToldError S.Store conn.old conn.new) fault) }
+        ⊎ IsStoreFaultOf (FailsToQuery about_text [] (state S.Store conn.old) (state S.Store conn.new)) fault) }
     ensures left { HasCleanDisk (state S.Store conn.new) → (db : Trees) → (state S.Store conn.new).may_leave db → (state S.Store conn.old).may_leave db }
 {
     match about_tells(conn, schema) {

@@ -1,11 +1,11 @@
 //! Making the tables.
 
-ghost use Rattle.std.specs.Prelude.{◌≡◌, ◌<◌, [], false, IfErr, IsTrue};
+ghost use Rattle.std.specs.Prelude.{◌≡◌, ◌<◌, [], false, Err, IfErr, IsTrue};
 ghost use Rattle.sqlite.specs.Held.{state};
 ghost use Rattle.sqlite.specs.State.{ExecutesInside, HasCleanDisk};
 ghost use Rattle.oftp_tables.specs.Schema.{text_at};
-ghost use Rattle.oftp_tables.specs.Transactions.{IsStatementError, IsTransactionError, Runs, Transacts};
-ghost use Rattle.oftp_tables.specs.Making.{Creates, HasEmptyTables, HasTables, IsEmpty, IsNew};
+ghost use Rattle.oftp_tables.specs.Transactions.{IsInside, IsStatementError, Runs, Transacts};
+ghost use Rattle.oftp_tables.specs.Making.{Creates, FailsToMake, HasEmptyTables, HasTables, IsEmpty, IsMakingError, IsNew, add_about_text};
 
 use sqlite::{Alter, Connection, Error, Transaction};
 
@@ -57,7 +57,8 @@ pub(crate) fn make_table<S: Alter>(tx: &mut Transaction<'_, S>, at: usize) -> Re
 fn make_tables<S: Alter>(tx: &mut Transaction<'_, S>) -> Result<(), Error>
     ensures same_reference { tx.new.conn.ghost_name ≡ tx.old.conn.ghost_name }
     ensures runs { Runs IsEmpty (λ old new. HasEmptyTables 8 new) (state S.Store tx.old.conn.now) (state S.Store tx.new.conn.now) result }
-    ensures told { HasCleanDisk (state S.Store tx.new.conn.now) → IfErr result (IsStatementError S.Store tx.new.conn.now) }
+    ensures told { HasCleanDisk (state S.Store tx.new.conn.now) → IsInside (state S.Store tx.old.conn.now) → IsEmpty (state S.Store tx.old.conn.now).now
+        → IfErr result (FailsToMake S.Store tx.old.conn.now tx.new.conn.now) }
 {
     'tables: for at in 0..8 {
         make_table(tx, at)?;
@@ -68,7 +69,8 @@ fn make_tables<S: Alter>(tx: &mut Transaction<'_, S>) -> Result<(), Error>
 fn add_about<S: Alter>(tx: &mut Transaction<'_, S>) -> Result<usize, Error>
     ensures same_reference { tx.new.conn.ghost_name ≡ tx.old.conn.ghost_name }
     ensures runs { Runs (HasEmptyTables 8) (λ old new. IsNew new) (state S.Store tx.old.conn.now) (state S.Store tx.new.conn.now) result }
-    ensures told { HasCleanDisk (state S.Store tx.new.conn.now) → IfErr result (IsStatementError S.Store tx.new.conn.now) }
+    ensures told { HasCleanDisk (state S.Store tx.new.conn.now) → IsInside (state S.Store tx.old.conn.now)
+        → IfErr result (λ e. ExecutesInside 0 add_about_text [] (state S.Store tx.old.conn.now) (state S.Store tx.new.conn.now) (Err e)) }
 {
     tx.execute("INSERT INTO about (id, schema) VALUES (1, 2)", &[])
 }
@@ -76,7 +78,8 @@ fn add_about<S: Alter>(tx: &mut Transaction<'_, S>) -> Result<usize, Error>
 fn make_all<S: Alter>(tx: &mut Transaction<'_, S>) -> Result<(), Error>
     ensures same_reference { tx.new.conn.ghost_name ≡ tx.old.conn.ghost_name }
     ensures runs { Runs IsEmpty (λ old new. IsNew new) (state S.Store tx.old.conn.now) (state S.Store tx.new.conn.now) result }
-    ensures told { HasCleanDisk (state S.Store tx.new.conn.now) → IfErr result (IsStatementError S.Store tx.new.conn.now) }
+    ensures told { HasCleanDisk (state S.Store tx.new.conn.now) → IsInside (state S.Store tx.old.conn.now) → IsEmpty (state S.Store tx.old.conn.now).now
+        → IfErr result (FailsToMake S.Store tx.old.conn.now tx.new.conn.now) }
 {
     make_tables(tx)?;
     add_about(tx)?;
@@ -84,11 +87,11 @@ fn make_all<S: Alter>(tx: &mut Transaction<'_, S>) -> Result<(), Error>
 }
 
 // Makes the tables in a database that has none, in one transaction.
-#[tactic(auto, using(crate::proofs::RunLemmas::tells_at_end))]
 pub(crate) fn create<S: Alter>(conn: &mut Connection<S>) -> Result<(), Error>
     requires { conn.old.in_transaction ≡ false }
     ensures transacts { Transacts IsEmpty (λ old new. IsNew new) (state S.Store conn.old) (state S.Store conn.new) result }
-    ensures told { HasCleanDisk (state S.Store conn.new) → IfErr result (IsTransactionError S.Store conn.new) }
+    ensures told { HasCleanDisk (state S.Store conn.new) → IsTrue (state S.Store conn.old).is_open → IsEmpty (state S.Store conn.old).now
+        → IfErr result (IsMakingError S.Store conn.old conn.new) }
 {
     let mut tx = conn.transaction();
     make_all(&mut tx)?;

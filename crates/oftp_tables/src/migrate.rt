@@ -11,7 +11,7 @@ ghost use Rattle.oftp_tables.specs.Schema.{first_schema, office_schema};
 ghost use Rattle.oftp_tables.specs.Transactions.{IsCommitted, IsSpared, MayLeave, Runs, Transacts};
 ghost use Rattle.oftp_tables.specs.Making.{HasFirst, HasOffice, IsAsBefore, about_rows, about_told};
 ghost use Rattle.oftp_tables.specs.Migration.{IsMigrated};
-ghost use Rattle.oftp_tables.specs.Opening.{IsAtFirst, IsMigratable, Opens, Refuses};
+ghost use Rattle.oftp_tables.specs.Opening.{FailsToMigrate, IsAtFirst, IsMigratable, Opens, Refuses};
 ghost use Rattle.oftp_tables.specs.MigrationSteps.{AddsNotes, AreNegatives, SetsSchema, Upgrades};
 
 use crate::about::expect_schema;
@@ -139,6 +139,7 @@ pub fn migrate_tables<S: Alter>(conn: &mut Connection<S>) -> Result<(), StoreFau
         (λ _. (limits : Limits) → Opens IsMigratable HasFirst IsAtFirst limits (state S.Store conn.old) (state S.Store conn.new))
         (λ fault. Refuses IsMigratable HasFirst IsAtFirst fault (state S.Store conn.old) (state S.Store conn.new)) }
     ensures foreign { (state S.Store conn.old).now.schema ≢ first_schema → (state S.Store conn.old).now.schema ≢ office_schema → result ≡ Err StoreFault.WrongSchema }
+    ensures told { HasCleanDisk (state S.Store conn.new) → IfErr result (λ fault. fault ≢ StoreFault.WrongSchema → FailsToMigrate S.Store conn.old conn.new fault) }
     ensures found { HasCleanDisk (state S.Store conn.new) → HasOffice (state S.Store conn.old).now → OnOk result (IsUnchanged (state S.Store conn.old) (state S.Store conn.new)) }
 {
     if is_first(conn.schema()) {

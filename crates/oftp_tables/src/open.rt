@@ -1,13 +1,13 @@
 //! Opening a store.
 
-ghost use Rattle.std.specs.Prelude.{◌≡◌, ◌≢◌, ◌⊎◌, Err, false, IfErr, MatchResult, OnOk, IsTrue};
+ghost use Rattle.std.specs.Prelude.{◌≡◌, ◌≢◌, Err, false, IfErr, MatchResult, OnOk, IsTrue};
 ghost use Rattle.sqlite.specs.Held.{state};
 ghost use Rattle.sqlite.specs.State.{HasCleanDisk, IsUnchanged};
 ghost use Rattle.oftp_vfile.specs.declared.format.Limits.{Limits};
 ghost use Rattle.oftp_tables.specs.Schema.{office_schema};
-ghost use Rattle.oftp_tables.specs.Transactions.{IsCommitted, IsStoreFaultOf, IsToldError};
+ghost use Rattle.oftp_tables.specs.Transactions.{IsCommitted};
 ghost use Rattle.oftp_tables.specs.Making.{HasOffice, IsEmpty, IsNew};
-ghost use Rattle.oftp_tables.specs.Opening.{IsAt, IsOpenable, Opens, Refuses};
+ghost use Rattle.oftp_tables.specs.Opening.{FailsToOpen, IsAt, IsOpenable, Opens, Refuses};
 
 use crate::about::expect_schema;
 use crate::fault::{StoreFault, store_fault_of};
@@ -29,8 +29,8 @@ pub fn open_tables<S: Alter>(conn: &mut Connection<S>) -> Result<(), StoreFault>
         (λ _. (limits : Limits) → Opens IsOpenable IsEmpty IsAt limits (state S.Store conn.old) (state S.Store conn.new))
         (λ fault. Refuses IsOpenable IsEmpty IsAt fault (state S.Store conn.old) (state S.Store conn.new)) }
     ensures foreign { ¬ IsEmpty (state S.Store conn.old).now → (state S.Store conn.old).now.schema ≢ office_schema → result ≡ Err StoreFault.WrongSchema }
-    ensures told { HasCleanDisk (state S.Store conn.new) → IfErr result (λ fault. (fault ≡ StoreFault.WrongSchema)
-        ⊎ IsStoreFaultOf (IsToldError S.Store conn.old conn.new) fault) }
+    ensures told { HasCleanDisk (state S.Store conn.new) → IfErr result (λ fault. fault ≢ StoreFault.WrongSchema
+        → FailsToOpen S.Store conn.old conn.new fault) }
     ensures made { HasCleanDisk (state S.Store conn.new) → IsTrue (state S.Store conn.old).is_open → IsEmpty (state S.Store conn.old).now
         → OnOk result (IsNew (state S.Store conn.new).now × IsCommitted (state S.Store conn.old) (state S.Store conn.new)) }
     ensures found { HasCleanDisk (state S.Store conn.new) → HasOffice (state S.Store conn.old).now → OnOk result (IsUnchanged (state S.Store conn.old) (state S.Store conn.new)) }

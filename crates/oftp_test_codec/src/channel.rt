@@ -97,7 +97,7 @@ fn asked(rt: &HostRuntime, octets: &[u8]) -> io::Result<()> {
     print_cuts(rt, Heard::Request, octets)
 }
 
-/// Prints how many octets of a request are missing, at least, if it is cut at each length; `-` if the octets can't begin a request.
+/// Prints the least number of octets that complete a request, if it is cut at each length; `-` if the octets can't begin a request.
 fn print_lacking(rt: &HostRuntime, octets: &[u8]) -> io::Result<()> {
     print!(rt; "  lacking:")?;
     for length in 0..=octets.len() {

@@ -1,4 +1,4 @@
-//! Tests of a station over a database: sessions, operator's calls, lists of jobs, and a conversation in pieces.
+//! Tests of a station over a database: sessions, operator's calls, lists of jobs, and lives, with a session in pieces.
 #![tactic(auto)]
 
 #[cfg(test)]

@@ -12,10 +12,13 @@ mod asking;
 mod growing;
 mod hearing;
 mod lists;
+mod lives;
 mod noting;
+mod openings;
 mod operators;
 mod refused;
 mod stations;
+mod third;
 
 /// The partner's SSID and an EERP.
 const INPUT: &[u8] = b"\x10\0\0\x41X5O0177CARMAKER            CARPW   00128BNYN002N            \r\

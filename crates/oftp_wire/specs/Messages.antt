@@ -1,11 +1,14 @@
 -- The texts that an operator reads.
-use Rattle.std.specs.Prelude.{ℕ, List, [], ◌∷◌, ◌++◌, length, codes, encode_utf8, if◌then◌else◌}
+use Rattle.std.specs.Prelude.{ℕ, Bool, List, [], ◌∷◌, ◌++◌, length, codes, encode_utf8, if◌then◌else◌}
 use Rattle.std.specs.List.{flat_map}
 use Rattle.std.specs.Char.{is_control}
 use Rattle.std.specs.Str.{chars}
 use Rattle.std.specs.Fmt.{decimal}
 use Rattle.oftp_wire.specs.declared.fault.WireFault.{WireFault}
 use Rattle.oftp_wire.specs.declared.fault.WireFault.TheVariants.{UnknownCommand, WrongLength, BadField, BadText, NoRoom}
+use Rattle.oftp_wire.specs.declared.command.Mode.{Mode}
+use Rattle.oftp_wire.specs.declared.command.Mode.TheVariants as modes
+use Rattle.oftp_wire.specs.declared.command.Ssid.{Ssid}
 use Rattle.oftp_wire.specs.declared.command.Sfid.{Sfid}
 use Rattle.oftp_wire.specs.declared.command.Sfna.{Sfna}
 use Rattle.oftp_wire.specs.declared.command.Eerp.{Eerp}
@@ -34,6 +37,28 @@ shown_text bs = flat_map (λ c. encode_utf8 (printable c)) (chars bs)
 abbrev pub text_after_colon : List ℕ → List ℕ
 text_after_colon [] = []
 text_after_colon (b ∷ bs) = codes ": " ++ shown_text (b ∷ bs)
+
+-- the name of a mode
+abbrev pub mode_text : Mode → List ℕ
+mode_text modes.Send = codes "Send"
+mode_text modes.Receive = codes "Receive"
+mode_text modes.Both = codes "Both"
+
+-- a flag
+abbrev pub flag_text : Bool → List ℕ
+flag_text flag = if flag then codes "true" else codes "false"
+
+-- what an SSID negotiates: the buffer, the mode, compression, restart, special logic and the credit
+abbrev pub offer_text : Ssid → List ℕ
+offer_text s =
+    codes ", buffer: " ++ (decimal s.buffer ++ (codes ", mode: " ++ (mode_text s.mode ++ (codes ", compression: " ++ (flag_text s.compression
+    ++ (codes ", restart: " ++ (flag_text s.restart ++ (codes ", special_logic: " ++ (flag_text s.special_logic ++ (codes ", credit: " ++ decimal s.credit))))))))))
+
+-- each field of an SSID but the password
+abbrev pub ssid_text : Ssid → List ℕ
+ssid_text s =
+    codes "Ssid { level: " ++ (decimal s.level ++ (codes ", code: " ++ (s.code ++ (offer_text s
+    ++ (codes ", authentication: " ++ (flag_text s.authentication ++ (codes ", user: " ++ (s.user ++ codes ", .. }"))))))))
 
 -- a virtual file by its dataset name, date and time
 abbrev pub file_text : List ℕ → List ℕ → List ℕ → List ℕ

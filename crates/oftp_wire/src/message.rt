@@ -2,9 +2,9 @@
 
 ghost use Rattle.std.specs.Prelude.{◌≡◌, Some};
 ghost use Rattle.std.specs.Fmt.{DisplaysOnOk, decimal};
-ghost use Rattle.oftp_wire.specs.Messages.{printable, shown_text, text_after_colon, sfid_text, sfna_text, eerp_text, nerp_text, command_text};
+ghost use Rattle.oftp_wire.specs.Messages.{printable, shown_text, text_after_colon, mode_text, offer_text, ssid_text, sfid_text, sfna_text, eerp_text, nerp_text, command_text};
 
-use crate::command::{Command, Eerp, Nerp, Sfid, Sfna, Ssid};
+use crate::command::{Command, Eerp, Mode, Nerp, Sfid, Sfna, Ssid};
 use crate::field::{Count, Digits, Octets, Text, X};
 use crate::words::{
     write_end_reason, write_negative_reason, write_session_reason, write_start_reason,
@@ -161,20 +161,40 @@ impl fmt::Debug for Octets<'_> {
     }
 }
 
+impl fmt::Display for Mode {
+    ghost output = { λ m. Some (mode_text m) };
+
+    fn fmt<W: fmt::Write>(&self, f: &mut fmt::Formatter<W>) -> fmt::Result {
+        f.write_str(match self {
+            Mode::Send => "Send",
+            Mode::Receive => "Receive",
+            Mode::Both => "Both",
+        })
+    }
+}
+
+/// Writes what an SSID negotiates.
+fn write_offer<W: fmt::Write>(f: &mut fmt::Formatter<W>, s: &Ssid) -> fmt::Result
+    ensures { DisplaysOnOk W.write_str_gives f.old result (Some (offer_text s.now)) f.new }
+{
+    write!(
+        f,
+        ", buffer: {}, mode: {}, compression: {}, restart: {}, special_logic: {}, credit: {}",
+        s.buffer, s.mode, s.compression, s.restart, s.special_logic, s.credit
+    )
+}
+
 /// All fields but the password, which must not be logged.
 impl fmt::Debug for Ssid<'_> {
+    ghost debug_output = { λ s. Some (ssid_text s) };
+
     fn fmt<W: fmt::Write>(&self, f: &mut fmt::Formatter<W>) -> fmt::Result {
-        f.debug_struct("Ssid")
-            .field("level", &self.level)
-            .field("code", &self.code)
-            .field("buffer", &self.buffer)
-            .field("mode", &self.mode)
-            .field("compression", &self.compression)
-            .field("restart", &self.restart)
-            .field("special_logic", &self.special_logic)
-            .field("credit", &self.credit)
-            .field("authentication", &self.authentication)
-            .field("user", &self.user)
-            .finish_non_exhaustive()
+        write!(f, "Ssid {{ level: {}, code: {}", self.level, self.code)?;
+        write_offer(f, self)?;
+        write!(
+            f,
+            ", authentication: {}, user: {}, .. }}",
+            self.authentication, self.user
+        )
     }
 }

@@ -4,6 +4,7 @@ use oftp_command_line::Run;
 use oftp_commands::{admission_of, station_of, trace_of};
 use oftp_database::{self as database, DatabaseOffice, PATIENCE};
 use oftp_files::read_book_octets;
+use oftp_life::Life;
 use oftp_outcomes::Fault;
 use oftp_resident::{Bench, codes_of, reside};
 use oftp_sockets::{SocketPlace, Station, bound, socket_fault};
@@ -14,10 +15,10 @@ use std::time::Duration;
 /// Serves partners and commands over the database, which stays open. Writes a line to `out` when it is ready, and one for each session.
 pub(super) fn run(rt: &HostRuntime, line: &Run<'_>, out: &mut impl Write) -> Result<(), Fault> {
     let (octets, book) = read_book_octets(rt, line.files.book)?;
-    let mut office = database::open(rt, line.files.database, PATIENCE)?;
+    let life = database::live(rt, line.files.database, PATIENCE)?;
     let trace = trace_of(rt, &line.files, &line.terms)?;
     let station = station_of(&book, &line.terms, trace.as_ref());
-    run_over(rt, line, &station, octets.as_slice(), &mut office, out)
+    run_over(rt, line, &station, octets.as_slice(), life, out)
 }
 
 /// A copy of a name, if there is one.
@@ -31,13 +32,13 @@ fn name_of(alloc: Global, name: Option<&str>) -> Result<Option<String>, Fault> {
     }
 }
 
-/// Serves them over an open office. `octets` are the book's.
+/// Serves them in a life over the database. `octets` are the book's.
 fn run_over(
     rt: &HostRuntime,
     line: &Run<'_>,
     station: &Station<'_>,
     octets: &[u8],
-    office: &mut DatabaseOffice,
+    life: Life<DatabaseOffice>,
     out: &mut impl Write,
 ) -> Result<(), Fault> {
     let codes = codes_of(rt.alloc(), octets)?;
@@ -61,7 +62,7 @@ fn run_over(
         interval: Duration::from_secs(line.interval),
         jobs: line.jobs,
     };
-    let ended = reside(rt, &bench, station, office, out);
+    let ended = reside(rt, &bench, station, life, out);
     let _ = place.remove(rt);
     ended
 }

@@ -1,11 +1,10 @@
-//! A session over a database whose input arrives in three pieces, with look-ups between them. The octets are written by hand from RFC 5024.
-
-ghost use Rattle.std.specs.Prelude.{◌≢◌, OnOk};
-ghost use Rattle.oftp_session.specs.Standings.{Broken};
+//! A session of a life over a database whose input arrives in three pieces, with look-ups between them. The octets are written by hand from
+//! RFC 5024.
 
 use super::files::{Trial, over_files, remove_files};
-use oftp_durable::go_on_durable;
-use oftp_engine::{Conversation, End, Port, Role, RunFault, serve};
+use oftp_durable::{begin_durable, end_durable, hear_durable, live_durable};
+use oftp_engine::{End, Port, Role, RunFault, serve};
+use oftp_life::{Life, LifeSession};
 use oftp_partners::{Book, read};
 use oftp_register::PlainOffice;
 use oftp_session::Ending;
@@ -43,7 +42,7 @@ const MEANWHILE: &str =
 const WHOLE: &str =
     "in 1 Whole 3 ABC 20240131 1015300001 O0177CARMAKER O0013SUPPLIER Variable 3 |ABC||DE\n";
 
-/// The result of a conversation.
+/// The result of the session.
 #[derive(Drop)]
 struct Talk {
     /// The end, if it has one, after each piece.
@@ -53,37 +52,36 @@ struct Talk {
     said: Vec<u8>,
 }
 
-// Gives it a piece, and continues.
+// Gives it a piece, in a function of its own, so that the proof of the others doesn't carry its effects.
 fn take<S: Alter>(
-    conversation: &mut Conversation<'_>,
-    office: &mut SqlOffice<S>,
-    writer: &mut Port<Vec<u8>>,
+    session: &mut LifeSession<'_, SqlOffice<S>>,
     piece: &[u8],
-) -> Result<Option<Ending>, RunFault>
-    requires { conversation.old.seen.standing ≢ Broken }
-    ensures { OnOk result (conversation.new.seen.standing ≢ Broken) }
-{
-    conversation.hear(piece)?;
-    go_on_durable(conversation, office, writer)
+) -> Result<Option<Ending>, RunFault> {
+    hear_durable(session, piece)
 }
 
 // Gives it the pieces, and reads the register after the second.
-fn converse<S: Alter>(alloc: Global, office: &mut SqlOffice<S>, book: &Book) -> Result<Talk, Fail> {
-    let mut conversation = Conversation::new(alloc, book, Role::Responder);
-    let mut writer = Port::new(Vec::new(alloc), 0);
+fn converse<S: Alter + Drop>(
+    alloc: Global,
+    life: Life<SqlOffice<S>>,
+    book: &Book,
+) -> Result<Talk, Fail> {
+    let mut session = begin_durable(life, alloc, book, Role::Responder);
     let [first, second, third] = PIECES;
-    let one = take(&mut conversation, office, &mut writer, first)?;
-    let two = take(&mut conversation, office, &mut writer, second)?;
-    let meanwhile = snapshot(alloc, office)?;
-    let three = take(&mut conversation, office, &mut writer, third)?;
+    let one = take(&mut session, first)?;
+    let two = take(&mut session, second)?;
+    let meanwhile = snapshot(alloc, &mut session)?;
+    let three = take(&mut session, third)?;
+    let said = session.take_out(alloc);
+    let (_life, _out) = end_durable(session);
     Ok(Talk {
         ends: [one, two, three],
         meanwhile,
-        said: writer.into_inner(),
+        said,
     })
 }
 
-// The conversation waits after two pieces, and then the partner ends it without an error.
+// The session waits after two pieces, and then the partner ends it without an error.
 fn is_heard(talk: &Talk) -> bool {
     talk.ends == [None, None, Some(Ending::Partner(Count::new(0)))]
         && talk.meanwhile.as_str() == MEANWHILE
@@ -109,7 +107,7 @@ fn left_at_once(alloc: Global, rt: &impl Abort, book: &Book) -> Result<String, F
 // The database's files.
 const FILES: [&str; 2] = ["conversation_test.db", "conversation_test.db-wal"];
 
-// The conversation.
+// The session.
 #[derive(Drop)]
 struct Conversing<'a> {
     book: &'a Book,
@@ -124,8 +122,7 @@ impl Trial for Conversing<'_> {
         _rt: &impl Abort,
         office: SqlOffice<S>,
     ) -> Result<Talk, Fail> {
-        let mut office = office;
-        converse(alloc, &mut office, self.book)
+        converse(alloc, live_durable(office), self.book)
     }
 }
 
@@ -147,7 +144,7 @@ impl Trial for Register {
     }
 }
 
-/// The conversation waits after the second piece, and the register can be read. At its end the database has the same register as after a
+/// The session waits after the second piece, and the register can be read. At its end the database has the same register as after a
 /// session with all pieces at once.
 #[test]
 fn conversation_over_a_database(rt: HostRuntime) -> Result<(), Fail> {

@@ -1,9 +1,10 @@
-//! A growing list of jobs over a database. The expected octets are written by hand from RFC 5024.
+//! Jobs of a life over a database, each done as it comes. The expected octets are written by hand from RFC 5024.
 
+use super::READY;
 use super::files::{Trial, over_files, remove_files};
-use super::{AnyJob, READY, call};
-use oftp_durable::do_next_durable;
-use oftp_engine::{End, Job, Operator, Port, Refusal, Role, RunFault, Told};
+use oftp_durable::{begin_durable, end_durable, live_durable, order_durable, stage_durable};
+use oftp_engine::{Operator, Port, Refusal, Role, RunFault, Told};
+use oftp_life::{Life, Stage};
 use oftp_partners::{Book, read};
 use oftp_register::Office;
 use oftp_store::SqlOffice;
@@ -13,57 +14,64 @@ use std::alloc::Global;
 use std::process::Abort;
 use std::test::Fail;
 
-// The result of a job that was done: the end of a session or the result of a call, and its output.
+// The result of a call, and its line.
 #[derive(Drop)]
-enum Done {
-    Session(Option<Result<End, RunFault>>, Vec<u8>),
-    Call(Option<Result<Told, RunFault>>, Vec<u8>),
+struct Called {
+    told: Result<Told, RunFault>,
+    line: Vec<u8>,
 }
 
 fn carried_out<S: Alter>(
     alloc: Global,
-    office: &mut SqlOffice<S>,
+    life: &mut Life<SqlOffice<S>>,
     book: &Book,
-    job: AnyJob<'_>,
-) -> Result<Done, RunFault> {
-    let mut job = job;
-    do_next_durable(alloc, office, book, &mut job)?;
-    Ok(match job {
-        Job::Session(session) => Done::Session(session.result, session.writer.into_inner()),
-        Job::Call(call) => Done::Call(call.result, call.writer.into_inner()),
-    })
+    call: &Operator<'_>,
+) -> Called {
+    let mut writer = Port::new(Vec::new(alloc), 0);
+    let told = order_durable(life, alloc, book, call, &mut writer);
+    Called {
+        told,
+        line: writer.into_inner(),
+    }
 }
 
-// A session in which the partner sends nothing.
-fn silence<'a>(alloc: Global) -> AnyJob<'a> {
-    let nothing: &[u8] = b"";
-    Job::session(
-        Role::Responder,
-        Port::new(nothing, 1_000),
-        Port::new(Vec::new(alloc), 0),
-    )
+// How a session stood when it ended, and all that it said.
+#[derive(Drop)]
+struct Talked {
+    stage: Stage,
+    said: Vec<u8>,
+}
+
+// Holds a session in which the partner sends nothing.
+fn silence<S: Alter + Drop>(
+    alloc: Global,
+    life: Life<SqlOffice<S>>,
+    book: &Book,
+) -> (Life<SqlOffice<S>>, Talked) {
+    let mut session = begin_durable(life, alloc, book, Role::Responder);
+    let said = session.take_out(alloc);
+    let stage = stage_durable(&session);
+    let (life, _out) = end_durable(session);
+    (life, Talked { stage, said })
 }
 
 // A call, a session and a call that is refused are done one by one, and each has its result.
-fn grow<S: Alter>(alloc: Global, rt: &impl Abort, office: &mut SqlOffice<S>) -> Result<(), Fail> {
+fn grow<S: Alter + Drop>(
+    alloc: Global,
+    rt: &impl Abort,
+    life: Life<SqlOffice<S>>,
+) -> Result<Life<SqlOffice<S>>, Fail> {
+    let mut life = life;
     let book = read(alloc, BOOK)?;
-    let submit = call(alloc, Operator::Submit(FILE));
-    let Ok(Done::Call(told, line)) = carried_out(alloc, office, &book, submit) else {
-        return Err("not submitted".into());
-    };
-    assert!(rt; told == Some(Ok(Told::Done)));
-    assert!(rt; line.as_slice() == "done: submit 1\n".as_bytes());
-    let Ok(Done::Session(end, said)) = carried_out(alloc, office, &book, silence(alloc)) else {
-        return Err("not served".into());
-    };
-    assert!(rt; end == Some(Ok(End::Input)));
-    assert!(rt; said.as_slice() == READY);
-    let release = call(alloc, Operator::Release { no: 1 });
-    let Ok(Done::Call(told, _)) = carried_out(alloc, office, &book, release) else {
-        return Err("not carried out".into());
-    };
-    assert!(rt; told == Some(Ok(Told::Refused(Refusal::Unknown))));
-    Ok(())
+    let submit = carried_out(alloc, &mut life, &book, &Operator::Submit(FILE));
+    assert!(rt; submit.told == Ok(Told::Done));
+    assert!(rt; submit.line.as_slice() == "done: submit 1\n".as_bytes());
+    let (mut life, talked) = silence(alloc, life, &book);
+    assert!(rt; talked.stage == Stage::Waits);
+    assert!(rt; talked.said.as_slice() == READY);
+    let release = carried_out(alloc, &mut life, &book, &Operator::Release { no: 1 });
+    assert!(rt; release.told == Ok(Told::Refused(Refusal::Unknown)));
+    Ok(life)
 }
 
 // These jobs, and then how many files there are to send.
@@ -79,16 +87,15 @@ impl Trial for Growing {
         rt: &impl Abort,
         office: SqlOffice<S>,
     ) -> Result<usize, Fail> {
-        let mut office = office;
-        grow(alloc, rt, &mut office)?;
-        Ok(office.list_out()?.len())
+        let mut life = grow(alloc, rt, live_durable(office))?;
+        Ok(life.list_out()?.len())
     }
 }
 
 // The database's files.
 const FILES: [&str; 2] = ["growing_test.db", "growing_test.db-wal"];
 
-/// Jobs are done as they are added, over a database's files.
+/// Jobs are done in a life as they come, over a database's files.
 #[test]
 fn jobs_as_they_come(rt: HostRuntime) -> Result<(), Fail> {
     remove_files(&rt, &FILES);

@@ -1,7 +1,7 @@
 //! Sessions, calls and lists over a database. The expected octets are written by hand from RFC 5024.
 
+use super::READY;
 use super::files::{Trial, over_files, remove_files};
-use super::{AnyJob, READY, call};
 use oftp_durable::{operate_durable, run_at, run_durable, serve_durable};
 use oftp_engine::{End, Job, Operator, Port, Refusal, Role, RunFault, Told};
 use oftp_partners::{Book, read};
@@ -12,6 +12,13 @@ use sqlite::{Alter, Unknown};
 use std::alloc::Global;
 use std::process::Abort;
 use std::test::Fail;
+
+type AnyJob<'a> = Job<'a, &'static [u8], Vec<u8>>;
+
+// An operator's call.
+fn call<'a>(alloc: Global, operator: Operator<'a>) -> AnyJob<'a> {
+    Job::call(operator, Port::new(Vec::new(alloc), 0))
+}
 
 // The result of a call.
 fn answer(job: &AnyJob<'_>) -> Option<Result<Told, RunFault>> {

@@ -1,66 +1,69 @@
-//! A growing list of jobs: each is done as it is added. The octets are written by hand from RFC 5024.
+//! Jobs of a life, each done as it comes. The octets are written by hand from RFC 5024.
 
 use super::answers::{GREETING, OFFER, SENT, TAKES, THREE_OCTETS, joined};
-use super::hearing::{Line, caller};
+use super::hearing::caller;
 use super::noting::Noting;
 use crate::given::BOOK;
 use crate::snapshot::snapshot;
-use oftp_engine::{End, Job, Operator, Port, Role, RunFault, Told, do_next};
+use oftp_engine::{Operator, Port, Role, RunFault, Told};
+use oftp_life::{Life, Stage};
 use oftp_partners::{Book, read};
+use oftp_session::Ending;
 use oftp_wire::Count;
-use std::alloc::Global;
+use std::alloc::{AllocError, Global};
 use std::test::Fail;
 
-type AnyJob<'a> = Job<'a, Line<'a>, Vec<u8>>;
-
-fn submission<'a>(alloc: Global) -> AnyJob<'a> {
-    let writer = Port::new(Vec::new(alloc), 0);
-    Job::call(Operator::Submit(THREE_OCTETS), writer)
+/// The result of a call, and the line that it wrote.
+#[derive(Drop)]
+struct Called {
+    told: Result<Told, RunFault>,
+    line: Vec<u8>,
 }
 
-// A session in which the partner's octets arrive in pieces of seven.
-fn session<'a>(alloc: Global, role: Role<'a>, octets: &'a [u8]) -> AnyJob<'a> {
-    let line = Line {
-        octets,
-        at_once: 7,
-        breaks: false,
-    };
-    Job::session(
-        role,
-        Port::new(line, 1_000_000),
-        Port::new(Vec::new(alloc), 0),
-    )
+/// How a session stood at its end, and all that it said.
+#[derive(Drop)]
+struct Talked {
+    stage: Stage,
+    said: Vec<u8>,
 }
 
-// Does a job in a function of its own, so that the proof of a test doesn't carry its effects.
-fn work(
+// Submits the file, in a function of its own, so that the proof of a test doesn't carry its effects.
+fn submit(alloc: Global, life: &mut Life<Noting>, book: &Book) -> Called {
+    let mut writer = Port::new(Vec::new(alloc), 0);
+    let told = life.order(alloc, book, &Operator::Submit(THREE_OCTETS), &mut writer);
+    Called {
+        told,
+        line: writer.into_inner(),
+    }
+}
+
+// Holds a session in which the partner's octets arrive in pieces of seven.
+fn talk(
     alloc: Global,
-    office: &mut Noting,
+    life: Life<Noting>,
     book: &Book,
-    job: &mut AnyJob<'_>,
-) -> Result<(), RunFault> {
-    do_next(alloc, office, book, job)
+    role: Role<'_>,
+    octets: &[u8],
+) -> Result<(Life<Noting>, Talked), AllocError> {
+    let mut session = life.begin(alloc, book, role);
+    let mut said = session.take_out(alloc);
+    for piece in octets.chunks(7) {
+        let _ = session.hear(piece);
+        said.extend_from_slice(session.take_out(alloc).as_slice())?;
+    }
+    let stage = session.stage();
+    let (life, _out) = session.end();
+    Ok((life, Talked { stage, said }))
 }
 
-// Whether a job is a call that was done and wrote this.
-fn is_done(job: &AnyJob<'_>, line: &[u8]) -> bool {
-    match job {
-        Job::Call(call) => {
-            call.result == Some(Ok(Told::Done)) && call.writer.inner().as_slice() == line
-        }
-        Job::Session(_) => false,
-    }
+// Whether a call was done and wrote this.
+fn is_done(call: &Called, line: &[u8]) -> bool {
+    call.told == Ok(Told::Done) && call.line.as_slice() == line
 }
 
-// Whether a job is a session that the partner ended without an error, with this output.
-fn is_ended(job: &AnyJob<'_>, said: &[u8]) -> bool {
-    match job {
-        Job::Session(session) => {
-            session.result == Some(Ok(End::Partner(Count::new(0))))
-                && session.writer.inner().as_slice() == said
-        }
-        Job::Call(_) => false,
-    }
+// Whether the partner ended a session without an error, with this output.
+fn is_ended(talked: &Talked, said: &[u8]) -> bool {
+    talked.stage == Stage::Ended(Ending::Partner(Count::new(0))) && talked.said.as_slice() == said
 }
 
 /// The file, which the partner took.
@@ -72,17 +75,15 @@ const HANDED: &str =
 fn jobs_as_they_come(rt: HostRuntime) -> Result<(), Fail> {
     let alloc = rt.alloc();
     let book = read(alloc, BOOK)?;
-    let mut office = Noting::new(alloc, None);
-    let mut job = submission(alloc);
-    work(alloc, &mut office, &book, &mut job)?;
-    assert!(rt; is_done(&job, b"done: submit 1\n"));
+    let mut life = Life::new(Noting::new(alloc, None));
+    let called = submit(alloc, &mut life, &book);
+    assert!(rt; is_done(&called, b"done: submit 1\n"));
     let octets = joined(alloc, GREETING, TAKES)?;
     let role = caller(&book, b"O0177CARMAKER")?;
-    let mut job = session(alloc, role, octets.as_slice());
-    work(alloc, &mut office, &book, &mut job)?;
+    let (mut life, talked) = talk(alloc, life, &book, role, octets.as_slice())?;
     let said = joined(alloc, OFFER, SENT)?;
-    assert!(rt; is_ended(&job, said.as_slice()));
-    let left = snapshot(alloc, &mut office)?;
+    assert!(rt; is_ended(&talked, said.as_slice()));
+    let left = snapshot(alloc, &mut life)?;
     assert_eq!(rt; left.as_str(), HANDED);
     Ok(())
 }

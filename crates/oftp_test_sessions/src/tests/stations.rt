@@ -142,7 +142,11 @@ impl Station<'_> {
 
 /// A register as text: for each outgoing file the state and the mark, for each incoming one the state, the number of rows, and how many of
 /// them are the file's.
-fn told(alloc: Global, office: &mut PlainOffice, content: &[u8]) -> Result<String, Fail> {
+pub(crate) fn told(
+    alloc: Global,
+    office: &mut PlainOffice,
+    content: &[u8],
+) -> Result<String, Fail> {
     let mut text = String::new(alloc);
     for file in office.list_out()? {
         writeln!(text, "out {:?} {}", file.state, file.mark)?;

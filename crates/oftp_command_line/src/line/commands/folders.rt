@@ -75,7 +75,7 @@ pub(super) fn offer_arguments<'a>() -> [Argument<'a>; 6]
     let to = "The code of the partner that they go to";
     let from = "The folder that holds them in their local form";
     let format = "The format of their records: F, V, U or T";
-    let longest = "Their longest record in octets, 0 to 99999";
+    let longest = "The length of their records in F, or of the longest in V, 1 to 16384";
     let longest = defaulted("longest", "0", "OCTETS", longest);
     [
         own_database(),

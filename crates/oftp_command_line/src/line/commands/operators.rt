@@ -61,7 +61,7 @@ pub(super) fn submit_arguments<'a>() -> [Argument<'a>; 10]
     let dataset = "The virtual file's dataset name";
     let to = "The code of the partner that it goes to";
     let format = "The format of its records: F, V, U or T";
-    let longest = "Its longest record in octets, 0 to 99999";
+    let longest = "The length of its records in F, or of the longest in V, 1 to 16384";
     let longest = defaulted("longest", "0", "OCTETS", longest);
     let file = "The file that holds it in its local form";
     [

@@ -66,7 +66,7 @@ impl Name {
     }
 
     /// The command's description.
-    pub(super) fn about(self) -> &'static str {
+    pub(in crate::line) fn about(self) -> &'static str {
         match self {
             Name::Init => "Opens the database and makes its tables",
             Name::Migrate => "Brings a database of schema 1 to schema 2",

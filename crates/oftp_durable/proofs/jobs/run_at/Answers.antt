@@ -1,21 +1,12 @@
-use Rattle.std.proofs.Common.{◌≡◌, ◌↔◌, ◌∙◌, ℕ, Result, Err, ap, false, is_ok, subst, sym, true}
-use Rattle.std.specs.Result.{IsErrAnd}
-use Rattle.std.proofs.lemmas.Result.{err_from_is_err_and}
+use Rattle.std.proofs.Common.{◌≡◌, ℕ, ap, false, is_ok, subst, sym, true}
 use Rattle.sqlite.specs.Files.{over_files}
 use Rattle.oftp_vfile.specs.declared.format.Limits.{Limits}
 use Rattle.oftp_register.specs.Register.{empty}
 use Rattle.oftp_store.specs.Opens.{Has}
 use Rattle.oftp_store.specs.Shown.{database_of, limits_of, shown}
 use Rattle.oftp_durable.specs.Lists.{ListLeaves}
+use Rattle.oftp_durable.proofs.Passing.{handed_on}
 use Rattle.oftp_durable.proofs.jobs.run_at.Goals as goal
-
--- the error that `?` passes on
-handed_on : {X Y E IsKept : Type 0} (fault other : E) (r : Result X E) → IsErrAnd r (λ x. x ≡ fault) → (it : Result Y E) → it ≡ Err fault
-    → (it ≡ Err other) ↔ ¬ IsKept → (r ≡ Err other) ↔ ¬ IsKept
-handed_on {X} {Y} {E} fault other r h it was files =
-    let e = err_from_is_err_and r h in
-    let told : r ≡ Err fault = e.1 ∙ ap (λ (x : E). Err x) e.2 in
-    (λ is. files.0 cc, λ unkept. let so = files.1 unkept in cc)
 
 pub returns-clause-leaves : goal.returns-clause-leaves
 returns-clause-leaves g c = λ clean r db is sound holds stands.

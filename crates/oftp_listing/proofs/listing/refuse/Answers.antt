@@ -15,7 +15,8 @@ returns-in_ok-error_reply-in-Ok-true-clause-serves g c =
     let reply = c.in_ok-error_reply-in-Ok-true.ensures in
     inl (record {
       untold = finds.counts;
+      office = reply.office;
       shown' = Some null;
-      reply = reply;
-      right = λ k s. reply ∙ sym (not_allowed _ (sym c.in-Ok-true.field-0-test ∙ finds.answer k s));
+      reply = reply.octets;
+      right = λ k s. reply.octets ∙ sym (not_allowed _ (sym c.in-Ok-true.field-0-test ∙ finds.answer k s));
     })

@@ -18,7 +18,8 @@ returns-in_ok-body_reply-in-Ok-Some-clause-serves g c =
     let reply = c.in_ok-body_reply-in-Ok-Some.ensures in
     inl (record {
       untold = finds.counts;
+      office = reply.office;
       shown' = Some something.0;
-      reply = reply ∙ ap (reply_text 200) something.1;
-      right = λ k s. reply ∙ shows _ _ (finds.answer k s);
+      reply = reply.octets ∙ ap (reply_text 200) something.1;
+      right = λ k s. reply.octets ∙ shows _ _ (finds.answer k s);
     })

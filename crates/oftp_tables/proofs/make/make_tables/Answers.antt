@@ -1,9 +1,9 @@
-use Rattle.std.proofs.Common.{◌∙◌, ◌+◌, ℕ, refl}
+use Rattle.std.proofs.Common.{◌≡◌, ◌∙◌, ◌+◌, ◌<◌, ℕ, Err, refl, rules}
 use Rattle.sqlite.specs.Effect.{Database}
 use Rattle.oftp_tables.specs.Transactions.{Runs}
 use Rattle.oftp_tables.specs.Making.{Creates, HasEmptyTables, HasTables, IsEmpty}
 use Rattle.oftp_tables.proofs.RunLemmas.{nothing_runs, runs_then, runs_weaker, runs_whatever}
-use Rattle.oftp_tables.proofs.MakeLemmas.{none_yet, stays_empty}
+use Rattle.oftp_tables.proofs.MakeLemmas.{fails_at_table, none_yet, stays_empty}
 use Rattle.oftp_tables.proofs.make.make_tables.Goals as goal
 
 pub tables-init : goal.tables-init
@@ -20,3 +20,11 @@ tables-preserved g c =
       same_reference = c.make_table.ensures.same_reference ∙ c.tables.invariant.same_reference;
       runs = runs_whatever IsEmpty (up (at + 1)) _ _ _ tt both;
     }
+
+pub returns-in_err-make_table-clause-told : goal.returns-in_err-make_table-clause-told
+returns-in_err-make_table-clause-told g c clean within empty =
+    let less : c.tables.at < 8 = search rules in
+    let is : c.from_residual.result ≡ Err c.in_err-make_table.field-0.0 = search rules in
+    rw is
+    (fails_at_table g.S.Store c.args.tx.now.conn.now c.tables.tx.conn.now c.make_table.new.tx.conn.now c.tables.at _ less
+    c.tables.invariant.runs c.in_err-make_table.ensures.runs.survives.clean c.in_err-make_table.ensures.statement clean within empty)

@@ -1,0 +1,98 @@
+"""A session with a station over a socket, whose octets come in pieces: what the station must have said by now, and what it may hold where it
+is cut off.
+
+The model of the station (checks/lib/model.py) hears each piece as it is sent. Whatever a command changes is done before the first octet of its
+answer goes out, and a command without an answer changes nothing. So once all answers were read, the register is the model's.
+"""
+
+import contextlib
+import socket
+import struct
+
+import model
+from ready import ready_to_read
+
+# How a session may end whose connection is cut off.
+CUT_ENDS = ["end: input", "fault: 1 read", "fault: 2 write"]
+# How a call may end whose connection is reset before the station has seen it made.
+UNMADE = "fault: 8 socket"
+PIECE = 65536
+
+
+class Talk(model.Hearing):
+    """The partner's side of a session over a connection, and the model of the station's side."""
+
+    def __init__(self, connection, session):
+        super().__init__(session)
+        self.connection = connection
+        self.got = b""
+        self.is_over = False
+        self.begin()
+        connection.setsockopt(socket.IPPROTO_TCP, socket.TCP_NODELAY, 1)
+
+    def begin(self):
+        """From here on it is noted what may be left: each register, with the number of octets that the station has said before it."""
+        self.registers = [(-1, self.session.register.copied())]
+
+    def take(self, command):
+        before = len(self.wanted())
+        super().take(command)
+        if len(self.wanted()) > before:
+            self.registers.append((before, self.session.register.copied()))
+
+    def wanted(self):
+        """All that the station has to say by now."""
+        return b"".join(self.session.out)
+
+    def say(self, octets):
+        """Sends the next octets. The station may have ended the session, and then hears no more."""
+        self.read_what_is_there()
+        self.hear(octets)
+        with contextlib.suppress(BrokenPipeError, ConnectionResetError):
+            self.connection.sendall(octets)
+
+    # what the station says
+
+    def read_what_is_there(self):
+        while not self.is_over and ready_to_read([self.connection], 0):
+            self.read()
+
+    def read(self):
+        """The next octets. At the end of a session a reset may follow them, where the station hasn't read all."""
+        try:
+            piece = self.connection.recv(PIECE)
+        except ConnectionResetError:
+            piece = b""
+        self.got += piece
+        self.is_over = not piece
+
+    def wait(self):
+        """Reads until all answers are there that have to be, the station has ended, or none comes for long."""
+        size = len(self.wanted())
+        with contextlib.suppress(TimeoutError):
+            while not self.is_over and len(self.got) < size:
+                self.read()
+
+    def finish(self):
+        """Says nothing more, and reads up to the end."""
+        with contextlib.suppress(OSError):
+            self.connection.shutdown(socket.SHUT_WR)
+        while not self.is_over:
+            self.read()
+
+    # where it is cut off
+
+    def is_answered(self):
+        return len(self.got) >= len(self.wanted())
+
+    def cut(self, is_reset):
+        """Breaks the connection."""
+        if is_reset:
+            self.connection.setsockopt(socket.SOL_SOCKET, socket.SO_LINGER, struct.pack("ii", 1, 0))
+        self.connection.close()
+
+    def may_be_left(self):
+        """The registers that the station may hold after a cut: that of the last change of which an octet of the answer was read, and each
+        later one."""
+        first = max(number for number, (before, _) in enumerate(self.registers) if before < len(self.got))
+        return [register for _, register in self.registers[first:]]

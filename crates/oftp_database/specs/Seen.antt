@@ -1,0 +1,11 @@
+-- The office over a database that remembers numbers of octets, in the words of its users.
+use Rattle.sqlite_trees.specs.declared.store.Store.{Ghosts}
+use Rattle.oftp_register.specs.Offices.{View}
+use Rattle.oftp_store.specs.Shown.{shown}
+use Rattle.oftp_store.specs.declared.office.SqlOffice.{SqlOffice}
+use Rattle.oftp_listing.specs.Remembering.{remembering}
+use Rattle.oftp_listing.specs.declared.remembering.RememberingOffice.{RememberingOffice}
+
+-- its view: that of the office over the database, with what it remembers
+abbrev pub seen_over : {S : Type 0} (g : Ghosts S) → RememberingOffice (SqlOffice S g) → View
+seen_over g office = remembering office.counts (shown g office.office)

@@ -1,0 +1,111 @@
+-- What a life leaves, in terms of the tables.
+use Rattle.std.proofs.Common.{◌≡◌, ◌∙◌, sym, ap, Bool, true, false, IsTrue, ℕ, List, [], Option, None, Some, Result, Ok, Err, refl, subst}
+use Rattle.sqlite.specs.State.{HasCleanDisk, State}
+use Rattle.sqlite_trees.specs.View.{doubt}
+use Rattle.sqlite_trees.specs.declared.store.Store.{Ghosts}
+use Rattle.oftp_vfile.specs.declared.format.Limits.{Limits}
+use Rattle.oftp_register.specs.declared.entry.Identity.{Identity}
+use Rattle.oftp_register.specs.ByIdentity.{in_at}
+use Rattle.oftp_register.specs.Offices.{View}
+use Rattle.oftp_register.specs.Register.{Register}
+use Rattle.oftp_register.specs.Soundness.{IsSound}
+use Rattle.oftp_session.specs.declared.session.Ending.{Ending}
+use Rattle.oftp_store.specs.Opens.{Has}
+use Rattle.oftp_store.specs.Shown.{database_of, faults_of, limits_of, shown}
+use Rattle.oftp_store.specs.Views.{view_of}
+use Rattle.oftp_store.specs.declared.office.SqlOffice.{SqlOffice}
+use Rattle.oftp_io.specs.declared.port.Port.{Port}
+use Rattle.oftp_engine.specs.Conversation.{Dialogue}
+use Rattle.oftp_engine.specs.Parts.{File, IsSoFar}
+use Rattle.oftp_engine.specs.declared.serving.RunFault.{RunFault}
+use Rattle.oftp_life.specs.Acts.{Act}
+use Rattle.oftp_life.specs.LifeParts.{BringAll}
+use Rattle.oftp_life.specs.Lives.{HasConversed, HasLeft, Holds, IsLeft, IsSession, LifeData, LifeLeaves}
+use Rattle.oftp_life.specs.Outboxes.{contents_of}
+use Rattle.oftp_life.specs.declared.outbox.Outbox.{Outbox}
+use Rattle.oftp_life.specs.declared.stage.Stage.{Stage}
+use Rattle.oftp_life.specs.declared.stage.Stage.TheVariants as stage
+use Rattle.oftp_durable.specs.Headline.{LeavesSoFar}
+use Rattle.oftp_durable.specs.LifeTables.{AllLeaves, HasDoneNothing, LastLeaves, StageLeaves}
+use Rattle.oftp_durable.proofs.Leaving.{conversation_leaves}
+use Rattle.oftp_durable.proofs.LifeCounts.{acts_sound, life_kept}
+
+-- a life that begins with an office
+pub done_nothing : {O : Type 0} (l : LifeData O) (office : O) → (let first : LifeData O = record { office = office; began = office; acts = []; faults = 0; over = false } in l ≡ first)
+    → HasDoneNothing l
+done_nothing {O} l office is =
+    subst (λ (o : O). let first : LifeData O = record { office = o; began = o; acts = []; faults = 0; over = false } in l ≡ first)
+    (sym (ap (λ (x : LifeData O). x.began) is)) is
+
+-- a store that isn't clean shows as shut
+pub open_clean : (is_clean is_open : Bool) → (is_clean ≡ false → is_open ≡ false) → IsTrue is_open → doubt is_clean ≡ 0
+unfolding doubt
+open_clean true is_open shut stands = refl
+open_clean false is_open shut stands = absurd (let no : false ≡ true = sym (shut refl) ∙ stands in cc)
+
+-- the theorem on files that come in parts, for an office
+abbrev pub MakesTheFile : {O : Type 0} → (O → View) → Type 0
+MakesTheFile {O} view =
+    (file : File) (identity : Identity) (first now : O) (acts : List Act) → (view first).clean → (view first).stands → (h : LifeLeaves (view first).register acts (view now))
+    → IsSoFar file (in_at (view first).register identity) → BringAll file identity (view first).register acts h.changes h.least h.covers → (content : (view now).Content)
+    → (view now).may_leave content → (r : Register) × (view now).holds content r × IsSoFar file (in_at r identity)
+
+-- what a life leaves over an office of a database
+pub all_leave : (first : Register) → IsSound first → (acts : List Act) (over : Bool) (limits : Limits) (faults : ℕ) (s : State) (left : IsLeft first acts over (view_of limits faults s))
+    → ((file : File) (identity : Identity) → IsSoFar file (in_at first identity) → BringAll file identity first acts left.leaves.changes left.leaves.least left.leaves.covers
+    → LeavesSoFar file identity s) → AllLeaves first acts over limits s
+all_leave first sound acts over limits faults s left parts =
+    let leaves = left.leaves in
+    record {
+      changes = leaves.changes;
+      least = leaves.least;
+      covers = leaves.covers;
+      left = record { made = leaves.made; left = leaves.leaves.left; register = leaves.leaves.register };
+      alone = λ e. let rests = left.rests e in record { has = (rests.stands, refl); left = rests.left };
+      counts = life_kept first acts leaves.changes leaves.least leaves.covers sound;
+      parts = parts;
+    }
+
+module _ {S : Type 0} (g : Ghosts S) (began : SqlOffice S g) (shut : (database_of g began).is_clean ≡ false → (database_of g began).is_open ≡ false) where
+  pub lasts : MakesTheFile (shown g) → (acts : List Act) (over : Bool) (now : SqlOffice S g) → HasLeft (shown g) began acts over now → HasCleanDisk (database_of g now)
+      → (r : Register) → Has (limits_of began) r (database_of g began) → AllLeaves r acts over (limits_of now) (database_of g now)
+  lasts makes acts over now h clean r has =
+      let left = h clean has.0 in
+      let early = open_clean (database_of g began).is_clean (database_of g began).is_open shut has.0.is_open in
+      subst (λ (x : Register). AllLeaves x acts over (limits_of now) (database_of g now)) has.1
+      (all_leave (shown g began).register has.0.holds.sound acts over (limits_of now) (faults_of now) (database_of g now) left
+      (λ file identity so brings db may. makes file identity began now acts early has.0 left.leaves so brings db may))
+
+-- the session that goes on, or has ended
+module _ {S : Type 0} (g : Ghosts S) (began before now : SqlOffice S g) (acts : List Act) (out : Port Outbox) (dialogue : Dialogue) where
+  abbrev Left : Register → Result (Option Ending) RunFault → Type 0
+  Left r result = LastLeaves r acts (limits_of now) (database_of g now) out result
+
+  conversed_leaves : (r : Register) → Has (limits_of began) r (database_of g began) → (result : Result (Option Ending) RunFault)
+      → HasConversed (shown g) (shown g began).register acts before now out dialogue result → Left r result
+  conversed_leaves r has result h =
+      let first = (shown g began).register in
+      let sound = acts_sound first h.earlier h.changes (shown g before).register h.reached has.0.holds.sound in
+      subst (λ (x : Register). Left x result) has.1 (record {
+        setting = h.setting;
+        heard = h.heard;
+        earlier = h.earlier;
+        are = h.are;
+        changes = h.changes;
+        at = (shown g before).register;
+        reached = h.reached;
+        front = h.front;
+        nothing = h.nothing;
+        leaves = conversation_leaves contents_of (shown g before) h.front out (limits_of now) (faults_of now) (database_of g now) h.setting h.heard sound dialogue result h.comes;
+      })
+
+  stands_so : (r : Register) → Has (limits_of began) r (database_of g began) → (stage' : Stage) → Holds (shown g) stage' (shown g began).register acts before now out dialogue
+      → StageLeaves r acts (limits_of now) (database_of g now) out stage'
+  stands_so r has stage.Waits h = conversed_leaves r has (Ok None) h
+  stands_so r has (stage.Ended ending) h = conversed_leaves r has (Ok (Some ending)) h
+  stands_so r has (stage.Failed fault) h = conversed_leaves r has (Err fault) h
+  stands_so r has stage.Lost h = tt
+
+  pub session_lasts : (stage' : Stage) → IsSession (shown g) began acts before now out dialogue stage' → HasCleanDisk (database_of g now) → (r : Register)
+      → Has (limits_of began) r (database_of g began) → StageLeaves r acts (limits_of now) (database_of g now) out stage'
+  session_lasts stage' is clean r has = stands_so r has stage' (is.holds clean has.0)

@@ -1,0 +1,6 @@
+mod Walks
+mod Lives
+mod Boxes
+mod Openings
+mod Looks
+mod LifeParts

@@ -1,0 +1,22 @@
+//! Theorems about lives.
+
+ghost use Rattle.std.specs.Prelude.{List};
+ghost use Rattle.oftp_register.specs.declared.entry.Identity.{Identity};
+ghost use Rattle.oftp_register.specs.ByIdentity.{in_at};
+ghost use Rattle.oftp_register.specs.Register.{Register};
+ghost use Rattle.oftp_engine.specs.Parts.{File, IsSoFar};
+ghost use Rattle.oftp_life.specs.Acts.{Act};
+ghost use Rattle.oftp_life.specs.LifeParts.{BringAll};
+ghost use Rattle.oftp_life.specs.Lives.{LifeLeaves};
+
+use oftp_register::Office;
+
+/// A file comes in parts, in any sessions of a life that break anywhere, with an operator's calls between them. In each content that a crash
+/// may leave, nothing of the file is here, or a beginning, or the file as one transfer gives it. The function does nothing; its contract is
+/// the theorem.
+pub fn lives_make_the_file<O: Office>()
+    ensures { (file : File) (identity : Identity) (first now : O) (acts : List Act) → (O.view first).clean → (O.view first).stands
+        → (h : LifeLeaves (O.view first).register acts (O.view now)) → IsSoFar file (in_at (O.view first).register identity)
+        → BringAll file identity (O.view first).register acts h.changes h.least h.covers → (content : (O.view now).Content) → (O.view now).may_leave content
+        → (r : Register) × (O.view now).holds content r × IsSoFar file (in_at r identity) }
+{}

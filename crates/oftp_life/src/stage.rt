@@ -1,0 +1,105 @@
+//! How a session of a life stands.
+
+ghost use Rattle.std.specs.Prelude.{◌≡◌};
+ghost use Rattle.oftp_register.specs.Offices.{Counts, next_count};
+ghost use Rattle.oftp_life.specs.Lives.{after_look, ends_life, has_failed, is_of_office, is_over_at, stage_of};
+
+use oftp_engine::RunFault;
+use oftp_register::OfficeFault;
+use oftp_session::Ending;
+
+/// How a session of a life stands.
+#[derive(Clone, Copy, Debug, Drop, PartialEq, Eq)]
+pub enum Stage {
+    /// It waits for more octets.
+    Waits,
+    /// It has ended.
+    Ended(Ending),
+    /// It was cut short.
+    Failed(RunFault),
+    /// The life was over before it, or the office returned an error in a look-up while it waited.
+    Lost,
+}
+
+// Whether an error is the office's.
+fn is_of_office(fault: RunFault) -> bool
+    ensures { result ≡ is_of_office fault }
+{
+    match fault {
+        RunFault::Office => true,
+        RunFault::Read | RunFault::Write | RunFault::Memory => false,
+    }
+}
+
+// Whether a life is over after this result.
+pub(crate) fn ends_life<T>(answer: &Result<T, RunFault>) -> bool
+    ensures { result ≡ ends_life answer.now }
+{
+    match answer {
+        Ok(_) => false,
+        Err(fault) => is_of_office(*fault),
+    }
+}
+
+// Whether a look-up returned an error.
+pub(crate) fn has_failed<T, E>(found: &Result<T, E>) -> bool
+    ensures { result ≡ has_failed found.now }
+{
+    match found {
+        Ok(_) => false,
+        Err(_) => true,
+    }
+}
+
+// Counts the error of a look-up, if it returned one. A refusal isn't counted.
+pub(crate) fn count<T>(faults: &mut u64, found: &Result<T, OfficeFault>)
+    ensures { Counts faults.old faults.new found.now }
+{
+    match found {
+        Ok(_) | Err(OfficeFault::Refused(_)) => {}
+        Err(OfficeFault::Store | OfficeFault::Memory) => *faults = faults.wrapping_add(1),
+    }
+}
+
+// The error of an office that isn't asked any more. It is counted.
+pub(crate) fn lost(faults: &mut u64) -> OfficeFault
+    ensures fault { result ≡ OfficeFault.Store }
+    ensures counts { faults.new ≡ next_count faults.old }
+{
+    *faults = faults.wrapping_add(1);
+    OfficeFault::Store
+}
+
+// How a session that waited stands after a look-up.
+pub(crate) fn after_look<T, E>(found: &Result<T, E>) -> Stage
+    ensures { result ≡ after_look found.now }
+{
+    match found {
+        Ok(_) => Stage::Waits,
+        Err(_) => Stage::Lost,
+    }
+}
+
+// How a session stands after this result.
+pub(crate) fn stage_of(answer: &Result<Option<Ending>, RunFault>) -> Stage
+    ensures { result ≡ stage_of answer.now }
+{
+    match answer {
+        Ok(None) => Stage::Waits,
+        Ok(Some(ending)) => Stage::Ended(*ending),
+        Err(fault) => Stage::Failed(*fault),
+    }
+}
+
+impl Stage {
+    // Whether the life is over.
+    pub(crate) fn is_over(self) -> bool
+        ensures { result ≡ is_over_at self }
+    {
+        match self {
+            Stage::Failed(fault) => is_of_office(fault),
+            Stage::Lost => true,
+            Stage::Waits | Stage::Ended(_) => false,
+        }
+    }
+}

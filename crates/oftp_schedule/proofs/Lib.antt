@@ -1,0 +1,17 @@
+pub mod Numbers
+pub mod Fitting
+pub mod Counting
+pub mod Apart
+pub mod Alone
+pub mod Pacing
+pub mod Firsts
+pub mod Ending
+pub mod Evicting
+pub mod Places
+pub mod Lives
+pub mod Tallies
+pub mod Still
+pub mod Deadlines
+pub mod Within
+pub mod Lengths
+pub mod Wakeups

@@ -1,0 +1,10 @@
+pub mod Rules
+pub mod Machine
+pub mod History
+pub mod Apart
+pub mod Order
+pub mod Ends
+pub mod Doors
+pub mod Life
+pub mod Deadlines
+pub mod Wakeups

@@ -1,0 +1,111 @@
+//! What holds of every run of the schedule, whatever is told: each law is the contract of a function that does nothing.
+
+ghost use Rattle.std.specs.Prelude.{◌≡◌, List, true, ◌≢◌, ◌≤◌, ◌+◌, ◌++◌, ◌∷◌, ℕ};
+ghost use Rattle.oftp_schedule.specs.declared.connection.Limits.{Limits};
+ghost use Rattle.oftp_schedule.specs.Machine.{State, Move, start, run, step, choice, is_ending};
+ghost use Rattle.oftp_schedule.specs.Apart.{IsApart, ChosenApart, IsPaced};
+ghost use Rattle.oftp_schedule.specs.Doors.{evictions, leaver, number};
+ghost use Rattle.oftp_schedule.specs.Order.{IsFirst};
+ghost use Rattle.oftp_schedule.specs.Ends.{BeginsNothing, Departs, IsOver};
+ghost use Rattle.oftp_schedule.specs.declared.connection.Request.{Request};
+ghost use Rattle.oftp_schedule.specs.declared.connection.Action.TheVariants.{Answer};
+ghost use Rattle.oftp_schedule.specs.History.{Note, Ordered, history, watch};
+ghost use Rattle.oftp_schedule.specs.Life.{Unbegun, Broken, life, stage_of, hands, answers, declines, refusals, prints, asks_for, wants_call, handing, times_ordered, times_told};
+ghost use Rattle.oftp_schedule.specs.declared.connection.Event.{Event};
+ghost use Rattle.oftp_schedule.specs.declared.connection.Phase.{Phase};
+ghost use Rattle.oftp_schedule.specs.Deadlines.{IsWithin, SessionsEnd, KeepsEnds, KnowsDeadlines, KnowsClock, KnowsRests, KnowsRoom, KnowsWay, IsUnmovedBy, IsUnmoved, IsKept, IsOnTime, GivesWay, IsHastened, IsToCome};
+ghost use Rattle.oftp_schedule.specs.Wakeups.{GuestsAreAwake, UpdatesAreAwake, UpsAreAwake, ClockIsAwake, QueriesAreAwake, SessionIsAwake, CallsAreAwake, CommandsAreAwake, DoorsAreAwake, EndIsAwake, EndComes};
+
+/// Each deadline lies within its limit, a session ends in its time, and nothing moves that. `Schedule::poll_timeout` is no later than any
+/// moment at which something is to be done. What is told of others, and what is chosen for them, moves no deadline: only the end of the
+/// station makes answers hurry, and from then on none of them gains time. And where the schedule says nothing more, no deadline is past,
+/// and `Schedule::poll_timeout` is to come, if a door rests for any time at all.
+pub fn gone_in_time()
+    ensures within { (limits : Limits) (moves : List Move) → IsWithin limits (run (start limits) moves) }
+    ensures ends { (limits : Limits) (moves : List Move) → SessionsEnd limits (run (start limits) moves) }
+    ensures keeps { (limits : Limits) (moves : List Move) (next : Move) → KeepsEnds (run (start limits) moves) next }
+    ensures least { (limits : Limits) (moves : List Move) → KnowsDeadlines (run (start limits) moves) }
+    ensures clock { (limits : Limits) (moves : List Move) → KnowsClock (run (start limits) moves) }
+    ensures rests { (limits : Limits) (moves : List Move) → KnowsRests (run (start limits) moves) }
+    ensures room { (limits : Limits) (moves : List Move) → KnowsRoom (run (start limits) moves) }
+    ensures way { (limits : Limits) (moves : List Move) → KnowsWay (run (start limits) moves) }
+    ensures told { (limits : Limits) (moves : List Move) (event : Event) → IsUnmovedBy (run (start limits) moves) event }
+    ensures asked { (limits : Limits) (moves : List Move) → IsUnmoved (run (start limits) moves) }
+    ensures kept { (phase : Phase) → IsKept phase }
+    ensures gone { (limits : Limits) (moves : List Move) → IsOnTime (run (start limits) moves) }
+    ensures gives_way { (limits : Limits) (moves : List Move) → GivesWay (run (start limits) moves) }
+    ensures hastens { (limits : Limits) (moves : List Move) (next : Move) → IsHastened (run (start limits) moves) next }
+    ensures to_come { (limits : Limits) (moves : List Move) → IsToCome (run (start limits) moves) }
+{}
+
+/// Nothing waits for nothing. Where the schedule says nothing more, whatever waits does so for something whose end is told (a job of the
+/// office, the look-up of an address, one who is being accepted), or for somebody whose deadline the shell waits for.
+pub fn no_lost_wakeup()
+    ensures guests { (limits : Limits) (moves : List Move) → GuestsAreAwake (run (start limits) moves) }
+    ensures updates { (limits : Limits) (moves : List Move) → UpdatesAreAwake (run (start limits) moves) }
+    ensures ups { (limits : Limits) (moves : List Move) → UpsAreAwake (run (start limits) moves) }
+    ensures clock { (limits : Limits) (moves : List Move) → ClockIsAwake (run (start limits) moves) }
+    ensures queries { (limits : Limits) (moves : List Move) → QueriesAreAwake (run (start limits) moves) }
+    ensures session { (limits : Limits) (moves : List Move) → SessionIsAwake (run (start limits) moves) }
+    ensures calls { (limits : Limits) (moves : List Move) → CallsAreAwake (run (start limits) moves) }
+    ensures commands { (limits : Limits) (moves : List Move) → CommandsAreAwake (run (start limits) moves) }
+    ensures doors { (limits : Limits) (moves : List Move) → DoorsAreAwake (run (start limits) moves) }
+    ensures end { (limits : Limits) (moves : List Move) → EndIsAwake (run (start limits) moves) }
+    ensures end_comes { (limits : Limits) (moves : List Move) → EndComes (run (start limits) moves) }
+{}
+
+/// The life of one connection. An observer of one number, who knows only what was told of it and what was ordered for it, stands
+/// where the schedule has that connection, and nothing happens to it that may not.
+///
+/// So a request is handed over once, and as what it is, and not if it is declined at the end of the station; it is answered once or
+/// declined, and not answered before it was handed over, unless it waits for a call; and one line at most is printed for a connection.
+pub fn at_most_once()
+    ensures life { (limits : Limits) (moves : List Move) (id : ℕ) →
+        watch (life id) Unbegun (history (start limits) moves) ≡ stage_of id (run (start limits) moves) }
+    ensures unbroken { (limits : Limits) (moves : List Move) (id : ℕ) →
+        watch (life id) Unbegun (history (start limits) moves) ≢ Broken }
+    ensures handed { (limits : Limits) (moves : List Move) (id : ℕ) →
+        (times_ordered hands id (history (start limits) moves) ≤ 1) ×
+        (times_ordered hands id (history (start limits) moves) + times_ordered refusals id (history (start limits) moves) ≤ 1) }
+    ensures answered { (limits : Limits) (moves : List Move) (id : ℕ) →
+        times_ordered answers id (history (start limits) moves) + times_ordered declines id (history (start limits) moves) ≤ 1 }
+    ensures printed { (limits : Limits) (moves : List Move) (id : ℕ) → times_ordered prints id (history (start limits) moves) ≤ 1 }
+    ensures asked { (limits : Limits) (moves : List Move) (id : ℕ) (request : Request) (before after : List Note) →
+        history (start limits) moves ≡ before ++ Ordered (handing request id) ∷ after → 1 ≤ times_told (asks_for request) id before }
+    ensures answer { (limits : Limits) (moves : List Move) (id : ℕ) (before after : List Note) →
+        history (start limits) moves ≡ before ++ Ordered (Answer id) ∷ after →
+        1 ≤ times_ordered hands id before + times_told wants_call id before }
+{}
+
+/// One thing at a time. The office has one job at most: a step of a session, a request, or the clock's look-up. There is one session, or one
+/// copy of the database's files, at most, one call that is up without a session, and one connection that is being accepted. A job begins
+/// where the office has none, and a session, a change, a copy, the clock's look-up or a call only where there is neither a session nor a
+/// copy. So between two pieces of a session there are look-ups alone, and while there are octets to hear, a look-up only where the share is
+/// used up: after so many octets, or a wait.
+pub fn one_at_a_time()
+    ensures apart { (limits : Limits) (moves : List Move) → IsApart (run (start limits) moves) }
+    ensures chosen { (limits : Limits) (moves : List Move) → ChosenApart (run (start limits) moves) (choice (run (start limits) moves)) }
+    ensures paced { (limits : Limits) (moves : List Move) → IsPaced (run (start limits) moves) (choice (run (start limits) moves)) }
+{}
+
+/// Of each kind the first in the table is served first, and a session begins only where no change or copy is owed that came within the last
+/// one. Who is let in, and whose request is whole, goes to the end of the table by the machine's definition (`Queue`, specs/Machine.antt).
+pub fn in_order()
+    ensures { (limits : Limits) (moves : List Move) → IsFirst (run (start limits) moves) (choice (run (start limits) moves)) }
+{}
+
+/// Once the station is to end, and a door that failed or a failed office is such a cause, it stays so and nothing new begins: nobody is
+/// accepted or called, and no session, change or copy begins. Once everybody is gone the program ends, and nothing follows.
+pub fn ends_in_order()
+    ensures stays { (state : State) (move : Move) → is_ending state.course ≡ true → is_ending (step state move).0.course ≡ true }
+    ensures nothing_new { (limits : Limits) (moves : List Move) → BeginsNothing (run (start limits) moves) (choice (run (start limits) moves)) }
+    ensures departs { (limits : Limits) (moves : List Move) → Departs (run (start limits) moves) }
+    ensures over { (limits : Limits) (moves : List Move) → IsOver (run (start limits) moves) }
+{}
+
+/// Nobody is closed for another, but where one was accepted at a door that is too full then: the oldest stranger that has been there for
+/// long enough.
+pub fn no_needless_eviction()
+    ensures { (limits : Limits) (moves : List Move) (move : Move)
+        → evictions (step (run (start limits) moves) move).1 ≡ number (leaver (run (start limits) moves) move) }
+{}

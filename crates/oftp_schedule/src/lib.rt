@@ -1,0 +1,12 @@
+//! The schedule of a station, with no sockets and no clock: a shell tells it events and carries out its actions.
+#![tactic(auto)]
+
+mod carrying;
+mod choosing;
+pub mod connection;
+pub mod laws;
+mod receiving;
+mod replying;
+mod rules;
+pub mod schedule;
+mod table;

@@ -1,0 +1,116 @@
+//! The schedule: what was told, what is done next, and what is to be done for it.
+
+ghost use Rattle.std.specs.Prelude.{◌≡◌, ◌+◌, ◌++◌, ◌^◌, ◌<◌, ◌≤◌, ◌∷◌, [], OnOk, IfOk, IsTrue, OnErr, find, map, filter, count_by};
+ghost use Rattle.oftp_schedule.specs.Machine.{start, step, Tell, Ask, IsInTime, and_then, polled, next_time};
+
+use crate::connection::{Action, Clock, Connection, Course, Event, Gate, Kind, Limits, Millis};
+use std::alloc::{AllocError, Global};
+use std::collections::VecDeque;
+use std::marker::Model;
+
+/// The number of no connection: none is accepted, and no call made, from here on.
+pub(crate) const LAST: u64 = 1 << 63;
+
+/// The schedule of a station. The shell around it tells it what has happened by [`Schedule::handle`], does what [`Schedule::poll_action`]
+/// says until it says nothing, and then waits for the next event, or until [`Schedule::poll_timeout`].
+#[derive(Drop)]
+pub struct Schedule {
+    pub(crate) time: Millis,
+    pub(crate) next: u64,
+    pub(crate) left: u64,
+    pub(crate) last: Kind,
+    pub(crate) guest_first: bool,
+    pub(crate) clock: Clock,
+    pub(crate) course: Course,
+    pub(crate) partners: Gate,
+    pub(crate) commands: Gate,
+    pub(crate) requests: Gate,
+    pub(crate) limits: Limits,
+    pub(crate) connections: Vec<Connection>,
+    pub(crate) actions: VecDeque<Action>,
+}
+
+impl Model for Schedule {
+    ghost use Rattle.oftp_schedule.specs.Machine.{Turn, State, has_room};
+
+    ghost Value = { Turn };
+
+    ghost view = { λ a. (
+      record {
+        now = a.time;
+        next = a.next;
+        left = a.left;
+        last = a.last;
+        guest_first = a.guest_first;
+        clock = a.clock;
+        course = a.course;
+        partners = a.partners;
+        commands = a.commands;
+        requests = a.requests;
+        limits = a.limits;
+        connections = a.connections.items;
+      },
+      a.actions.items,
+    ) };
+
+    ghost invariant = { λ a. has_room a.time a.next };
+}
+
+impl Schedule {
+    /// A schedule with these limits, at moment 0 of the clock.
+    pub fn new(alloc: Global, limits: Limits) -> Schedule
+        ensures { result ≡ (start limits, []) }
+    {
+        let clock = if limits.interval > 0 {
+            Clock::At(u64::from(limits.interval))
+        } else {
+            Clock::Off
+        };
+        Schedule {
+            time: 0,
+            next: 0,
+            left: limits.jobs,
+            last: Kind::Updates,
+            guest_first: false,
+            clock,
+            course: Course::Serving,
+            partners: Gate::Quiet,
+            commands: Gate::Quiet,
+            requests: Gate::Quiet,
+            limits,
+            connections: Vec::new(alloc),
+            actions: VecDeque::new(alloc),
+        }
+    }
+
+    /// Takes in what has happened.
+    ///
+    /// # Errors
+    /// Out of memory. The schedule is to be dropped then.
+    pub fn handle(&mut self, event: Event) -> Result<(), AllocError>
+        requires { IsInTime event }
+        ensures { OnOk result (self.new ≡ and_then self.old (step self.old.0 (Tell event))) }
+    {
+        self.receive(event)
+    }
+
+    /// The next action. Without one there is nothing to do before the next event, or [`Schedule::poll_timeout`].
+    ///
+    /// # Errors
+    /// Out of memory. The schedule is to be dropped then.
+    pub fn poll_action(&mut self) -> Result<Option<Action>, AllocError>
+        ensures { IfOk result (λ action. (action, self.new) ≡ polled self.old) }
+    {
+        if self.actions.is_empty() {
+            self.choose()?;
+        }
+        Ok(self.actions.pop_front())
+    }
+
+    /// When the schedule is to be told the time, if nothing happens before.
+    pub fn poll_timeout(&self) -> Option<Millis>
+        ensures { result ≡ next_time self.now.0 }
+    {
+        self.next_time()
+    }
+}
