@@ -8,7 +8,7 @@
     checks/wrong_bodies/wrong_bodies.py --record [CRATE ..]
         as the first; an edit that names no refusal gets the line of what refused it, which a person then reviews
     checks/wrong_bodies/wrong_bodies.py --fits
-        reports whether each edit can be applied to the text that it changes
+        reports whether each edit can be applied to the text that it changes, and whether what it says refuses it is there
     checks/wrong_bodies/wrong_bodies.py --ledger
         reports whether each crate with edits is what it was when all of them were refused
     checks/wrong_bodies/wrong_bodies.py [--jobs N] --stale
@@ -385,13 +385,33 @@ def read_all(crates):
     return edits, lost
 
 
+def names_of(crate):
+    """Each name that the texts of a crate and of those below it have, with the words that name no clause and the clause of `Display`."""
+    parts = [ROOT / "crates" / it / part for it in (*below(crate), crate) for part in PARTS]
+    texts = [it.read_text(encoding="utf-8") for part in parts for it in part.rglob("*") if it.is_file()]
+    return set(re.findall(r"[\w'-]+", "\n".join(texts))) | {"ensures", "invariant", "loop", "safety", "writes"}
+
+
+def unknown_words(edits):
+    """How many edits name a refusal by a name that their crate doesn't have, each of which it reports."""
+    found = 0
+    for crate in sorted({it.crate for it in edits}):
+        names = names_of(crate)
+        for edit in (it for it in edits if it.crate == crate):
+            lost = [it for it in edit.refused_by if not set(re.split(r"::|\.", it.removesuffix("-value"))) <= names]
+            if lost:
+                print(f"{edit.name}: BAD EDIT: it is refused by {', '.join(lost)}, and the crate has no such name")
+            found += bool(lost)
+    return found
+
+
 def fit():
-    """Reports edits that can't be applied, and those that name no refusal, without which none passes."""
+    """Reports edits that can't be applied, those that name what isn't there, and those that name no refusal, without which none passes."""
     edits, lost = read_all([])
     unnamed = [it for it in edits if not it.refused_by]
     for crate in sorted({it.crate for it in unnamed}):
         print(f"{crate}: {sum(it.crate == crate for it in unnamed)} edits name no refusal: checks/wrong_bodies/wrong_bodies.py --record {crate} finds it")
-    return len(edits) + lost, lost
+    return len(edits) + lost, lost + unknown_words(edits)
 
 
 def code_of(path):
