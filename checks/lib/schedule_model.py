@@ -12,7 +12,7 @@ USUAL = {
     **{"partners": 128, "commands": 256, "requests": 64},
     **{"admission": 30_000, "shelter": 5_000, "asking": 30_000, "requesting": 10_000, "patience": 300_000, "longest": 3_600_000},
     **{"farewell": 5_000, "copying": 30_000, "dialing": 30_000, "standing": 5_000, "rest": 1_000, "interval": 0},
-    **{"share": 65_536, "backlog": 2_097_152, "held": 67_108_864, "times": 10, "greeting": 23, "jobs": 0},
+    **{"share": 65_536, "backlog": 2_097_152, "held": 67_108_864, "times": 10, "greeting": 23, "jobs": 0, "counted": 0},
 }
 DOORS = ("partners", "commands", "requests")
 # Numbers end here: none is accepted and no call made from here on, and no moment is later.
@@ -41,7 +41,7 @@ class Partner:
 
 @dataclass
 class Call:
-    """A call: of whom, by the clock (None) or for which command, and how often it may still give way."""
+    """A call: of whom, by the clock (None) or for which command, and how often it may still hang up and be made again."""
 
     partner: Partner
     asker: Optional[int]
@@ -99,8 +99,8 @@ class One:
         return self.stage == "stranger" and self.ripe <= now
 
     def gives_way(self, guest):
-        """When its session gives way to this guest, or None."""
-        if self.talk.unanswered is None:
+        """When its session gives way to this guest, or None. What is there of its partner is heard first."""
+        if self.talk.unanswered is None or self.talk.there != "awaited":
             return None
         return max(self.talk.begun, guest.since) + self.call.partner.pause
 
@@ -111,6 +111,9 @@ class Model:
     def __init__(self, limits):
         self.limits = limits
         self.now = 0
+        # when the last look-up was ordered, and until when none begins within a session
+        self.looked = 0
+        self.quiet = 0
         self.number = 0
         self.left = limits["jobs"]
         self.last = "update"
@@ -166,7 +169,9 @@ class Model:
         self.there[one.number] = self.there.pop(one.number)
 
     def count_job(self):
-        self.left = max(self.left - 1, 0)
+        """A job is done, which counts unless connections over HTTP do (the limit `counted` is 1 then)."""
+        if not self.limits["counted"]:
+            self.left = max(self.left - 1, 0)
 
     def print(self, one, why):
         self.order("print", one.number, why)
@@ -184,6 +189,8 @@ class Model:
             self.end_session()
         if one.stage in LINED and why not in SILENT:
             self.print(one, why)
+        if self.limits["counted"] and one.door == "requests":
+            self.left = max(self.left - 1, 0)
         self.order("close", one.number, why)
 
     def cut(self, one, why):
@@ -386,6 +393,8 @@ class Model:
         self.close(one, "quit")
 
     def served_done(self, one, octets):
+        if one.request == "query":
+            self.quiet = max(self.quiet, self.now + (self.now - self.looked))
         self.answer(one, int(octets))
 
     def copying_ends(self, one):
@@ -393,8 +402,8 @@ class Model:
 
     def answered_went(self, one, left):
         if int(left) > 0:
-            if not self.is_ending():
-                one.until = max(one.until, self.now + self.time_for(one))
+            # once the station ends it gains none: one whose time is over stays so
+            one.until = max(one.until, self.now + (0 if self.is_ending() else self.time_for(one)))
             one.octets = int(left)
         elif one.door == "requests":
             self.part(one)
@@ -404,7 +413,7 @@ class Model:
     # -- what is told of a call
 
     def resolving_resolved(self, one):
-        one.go("dialing", self.now + self.limits["dialing"])
+        one.go("dialing", self.now + min(self.limits["dialing"], one.call.partner.patience))
         self.order("dial", one.number)
 
     def resolving_failed(self, one):
@@ -450,7 +459,8 @@ class Model:
         elif one.stage == "copying":
             self.go_answered(one, 0)
             self.order("decline", one.number, "timed-out")
-        elif one.stage == "connected":
+        elif one.stage == "connected" and one.call.times > 0:
+            one.call.times -= 1
             one.go("wanted")
             self.order("hang-up", one.number)
         else:
@@ -520,9 +530,12 @@ class Model:
         self.order("resolve", one.number)
         return True
 
+    def is_busy(self):
+        return self.clock == "now" or self.first(*AT_WORK) is not None
+
     def work(self):
         """A job, or the next piece of a session."""
-        if self.clock == "now" or self.first(*AT_WORK):
+        if self.is_busy():
             return False
         session = self.first("between")
         if session:
@@ -532,10 +545,10 @@ class Model:
         return self.state == "serving" and self.take_turns()
 
     def go_on(self, one):
-        """A session hears a piece; or a look-up is done, where there is none or its share is used up."""
+        """A session hears a piece; or a look-up is done, where there is none or its share is used up, and not within the rest after another."""
         talk = one.talk
         is_heard = talk.there in ("here", "last") and talk.backlog <= self.limits["backlog"]
-        if (not is_heard or talk.share == 0) and self.look():
+        if (not is_heard or talk.share == 0) and self.quiet <= self.now and self.look():
             return True
         if is_heard:
             one.go("stepping")
@@ -555,11 +568,15 @@ class Model:
         begin = kinds.index(self.last) + 1
         return any(turns[kind]() for kind in kinds[begin:] + kinds[:begin])
 
+    def has_look_up(self):
+        return self.first_ready("query") is not None and self.room() > 0
+
     def look(self):
         one = self.first_ready("query")
-        if one is None or self.room() <= 0:
+        if not self.has_look_up():
             return False
         one.go("served")
+        self.looked = self.now
         for session in self.all("between"):
             session.talk.share = self.limits["share"]
         self.last = "query"
@@ -620,4 +637,6 @@ class Model:
         session, guest = self.first("between"), self.first("guest")
         if session and guest:
             moments.append(session.gives_way(guest))
+        if session and not self.is_busy() and self.has_look_up() and self.quiet > self.now:
+            moments.append(self.quiet)
         return min((moment for moment in moments if moment is not None), default=None)

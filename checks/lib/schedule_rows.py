@@ -51,15 +51,13 @@ class Step(NamedTuple):
 
 
 class Row:
-    """A row: its limits, its steps, and how and at which step the machine departs from it, if it does."""
+    """A row: its limits and its steps."""
 
     def __init__(self, path, name, line):
         self.path = path
         self.name = name
         self.line = line
         self.limits = dict(USUAL)
-        self.departs = None
-        self.departs_at = None
         self.now = 0
         self.steps = []
 
@@ -72,8 +70,6 @@ class Row:
         first, *rest = words
         if first == "limits":
             self.limits.update(numbered(rest, USUAL))
-        elif first == "departs":
-            self.departs, self.departs_at = " ".join(rest), len(self.steps)
         elif first in ("at", "later") and len(rest) == 1:
             self.now = int(rest[0]) + (self.now if first == "later" else 0)
             self.add(">", ["passed", str(self.now)], line)

@@ -8,8 +8,7 @@
 
 The program is that of OFTP_TEST_SCHEDULE, or else that of crates/oftp_test_schedule that was last proved. It and the model of a schedule
 (checks/lib/schedule_model.py) have to order what a row has, after each of its events. After each event of a random list both have to order the
-same, and to want to be told the time at the same moment. A list where they differ is made as short as can be, and printed as a row. A row with a
-line `departs` says what the machine should do and doesn't yet: both depart from it at the step below that line, and once they don't it fails.
+same, and to want to be told the time at the same moment. A list where they differ is made as short as can be, and printed as a row.
 
 Without the program nothing is tried, and it says so. The check goes on beyond its time until each action was ordered, with each reason that it
 may have. The last line is `N passed, M failed`, in rows, and lists of events.
@@ -91,9 +90,10 @@ def judge_row(row, found):
     """What is wrong with a row, in lines."""
     lines = []
     for who, played in (("the program", found), ("the model", played_by_model(row.limits, row.steps))):
-        number, why = difference(row.steps, played, False) or (None, f"it departs from the row no longer: {row.departs}")
-        if number != row.departs_at:
-            lines.append(f"{row.place(number or 0)}: {who}: {why}")
+        wrong = difference(row.steps, played, False)
+        if wrong:
+            number, why = wrong
+            lines.append(f"{row.place(number)}: {who}: {why}")
     return lines
 
 
@@ -108,8 +108,7 @@ def play_rows(names):
         lines = judge_row(row, found)
         failed += bool(lines)
         print("".join(f"{line}\n" for line in lines), end="")
-    departing = [row.name for row in rows if row.departs is not None]
-    print(f"{len(rows) - failed} of {len(rows)} rows pass" + (f"; the machine departs from {', '.join(departing)}" if departing else ""))
+    print(f"{len(rows) - failed} of {len(rows)} rows pass")
     return len(rows) - failed, failed
 
 
@@ -123,7 +122,7 @@ def draw_limits(chance):
     limits.update({name: chance.choice([0, 1, 2, 3, 6]) for name in DOORS})
     limits.update({name: chance.choice([0, 1, 4]) for name in ("backlog", "held", "times", "greeting")}, share=chance.choice([0, 1, 2, 3, 4]))
     limits.update(longest=chance.choice([5, 20, 40]) * slow, interval=chance.choice([0, 0, 0, 4, 9]) * slow)
-    limits.update(jobs=chance.choice([0, 0, 0, 0, 0, 1, 3, 9]))
+    limits.update(jobs=chance.choice([0, 0, 0, 0, 0, 1, 3, 9]), counted=chance.choice([0, 0, 0, 1]))
     return limits
 
 

@@ -33,7 +33,7 @@ use Rattle.oftp_schedule.specs.declared.connection.Session.{Session}
 use Rattle.oftp_schedule.specs.declared.connection.Connection.{Connection}
 use Rattle.oftp_schedule.specs.declared.connection.Limits.{Limits}
 use Rattle.oftp_schedule.specs.Rules.{is_hearable, answered, rule, is_late, late, dismissal, concerns, at_office, in_session, is_between_phase, is_guest_phase, is_query_phase, is_update_phase, is_owed_phase, is_copying_phase, is_wanted_phase, is_connected_phase, is_up_phase, is_arriving_phase, in_phase, call_in, calls, is_other, connection_at, phase_at, became, is_orphan, is_to_tell, room_left}
-use Rattle.oftp_schedule.specs.Machine.{State, Turn, with_connections, is_ending, limits_now, replied_at, told, gate, with_gate, knocked, first_phase, makes_room, accepted, accepted_at, is_reviewing, with_call, due_to, reviewed, received, or_else, choice_of, is_enough, finish, expiry, dismissed, orphaned, call_over, is_to_yield, yielded, yield_to, yield_for, way_given, is_knocked, has_place, admit, admission, sought, dial, consult, within, requested, update, new_session, guest_session, called_session, call_session, in_turn, inspection, between_jobs, outside, job_for, job, departed, departure, is_past, choice, welcomed, chosen, first_clock, start, Move, step, run, Tell, Ask}
+use Rattle.oftp_schedule.specs.Machine.{State, Turn, with_connections, is_ending, limits_now, replied_at, told, gate, with_gate, knocked, first_phase, makes_room, accepted, accepted_at, is_reviewing, with_call, due_to, reviewed, received, or_else, choice_of, is_enough, finish, expiry, dismissed, orphaned, call_over, is_to_yield, yielded, yield_to, yield_for, way_given, is_knocked, has_place, admit, admission, sought, dial, consult, consult_within, within, requested, update, new_session, guest_session, called_session, call_session, in_turn, inspection, between_jobs, outside, job_for, job, departed, departure, is_past, choice, welcomed, chosen, first_clock, start, Move, step, run, Tell, Ask}
 use Rattle.oftp_schedule.specs.Apart.{one_if, how_many, jobs_at_office, IsApart, NoJob, NoSession, NoCopy, ChosenApart}
 use Rattle.oftp_schedule.proofs.Fitting.{IsDistinct, step_distinct, ChoiceFits, choice_fits}
 use Rattle.oftp_schedule.proofs.Counting.{counted_became, none_found, not_any}
@@ -233,13 +233,16 @@ consult_apart s j = elim (nat_lt 0 (room_left s.limits.held s.connections)) as
     (λ b. ChosenApart s (if b then choice_of (find (in_phase is_query_phase) s.connections) (λ c. Consult c.id) else Nothing))
     [ true ↦ apart_found s (λ c. Consult c.id) (find (in_phase is_query_phase) s.connections) (λ c. j) | false ↦ tt ]
 
+consult_within_apart : (s : State) → NoJob s → ChosenApart s (consult_within s)
+consult_within_apart s j = elim (nat_le s.quiet s.now) as (λ b. ChosenApart s (if b then consult s else Nothing)) [ true ↦ consult_apart s j | false ↦ tt ]
+
 within_apart : (s : State) (id : ℕ) (p : Phase) → NoJob s → ChosenApart s (within s id p)
 within_apart s id (Between x) j = cases (is_hearable s.limits x) (x.share == 0)
   where
-    cases : (a b : Bool) → ChosenApart s (if a then (if b then or_else (consult s) (Proceed id x) else Proceed id x) else consult s)
-    cases true true = apart_either s (consult s) (Proceed id x) (consult_apart s j) j
+    cases : (a b : Bool) → ChosenApart s (if a then (if b then or_else (consult_within s) (Proceed id x) else Proceed id x) else consult_within s)
+    cases true true = apart_either s (consult_within s) (Proceed id x) (consult_within_apart s j) j
     cases true false = j
-    cases false b = consult_apart s j
+    cases false b = consult_within_apart s j
 within_apart s id p j = tt
 
 requested_apart : (s : State) (id : ℕ) (p : Phase) → NoJob s × (NoSession s × NoCopy s) → ChosenApart s (requested id p)

@@ -35,7 +35,7 @@ use Rattle.oftp_schedule.specs.declared.connection.Session.{Session}
 use Rattle.oftp_schedule.specs.declared.connection.Connection.{Connection}
 use Rattle.oftp_schedule.specs.declared.connection.Step.{Step}
 use Rattle.oftp_schedule.specs.declared.connection.Limits.{Limits}
-use Rattle.oftp_schedule.specs.Rules.{stepped, after_step, with_octets, with_backlog, with_last, at_end, with_share, answering, answered, parting, went, rule, hurried_phase, is_arriving_phase, is_ripe, is_at, calls, ends_session, has_id, is_other, connection_at, phase_at, became, owed_phase, shared_phase}
+use Rattle.oftp_schedule.specs.Rules.{stepped, after_step, with_octets, with_backlog, with_last, at_end, with_share, answering, answered, parting, went, dialing_time, rule, hurried_phase, is_arriving_phase, is_ripe, is_at, calls, ends_session, has_id, is_other, connection_at, phase_at, became, owed_phase, shared_phase}
 use Rattle.oftp_schedule.specs.Machine.{State, Turn, with_connections, limits_now, new_call, at_door, edited, after_session, replied, in_numbers, replied_at, places, gate, with_gate, knocked, first_phase, makes_room, evicted, came, accepted, accepted_at, with_call, due_to, reviewed, received, welcomed, chosen}
 use Rattle.oftp_schedule.specs.Apart.{one_if, how_many}
 use Rattle.oftp_schedule.proofs.Numbers.{Distinct, Distinct-map, found}
@@ -237,7 +237,7 @@ rule_leads t k now l d (Copying u) Ends = false_leads t (Copying u) (answered no
 rule_leads t k now l d (Copying u) Lost = refl
 rule_leads t k now l d (Answered u o) (Went m) = went_leads t (Answered u o) k.answered k.parting now l d u m
 rule_leads t k now l d (Answered u o) Lost = refl
-rule_leads t k now l d (Resolving c) Resolved = k.dialing c c (now + l.dialing)
+rule_leads t k now l d (Resolving c) Resolved = k.dialing c c (now + dialing_time l c)
 rule_leads t k now l d (Resolving c) Failed = refl
 rule_leads t k now l d (Dialing c u) Up = k.connected c c u (now + l.standing)
 rule_leads t k now l d (Dialing c u) Failed = refl
@@ -268,6 +268,7 @@ settled_leads t k (Dialing c u) (Leave Unreached) h = refl
 settled_leads t k (Dialing c u) (Leave Orphaned) h = refl
 settled_leads t k (Dialing c u) (Leave Stopping) h = refl
 settled_leads t k (Connected c u) (Redial (Wanted j)) h = false_leads t (Connected c u) (Wanted j) (k.wanted j)
+settled_leads t k (Connected c u) (Leave TimedOut) h = refl
 settled_leads t k (Connected c u) (Leave Orphaned) h = refl
 settled_leads t k (Connected c u) (Leave Stopping) h = refl
 settled_leads t k p r h = cc

@@ -1,5 +1,5 @@
 -- The next time is at most each deadline, nobody else moves one, and none is past where nothing is chosen, nor is the next time.
-use Rattle.std.proofs.Common.{inl, inr, ◌⊎◌, max, nat_le, nat_lt, subst, ◌≡◌, ◌≢◌, ℕ, ◌+◌, ◌-◌, ◌<◌, ◌==◌, ◌^◌, Bool, true, false, cond, if◌then◌else◌, List, [], ◌∷◌, ◌++◌, Option, Some, None, map, filter, find, count_by, refl, ap, sym, ◌∙◌, arith}
+use Rattle.std.proofs.Common.{inl, inr, ◌⊎◌, max, min, nat_le, nat_lt, subst, ◌≡◌, ◌≢◌, ℕ, ◌+◌, ◌-◌, ◌<◌, ◌==◌, ◌^◌, Bool, true, false, cond, ◌||◌, if◌then◌else◌, List, [], ◌∷◌, ◌++◌, Option, Some, None, map, filter, find, count_by, refl, ap, sym, ◌∙◌, arith}
 use Rattle.std.proofs.lemmas.Bool.Decides.{nat_tests, eqb_tells}
 use Rattle.std.specs.List.{list_any}
 use Rattle.oftp_schedule.specs.declared.connection.Door.{Door}
@@ -8,6 +8,8 @@ use Rattle.oftp_schedule.specs.declared.connection.Request.TheVariants.{Query, U
 use Rattle.oftp_schedule.specs.declared.connection.Asker.TheVariants.{ByClock, By}
 use Rattle.oftp_schedule.specs.declared.connection.Way.{Way}
 use Rattle.oftp_schedule.specs.declared.connection.Way.TheVariants.{In, Out, Unanswered}
+use Rattle.oftp_schedule.specs.declared.connection.Input.{Input}
+use Rattle.oftp_schedule.specs.declared.connection.Input.TheVariants.{Awaited}
 use Rattle.oftp_schedule.specs.declared.connection.Phase.{Phase}
 use Rattle.oftp_schedule.specs.declared.connection.Phase.TheVariants.{Arriving, Stranger, Guest, Stepping, Between, Ready, Served, Calling, Copying, Answered, Wanted, Resolving}
 use Rattle.oftp_schedule.specs.declared.connection.Arrival.{Arrival}
@@ -28,9 +30,9 @@ use Rattle.oftp_schedule.specs.declared.connection.Partner.{Partner}
 use Rattle.oftp_schedule.specs.declared.connection.Session.{Session}
 use Rattle.oftp_schedule.specs.declared.connection.Limits.{Limits}
 use Rattle.oftp_schedule.specs.declared.connection.Connection.{Connection}
-use Rattle.oftp_schedule.specs.Rules.{rule, due, is_over, is_late, late, hurried_phase, is_between_phase, is_guest_phase, is_arriving_phase, in_phase, is_ripe_phase, is_ripe, is_at, calls, ends_session, is_other, connection_at, phase_at, became, owed_phase, shared_phase}
-use Rattle.oftp_schedule.specs.Machine.{State, Turn, limits_now, with_next, with_connections, new_call, at_door, edited, after_session, replied, in_numbers, replied_at, places, gate, with_gate, knocked, first_phase, makes_room, evicted, accepted, accepted_at, rested, with_call, due_to, reviewed, received, is_to_yield, yielded, yield_to, way_given, is_knocked, choice, welcomed, chosen, Move, step, start, run, Tell, Ask, earlier, first_due, rest_over, to_come, clock_time, ripe_time, first_ripe, waits_for_room, yield_time, yield_time_of, time_of, way_time, next_time}
-use Rattle.oftp_schedule.specs.Deadlines.{AtMost, KnowsDeadlines, KnowsClock, KnowsRests, KnowsRoom, KnowsWay, is_for, IsLeft, IsUnmovedBy, left_by, IsSpared, IsUnmoved, NoLater, IsKept, IsStill, IsOnTime, GivesWay, IsToCome}
+use Rattle.oftp_schedule.specs.Rules.{is_awaited, rule, due, is_over, is_late, late, hurried_phase, is_between_phase, is_guest_phase, is_arriving_phase, in_phase, is_ripe_phase, is_ripe, is_at, calls, ends_session, is_other, connection_at, phase_at, became, owed_phase, shared_phase}
+use Rattle.oftp_schedule.specs.Machine.{State, Turn, limits_now, with_next, with_connections, new_call, at_door, edited, after_session, replied, in_numbers, replied_at, places, gate, with_gate, knocked, first_phase, makes_room, evicted, accepted, accepted_at, rested, with_call, due_to, reviewed, received, is_to_yield, yielded, yield_to, way_given, is_knocked, choice, welcomed, chosen, Move, step, start, run, Tell, Ask, earlier, first_due, rest_over, to_come, clock_time, ripe_time, first_ripe, waits_for_room, yield_time, yield_time_of, time_of, way_time, consult, is_busy, quiet_until, quiet_time, next_time}
+use Rattle.oftp_schedule.specs.Deadlines.{AtMost, KnowsDeadlines, KnowsClock, KnowsRests, KnowsRoom, KnowsQuiet, KnowsWay, is_for, IsLeft, IsUnmovedBy, left_by, IsSpared, IsUnmoved, NoLater, IsKept, IsStill, IsOnTime, GivesWay, IsToCome}
 use Rattle.oftp_schedule.proofs.Numbers.{became_other, other_same, other_other, or_last, pushed, map_phase, edited_phase, Distinct-map, found, at_number}
 use Rattle.oftp_schedule.proofs.Fitting.{IsDistinct}
 use Rattle.oftp_schedule.proofs.Still.{nobody, stillness}
@@ -75,9 +77,13 @@ first_ripe_least now id (c ∷ cs) p u e d = split (λ h. first_ripe_least now i
 abbrev rests : State → Option ℕ
 rests s = earlier (rest_over s.partners) (earlier (rest_over s.commands) (rest_over s.requests))
 
+-- the moments of a session, after all others
+abbrev ways : State → Option ℕ
+ways s = earlier (way_time s) (quiet_time s)
+
 -- after the deadlines and the rests
 abbrev others : State → Option ℕ
-others s = earlier (clock_time s.now s.clock) (earlier (waits_for_room s) (way_time s))
+others s = earlier (clock_time s.now s.clock) (earlier (waits_for_room s) (ways s))
 
 of_rests : (s : State) (u : ℕ) → AtMost u (rests s) → AtMost u (next_time s)
 of_rests s u h = at_right u (first_due s.connections) (earlier (rests s) (others s)) (at_left u (rests s) (others s) h)
@@ -85,11 +91,22 @@ of_rests s u h = at_right u (first_due s.connections) (earlier (rests s) (others
 of_others : (s : State) (u : ℕ) → AtMost u (others s) → AtMost u (next_time s)
 of_others s u h = at_right u (first_due s.connections) (earlier (rests s) (others s)) (at_right u (rests s) (others s) h)
 
+of_ways : (s : State) (u : ℕ) → AtMost u (ways s) → AtMost u (next_time s)
+of_ways s u h = of_others s u (at_right u (clock_time s.now s.clock) (earlier (waits_for_room s) (ways s)) (at_right u (waits_for_room s) (ways s) h))
+
+none_any : (t : Connection → Bool) (cs : List Connection) → find t cs ≡ None → list_any t cs ≡ false
+none_any t [] f = refl
+none_any t (c ∷ cs) f = split (none_any t cs) (t c) f
+  where
+    split : (find t cs ≡ None → list_any t cs ≡ false) → (b : Bool) → cond b (Some c) (find t cs) ≡ None → (b || list_any t cs) ≡ false
+    split more true f = cc
+    split more false f = more f
+
 pub knows_deadlines : (s : State) → KnowsDeadlines s
 knows_deadlines s id u p e d = at_left u (first_due s.connections) (earlier (rests s) (others s)) (first_due_least id s.connections p u e d)
 
 pub knows_clock : (s : State) → KnowsClock s
-knows_clock s u e l = of_others s u (at_left u (clock_time s.now s.clock) (earlier (waits_for_room s) (way_time s)) (at_once u (clock_time s.now s.clock) (ap (clock_time s.now) e ∙ comes s.now u l)))
+knows_clock s u e l = of_others s u (at_left u (clock_time s.now s.clock) (earlier (waits_for_room s) (ways s)) (at_once u (clock_time s.now s.clock) (ap (clock_time s.now) e ∙ comes s.now u l)))
 
 pub knows_rests : (s : State) → KnowsRests s
 knows_rests s Partners u e = of_rests s u (at_left u (rest_over s.partners) (earlier (rest_over s.commands) (rest_over s.requests)) (at_once u (rest_over s.partners) (ap rest_over e)))
@@ -104,13 +121,24 @@ knows_rests s Calls u e = cc
 pub knows_room : (s : State) → KnowsRoom s
 knows_room s id u r k e l =
     let h : AtMost r (waits_for_room s) = rw k (first_ripe_least s.now id s.connections (Stranger u r) r e (comes s.now r l)) in
-    of_others s r (at_right r (clock_time s.now s.clock) (earlier (waits_for_room s) (way_time s)) (at_left r (waits_for_room s) (way_time s) h))
+    of_others s r (at_right r (clock_time s.now s.clock) (earlier (waits_for_room s) (ways s)) (at_left r (waits_for_room s) (ways s) h))
 
 pub knows_way : (s : State) → KnowsWay s
-knows_way s x c t (a, g, k, fa, fg, ea, ew, eg) =
+knows_way s x c t (a, g, k, fa, fg, ea, ew, ei, eg) =
     let u = max x.begun t + c.partner.pause in
-    let h : AtMost u (way_time s) = rw (fa, fg, ea, eg, ew) (omega arith) in
-    of_others s u (at_right u (clock_time s.now s.clock) (earlier (waits_for_room s) (way_time s)) (at_right u (waits_for_room s) (way_time s) h))
+    let h : AtMost u (way_time s) = rw (fa, fg, ea, eg, ew, ei) (omega arith) in
+    of_ways s u (at_left u (way_time s) (quiet_time s) h)
+
+pub knows_quiet : (s : State) → KnowsQuiet s
+knows_quiet s id free any waits l = of_ways s s.quiet (at_right s.quiet (way_time s) (quiet_time s) (at_once s.quiet (quiet_time s) known))
+  where
+    by_session : (at : Option Connection) → find (in_phase is_between_phase) s.connections ≡ at → time_of at (λ c. quiet_until s.now s.quiet (consult s)) ≡ Some s.quiet
+    by_session None f = let bad : false ≡ true = sym (none_any (in_phase is_between_phase) s.connections f) ∙ any in cc
+    by_session (Some c) f = ap (quiet_until s.now s.quiet) waits ∙ comes s.now s.quiet l
+
+    known : quiet_time s ≡ Some s.quiet
+    known = ap (λ b. if b then None else time_of (find (in_phase is_between_phase) s.connections) (λ c. quiet_until s.now s.quiet (consult s))) free
+        ∙ by_session (find (in_phase is_between_phase) s.connections) refl
 
 -- 2. What is told of others
 
@@ -340,7 +368,7 @@ on_time s id u p still e d =
     grind (arith, nat_tests, l')
 
 pub gives_way : (s : State) → GivesWay s
-gives_way s x c t still (a, g, k, fa, fg, ea, ew, eg) =
+gives_way s x c t still (a, g, k, fa, fg, ea, ew, ei, eg) =
     let h = stillness s still.0 still.1 in
     let w : yield_to s.now a.id x t (Unanswered c k) ≡ Nothing = sym (given (way_given s) refl) ∙ h.way_given_is in
     let n = not_yet (is_to_yield s.now x c t) refl w in
@@ -351,7 +379,7 @@ gives_way s x c t still (a, g, k, fa, fg, ea, ew, eg) =
 
     not_yet : (b : Bool) → is_to_yield s.now x c t ≡ b → (if b then Settle a.id (yielded c) else Nothing) ≡ Nothing → nat_le c.partner.pause (s.now - max x.begun t) ≡ false
     not_yet true e w = cc
-    not_yet false e w = e
+    not_yet false e w = sym (ap (λ i. if is_awaited i then nat_le c.partner.pause (s.now - max x.begun t) else false) ei) ∙ e
 
 -- 5. Every moment that is told is to come
 
@@ -401,7 +429,11 @@ ahead_way s still small = by_session (find (in_phase is_between_phase) s.connect
   where
     by_way : (c g : Connection) (x : Session) (t : ℕ) (w : Way) → find (in_phase is_between_phase) s.connections ≡ Some c → find (in_phase is_guest_phase) s.connections ≡ Some g
         → c.phase ≡ Between x → g.phase ≡ Guest t → x.way ≡ w → IsAhead s.now (yield_time x w t)
-    by_way c g x t (Unanswered k n) fc fg ec eg ew = let h = gives_way s x k t still (c, g, n, fc, fg, ec, ew, eg) in omega (arith, h, small)
+    by_way c g x t (Unanswered k n) fc fg ec eg ew = by_input x.input refl
+      where
+        by_input : (i : Input) → x.input ≡ i → IsAhead s.now (if is_awaited i then Some (min (max x.begun t + k.partner.pause) (2 ^ 64 - 1)) else None)
+        by_input Awaited ei = let h = gives_way s x k t still (c, g, n, fc, fg, ec, ew, ei, eg) in omega (arith, h, small)
+        by_input i ei = tt
     by_way c g x t In fc fg ec eg ew = tt
     by_way c g x t (Out k) fc fg ec eg ew = tt
 
@@ -419,6 +451,21 @@ ahead_way s still small = by_session (find (in_phase is_between_phase) s.connect
         → IsAhead s.now (time_of at (λ c. time_of (find (in_phase is_guest_phase) s.connections) (λ g. yield_time_of c.phase g.phase)))
     by_session None fc = tt
     by_session (Some c) fc = by_guest c (find (in_phase is_guest_phase) s.connections) fc refl
+
+ahead_quiet : (s : State) → IsAhead s.now (quiet_time s)
+ahead_quiet s = by_office (is_busy s)
+  where
+    by_choice : (c : Choice) → IsAhead s.now (quiet_until s.now s.quiet c)
+    by_choice (Consult id) = ahead_come s.now s.quiet
+    by_choice c = tt
+
+    by_session : (at : Option Connection) → IsAhead s.now (time_of at (λ c. quiet_until s.now s.quiet (consult s)))
+    by_session None = tt
+    by_session (Some c) = by_choice (consult s)
+
+    by_office : (b : Bool) → IsAhead s.now (if b then None else time_of (find (in_phase is_between_phase) s.connections) (λ c. quiet_until s.now s.quiet (consult s)))
+    by_office true = tt
+    by_office false = by_session (find (in_phase is_between_phase) s.connections)
 
 -- a door that rests does so until a moment that is to come
 abbrev RestsOn : ℕ → ℕ → Gate → Type 0
@@ -517,8 +564,9 @@ to_come_of s h t still some small e =
     (λ c. settle_something c.id (late s.now (limits_now s) c.door c.phase)) (stillness s still.0 still.1).expiry_is in
     let doors = ahead_earlier s.now (rest_over s.partners) (earlier (rest_over s.commands) (rest_over s.requests)) (h.0 some)
     (ahead_earlier s.now (rest_over s.commands) (rest_over s.requests) (h.1 some) (h.2 some)) in
-    let rest = ahead_earlier s.now (clock_time s.now s.clock) (earlier (waits_for_room s) (way_time s)) (ahead_clock s.now s.clock)
-    (ahead_earlier s.now (waits_for_room s) (way_time s) room (ahead_way s still small)) in
+    let way = ahead_earlier s.now (way_time s) (quiet_time s) (ahead_way s still small) (ahead_quiet s) in
+    let rest = ahead_earlier s.now (clock_time s.now s.clock) (earlier (waits_for_room s) (ways s)) (ahead_clock s.now s.clock)
+    (ahead_earlier s.now (waits_for_room s) (ways s) room way) in
     let all = ahead_earlier s.now (first_due s.connections) (earlier (rests s) (others s)) (ahead_due s.now s.connections f) (ahead_earlier s.now (rests s) (others s) doors rest) in
     subst (IsAhead s.now) e all
   where

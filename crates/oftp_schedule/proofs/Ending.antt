@@ -1,5 +1,5 @@
 -- Once the station was told to end nothing new begins, and the end comes.
-use Rattle.std.proofs.Common.{◌^◌, ◌≡◌, ◌+◌, ◌==◌, [], ◌∷◌, ◌∙◌, if◌then◌else◌, ℕ, Bool, true, false, nat_lt, not, List, Option, Some, None, map, filter, find, refl, ap}
+use Rattle.std.proofs.Common.{◌^◌, ◌≡◌, ◌+◌, ◌==◌, [], ◌∷◌, ◌∙◌, if◌then◌else◌, ℕ, Bool, true, false, nat_lt, nat_le, not, List, Option, Some, None, map, filter, find, refl, ap}
 use Rattle.std.specs.List.{list_any}
 use Rattle.oftp_schedule.specs.declared.connection.Door.{Door}
 use Rattle.oftp_schedule.specs.declared.connection.Door.TheVariants.{Partners, Commands, Requests, Calls}
@@ -28,7 +28,7 @@ use Rattle.oftp_schedule.specs.declared.connection.Partner.{Partner}
 use Rattle.oftp_schedule.specs.declared.connection.Session.{Session}
 use Rattle.oftp_schedule.specs.declared.connection.Connection.{Connection}
 use Rattle.oftp_schedule.specs.Rules.{is_hearable, answered, rule, is_late, late, dismissal, concerns, in_session, is_between_phase, is_guest_phase, is_query_phase, is_copying_phase, is_wanted_phase, is_up_phase, is_arriving_phase, in_phase, call_in, calls, is_other, connection_at, became, is_orphan, is_to_tell, room_left}
-use Rattle.oftp_schedule.specs.Machine.{State, Turn, with_connections, is_ending, limits_now, replied_at, told, gate, with_gate, knocked, first_phase, makes_room, evicted, called, accepted, accepted_at, is_reviewing, with_call, due_to, reviewed, received, or_else, choice_of, is_enough, finish, expiry, dismissed, orphaned, call_over, is_to_yield, yielded, yield_to, yield_for, way_given, admit, admission, is_busy, sought, dial, consult, within, between_jobs, outside, job_for, job, departed, departure, is_past, choice, welcomed, chosen, Move, step, Tell, Ask}
+use Rattle.oftp_schedule.specs.Machine.{State, Turn, with_connections, is_ending, limits_now, replied_at, told, gate, with_gate, knocked, first_phase, makes_room, evicted, called, accepted, accepted_at, is_reviewing, with_call, due_to, reviewed, received, or_else, choice_of, is_enough, finish, expiry, dismissed, orphaned, call_over, is_to_yield, yielded, yield_to, yield_for, way_given, admit, admission, is_busy, sought, dial, consult, consult_within, within, between_jobs, outside, job_for, job, departed, departure, is_past, choice, welcomed, chosen, Move, step, Tell, Ask}
 use Rattle.oftp_schedule.specs.Ends.{begins_anew, BeginsNothing, IsOver, Departs}
 
 anew_either : (a b : Choice) → begins_anew a ≡ false → begins_anew b ≡ false → begins_anew (or_else a b) ≡ false
@@ -80,13 +80,16 @@ consult_anew s = elim (nat_lt 0 (room_left s.limits.held s.connections)) as
     (λ b. begins_anew (if b then choice_of (find (in_phase is_query_phase) s.connections) (λ c. Consult c.id) else Nothing) ≡ false)
     [ true ↦ anew_any (λ c. Consult c.id) (find (in_phase is_query_phase) s.connections) (λ c. refl) | false ↦ refl ]
 
+consult_within_anew : (s : State) → begins_anew (consult_within s) ≡ false
+consult_within_anew s = elim (nat_le s.quiet s.now) as (λ b. begins_anew (if b then consult s else Nothing) ≡ false) [ true ↦ consult_anew s | false ↦ refl ]
+
 within_anew : (s : State) (id : ℕ) (p : Phase) → begins_anew (within s id p) ≡ false
 within_anew s id (Between x) = cases (is_hearable s.limits x) (x.share == 0)
   where
-    cases : (a b : Bool) → begins_anew (if a then (if b then or_else (consult s) (Proceed id x) else Proceed id x) else consult s) ≡ false
-    cases true true = anew_either (consult s) (Proceed id x) (consult_anew s) refl
+    cases : (a b : Bool) → begins_anew (if a then (if b then or_else (consult_within s) (Proceed id x) else Proceed id x) else consult_within s) ≡ false
+    cases true true = anew_either (consult_within s) (Proceed id x) (consult_within_anew s) refl
     cases true false = refl
-    cases false b = consult_anew s
+    cases false b = consult_within_anew s
 within_anew s id p = refl
 
 admission_anew : (s : State) → is_ending s.course ≡ true → begins_anew (admission s) ≡ false

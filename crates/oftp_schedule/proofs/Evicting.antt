@@ -218,6 +218,7 @@ settled_evicts (Dialing c u) (Leave Unreached) h = refl
 settled_evicts (Dialing c u) (Leave Orphaned) h = refl
 settled_evicts (Dialing c u) (Leave Stopping) h = refl
 settled_evicts (Connected c u) (Redial (Wanted j)) h = refl
+settled_evicts (Connected c u) (Leave TimedOut) h = refl
 settled_evicts (Connected c u) (Leave Orphaned) h = refl
 settled_evicts (Connected c u) (Leave Stopping) h = refl
 settled_evicts p r h = cc

@@ -25,7 +25,7 @@ use Rattle.oftp_schedule.specs.declared.connection.Call.{Call}
 use Rattle.oftp_schedule.specs.declared.connection.Session.{Session}
 use Rattle.oftp_schedule.specs.declared.connection.Connection.{Connection}
 use Rattle.oftp_schedule.specs.Rules.{is_hearable, answered, is_late, late, dismissal, concerns, is_between_phase, is_guest_phase, is_query_phase, is_update_phase, is_owed_phase, is_copying_phase, is_wanted_phase, is_connected_phase, is_arriving_phase, in_phase, call_in, is_orphan, is_to_tell, room_left}
-use Rattle.oftp_schedule.specs.Machine.{State, is_ending, limits_now, gate, is_reviewing, or_else, choice_of, is_enough, finish, expiry, dismissed, orphaned, call_over, is_to_yield, yielded, yield_to, yield_for, way_given, is_knocked, has_place, admit, admission, is_busy, may_dial, sought, dial, consult, within, requested, update, new_session, guest_session, called_session, call_session, in_turn, inspection, between_jobs, outside, job_for, job, departed, departure, is_past, choice}
+use Rattle.oftp_schedule.specs.Machine.{State, is_ending, limits_now, gate, is_reviewing, or_else, choice_of, is_enough, finish, expiry, dismissed, orphaned, call_over, is_to_yield, yielded, yield_to, yield_for, way_given, is_knocked, has_place, admit, admission, is_busy, may_dial, sought, dial, consult, consult_within, within, requested, update, new_session, guest_session, called_session, call_session, in_turn, inspection, between_jobs, outside, job_for, job, departed, departure, is_past, choice}
 use Rattle.oftp_schedule.specs.Order.{number_of, first_in, first_update, IsFirst}
 use Rattle.oftp_schedule.proofs.Numbers.{found}
 use Rattle.oftp_schedule.proofs.Fitting.{IsDistinct}
@@ -59,13 +59,16 @@ consult_first : (s : State) → IsFirst s (consult s)
 consult_first s = elim (nat_lt 0 (room_left s.limits.held s.connections)) as (λ b. IsFirst s (if b then choice_of (find (in_phase is_query_phase) s.connections) (λ c. Consult c.id) else Nothing))
     [ true ↦ first_found s (in_phase is_query_phase) (λ c. Consult c.id) (find (in_phase is_query_phase) s.connections) refl (λ c e. e) | false ↦ tt ]
 
+consult_within_first : (s : State) → IsFirst s (consult_within s)
+consult_within_first s = elim (nat_le s.quiet s.now) as (λ b. IsFirst s (if b then consult s else Nothing)) [ true ↦ consult_first s | false ↦ tt ]
+
 within_first : (s : State) (id : ℕ) (p : Phase) → IsFirst s (within s id p)
 within_first s id (Between x) = cases (is_hearable s.limits x) (x.share == 0)
   where
-    cases : (a b : Bool) → IsFirst s (if a then (if b then or_else (consult s) (Proceed id x) else Proceed id x) else consult s)
-    cases true true = first_either s (consult s) (Proceed id x) (consult_first s) tt
+    cases : (a b : Bool) → IsFirst s (if a then (if b then or_else (consult_within s) (Proceed id x) else Proceed id x) else consult_within s)
+    cases true true = first_either s (consult_within s) (Proceed id x) (consult_within_first s) tt
     cases true false = tt
-    cases false b = consult_first s
+    cases false b = consult_within_first s
 within_first s id p = tt
 
 requested_first : (s : State) (id : ℕ) (p : Phase) → first_update s (first_in is_owed_phase s) ≡ Some id → IsFirst s (requested id p)

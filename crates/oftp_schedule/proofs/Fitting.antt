@@ -1,5 +1,5 @@
 -- What is chosen stands where it may be chosen, and numbers stay their own.
-use Rattle.std.proofs.Common.{◌^◌, ◌≡◌, ◌<◌, ◌+◌, ◌-◌, ◌==◌, [], ◌∷◌, ◌++◌, if◌then◌else◌, ℕ, Bool, true, false, nat_lt, nat_le, List, Option, Some, None, map, filter, find, count_by, max, subst, refl, arith}
+use Rattle.std.proofs.Common.{◌^◌, ◌≡◌, ◌<◌, ◌+◌, ◌==◌, [], ◌∷◌, ◌++◌, if◌then◌else◌, ℕ, Bool, true, false, nat_lt, nat_le, List, Option, Some, None, map, filter, find, count_by, max, subst, refl, arith}
 use Rattle.std.proofs.lemmas.Bool.Decides.{nat_tests}
 use Rattle.std.specs.List.{list_any}
 use Rattle.oftp_schedule.specs.declared.connection.Door.{Door}
@@ -35,8 +35,8 @@ use Rattle.oftp_schedule.specs.declared.connection.Call.{Call}
 use Rattle.oftp_schedule.specs.declared.connection.Session.{Session}
 use Rattle.oftp_schedule.specs.declared.connection.Connection.{Connection}
 use Rattle.oftp_schedule.specs.declared.connection.Limits.{Limits}
-use Rattle.oftp_schedule.specs.Rules.{is_hearable, answering, answered, rule, due, is_over, is_late, late, dismissal, is_dismissed, concerns, hurried, is_between_phase, is_guest_phase, is_query_phase, is_update_phase, is_owed_phase, is_copying_phase, is_wanted_phase, is_connected_phase, is_arriving_phase, in_phase, is_ripe, is_at, call_in, calls, ends_session, has_id, is_other, connection_at, phase_at, became, owed, shared, orphan_phase, is_orphan, told_phase, is_to_tell, room_left}
-use Rattle.oftp_schedule.specs.Machine.{State, Turn, with_connections, is_ending, limits_now, new_call, at_door, edited, after_session, numbers, replied, in_numbers, replied_at, places, gate, with_gate, knocked, first_phase, makes_room, evicted, came, accepted, accepted_at, is_reviewing, with_call, due_to, reviewed, received, or_else, choice_of, is_enough, finish, expiry, dismissed, orphaned, call_over, is_to_yield, yielded, yield_to, yield_for, way_given, is_knocked, has_place, admit, admission, is_busy, may_dial, sought, dial, consult, within, requested, update, new_session, guest_session, called_session, call_session, in_turn, inspection, between_jobs, outside, job_for, job, departed, departure, is_past, choice, welcomed, chosen, Move, step, run, Tell, Ask}
+use Rattle.oftp_schedule.specs.Rules.{is_hearable, answering, answered, rule, due, is_over, is_late, once_less, late, dismissal, is_dismissed, concerns, hurried, is_between_phase, is_guest_phase, is_query_phase, is_update_phase, is_owed_phase, is_copying_phase, is_wanted_phase, is_connected_phase, is_arriving_phase, in_phase, is_ripe, is_at, call_in, calls, ends_session, has_id, is_other, connection_at, phase_at, became, owed, shared, orphan_phase, is_orphan, told_phase, is_to_tell, room_left}
+use Rattle.oftp_schedule.specs.Machine.{State, Turn, with_connections, is_ending, limits_now, new_call, at_door, edited, after_session, numbers, replied, in_numbers, replied_at, places, gate, with_gate, knocked, first_phase, makes_room, evicted, came, accepted, accepted_at, is_reviewing, with_call, due_to, reviewed, received, or_else, choice_of, is_enough, finish, expiry, dismissed, orphaned, call_over, is_to_yield, yielded, yield_to, yield_for, way_given, is_knocked, has_place, admit, admission, is_busy, may_dial, sought, dial, consult, consult_within, within, requested, update, new_session, guest_session, called_session, call_session, in_turn, inspection, between_jobs, outside, job_for, job, departed, departure, is_past, choice, welcomed, chosen, Move, step, run, Tell, Ask}
 use Rattle.oftp_schedule.proofs.Numbers.{Distinct, other_same, Distinct-map, Distinct-filter, Distinct-push, Distinct-new, known, found}
 
 -- 1. Numbers
@@ -198,6 +198,7 @@ settles (Dialing c u) (Leave Unreached) = true
 settles (Dialing c u) (Leave Orphaned) = true
 settles (Dialing c u) (Leave Stopping) = true
 settles (Connected c u) (Redial (Wanted k)) = true
+settles (Connected c u) (Leave TimedOut) = true
 settles (Connected c u) (Leave Orphaned) = true
 settles (Connected c u) (Leave Stopping) = true
 settles p r = false
@@ -275,7 +276,7 @@ late_settles now l d (Answered u o) h = refl
 late_settles now l d (Wanted c) h = cc
 late_settles now l d (Resolving c) h = cc
 late_settles now l d (Dialing c u) h = refl
-late_settles now l d (Connected c u) h = refl
+late_settles now l d (Connected c u) h = elim (nat_lt 0 c.times) as (λ b. settles (Connected c u) (if b then Redial (Wanted (once_less c)) else Leave TimedOut) ≡ true) [ true ↦ refl | false ↦ refl ]
 
 expiry_fits : (s : State) → IsDistinct s → ChoiceFits s.connections (expiry s)
 expiry_fits s o =
@@ -377,7 +378,7 @@ call_over_fits s o =
     (λ c e h. rw e (told_settles s.connections c.phase (s.now + max (answering (limits_now s) c.door) (limits_now s).farewell) 0 h))
 
 yielded_settles : (x : Session) (c : Call) → settles (Between x) (yielded c) ≡ true
-yielded_settles x c = elim (nat_lt 0 c.times) as (λ b. settles (Between x) (if b then Yield (Wanted (record { partner = c.partner; asker = c.asker; times = c.times - 1 })) else Break TimedOut) ≡ true)
+yielded_settles x c = elim (nat_lt 0 c.times) as (λ b. settles (Between x) (if b then Yield (Wanted (once_less c)) else Break TimedOut) ≡ true)
     [ true ↦ refl | false ↦ refl ]
 
 yield_to_fits : (cs : List Connection) (now id : ℕ) (x : Session) (t : ℕ) (w : Way) → phase_at id cs ≡ Some (Between x) → ChoiceFits cs (yield_to now id x t w)
@@ -438,13 +439,16 @@ consult_fits s o = elim (nat_lt 0 (room_left s.limits.held s.connections)) as
       | false ↦ tt
     ]
 
+consult_within_fits : (s : State) → IsDistinct s → ChoiceFits s.connections (consult_within s)
+consult_within_fits s o = elim (nat_le s.quiet s.now) as (λ b. ChoiceFits s.connections (if b then consult s else Nothing)) [ true ↦ consult_fits s o | false ↦ tt ]
+
 within_fits : (s : State) (id : ℕ) (p : Phase) → IsDistinct s → phase_at id s.connections ≡ Some p → ChoiceFits s.connections (within s id p)
 within_fits s id (Between x) o e = cases (is_hearable s.limits x) (x.share == 0)
   where
-    cases : (a b : Bool) → ChoiceFits s.connections (if a then (if b then or_else (consult s) (Proceed id x) else Proceed id x) else consult s)
-    cases true true = fits_either s.connections (consult s) (Proceed id x) (consult_fits s o) e
+    cases : (a b : Bool) → ChoiceFits s.connections (if a then (if b then or_else (consult_within s) (Proceed id x) else Proceed id x) else consult_within s)
+    cases true true = fits_either s.connections (consult_within s) (Proceed id x) (consult_within_fits s o) e
     cases true false = e
-    cases false b = consult_fits s o
+    cases false b = consult_within_fits s o
 within_fits s id p o e = tt
 
 requested_fits : (cs : List Connection) (id : ℕ) (p : Phase) → phase_at id cs ≡ Some p → ChoiceFits cs (requested id p)

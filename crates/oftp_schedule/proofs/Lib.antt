@@ -11,7 +11,9 @@ pub mod Places
 pub mod Lives
 pub mod Tallies
 pub mod Still
+pub mod Yielding
 pub mod Deadlines
 pub mod Within
 pub mod Lengths
 pub mod Wakeups
+pub mod Resting

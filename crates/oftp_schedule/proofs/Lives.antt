@@ -488,6 +488,7 @@ settled_lives i d (Dialing c u) (Leave Unreached) h = refl
 settled_lives i d (Dialing c u) (Leave Orphaned) h = refl
 settled_lives i d (Dialing c u) (Leave Stopping) h = refl
 settled_lives i d (Connected c u) (Redial (Wanted k)) h = refl
+settled_lives i d (Connected c u) (Leave TimedOut) h = refl
 settled_lives i d (Connected c u) (Leave Orphaned) h = refl
 settled_lives i d (Connected c u) (Leave Stopping) h = refl
 settled_lives i d p r h = cc
@@ -612,7 +613,7 @@ pub watch-append : {S : Type 0} (f : S → Note → S) (st : S) (xs ys : List No
 watch-append f st [] ys = refl
 watch-append f st (x ∷ xs) ys = watch-append f (f st x) xs ys
 
-history_lives : (id : ℕ) (s : State) (ms : List Move) → IsDistinct s → watch (life id) (stage_of id s) (history s ms) ≡ stage_of id (run s ms)
+pub history_lives : (id : ℕ) (s : State) (ms : List Move) → IsDistinct s → watch (life id) (stage_of id s) (history s ms) ≡ stage_of id (run s ms)
 history_lives id s [] o = refl
 history_lives id s (Tell e ∷ ms) o =
     let t = received s e in

@@ -1,5 +1,5 @@
--- Between two pieces of a session a look-up is done only where there is nothing to hear, or enough was heard since the last one.
-use Rattle.std.proofs.Common.{◌^◌, ◌⊎◌, ◌≡◌, ◌==◌, [], ◌∷◌, ◌∙◌, if◌then◌else◌, ℕ, Bool, true, false, nat_lt, nat_le, List, Option, Some, None, find, subst, refl, ap, sym, arith, inl, inr}
+-- Between two pieces of a session a look-up is done only where there is nothing to hear, or enough was heard, and as long has passed as the last one took.
+use Rattle.std.proofs.Common.{◌^◌, ◌⊎◌, ◌≡◌, ◌≤◌, ◌==◌, [], ◌∷◌, ◌∙◌, if◌then◌else◌, ℕ, Bool, true, false, nat_lt, nat_le, List, Option, Some, None, find, subst, refl, ap, sym, arith, inl, inr}
 use Rattle.std.proofs.lemmas.Bool.Decides.{nat_tests}
 use Rattle.std.specs.List.{list_any}
 use Rattle.oftp_schedule.specs.declared.connection.Door.{Door}
@@ -25,7 +25,7 @@ use Rattle.oftp_schedule.specs.declared.connection.Call.{Call}
 use Rattle.oftp_schedule.specs.declared.connection.Session.{Session}
 use Rattle.oftp_schedule.specs.declared.connection.Connection.{Connection}
 use Rattle.oftp_schedule.specs.Rules.{is_hearable, answered, is_late, late, dismissal, concerns, is_between_phase, is_guest_phase, is_query_phase, is_update_phase, is_owed_phase, is_copying_phase, is_wanted_phase, is_connected_phase, is_arriving_phase, in_phase, call_in, is_orphan, is_to_tell, room_left}
-use Rattle.oftp_schedule.specs.Machine.{State, is_ending, limits_now, gate, is_reviewing, or_else, choice_of, is_enough, finish, expiry, dismissed, orphaned, call_over, is_to_yield, yielded, yield_to, yield_for, way_given, is_knocked, has_place, admit, admission, is_busy, may_dial, sought, dial, consult, within, requested, update, new_session, guest_session, called_session, call_session, in_turn, inspection, between_jobs, outside, job_for, job, departed, departure, is_past, choice}
+use Rattle.oftp_schedule.specs.Machine.{State, is_ending, limits_now, gate, is_reviewing, or_else, choice_of, is_enough, finish, expiry, dismissed, orphaned, call_over, is_to_yield, yielded, yield_to, yield_for, way_given, is_knocked, has_place, admit, admission, is_busy, may_dial, sought, dial, consult, consult_within, within, requested, update, new_session, guest_session, called_session, call_session, in_turn, inspection, between_jobs, outside, job_for, job, departed, departure, is_past, choice}
 use Rattle.oftp_schedule.specs.Apart.{IsPaced}
 
 -- what may be chosen without a thought of the session: anything but a look-up
@@ -57,19 +57,22 @@ paced_found s f (Some c) k = k c
 
 -- where a session may be left for a look-up
 abbrev pub MayLook : State → Type 0
-MayLook s = (c : Connection) (x : Session) → find (in_phase is_between_phase) s.connections ≡ Some c → c.phase ≡ Between x → (is_hearable s.limits x ≡ false) ⊎ (x.share ≡ 0)
+MayLook s =
+    (c : Connection) (x : Session) → find (in_phase is_between_phase) s.connections ≡ Some c → c.phase ≡ Between x
+    → ((is_hearable s.limits x ≡ false) ⊎ (x.share ≡ 0)) × (s.quiet ≤ s.now)
 
 consult_paced : (s : State) → MayLook s → IsPaced s (consult s)
 consult_paced s h = elim (nat_lt 0 (room_left s.limits.held s.connections)) as (λ b. IsPaced s (if b then choice_of (find (in_phase is_query_phase) s.connections) (λ c. Consult c.id) else Nothing))
     [ true ↦ paced_found s (λ c. Consult c.id) (find (in_phase is_query_phase) s.connections) (λ c. h) | false ↦ tt ]
 
 -- the session that is found is this one
-looks : (s : State) (c : Connection) (x : Session) → find (in_phase is_between_phase) s.connections ≡ Some c → c.phase ≡ Between x → (is_hearable s.limits x ≡ false) ⊎ (x.share ≡ 0) → MayLook s
-looks s c x e p h = λ d y f q.
+looks : (s : State) (c : Connection) (x : Session) → find (in_phase is_between_phase) s.connections ≡ Some c → c.phase ≡ Between x → (is_hearable s.limits x ≡ false) ⊎ (x.share ≡ 0)
+    → s.quiet ≤ s.now → MayLook s
+looks s c x e p h l = λ d y f q.
     let same : Some c ≡ Some d = sym e ∙ f in
     let cd : c ≡ d = inj_c c d same in
     let xy : x ≡ y = inj_x x y (sym p ∙ ap (λ (c : Connection). c.phase) cd ∙ q) in
-    subst (λ (y : Session). (is_hearable s.limits y ≡ false) ⊎ (y.share ≡ 0)) xy h
+    (subst (λ (y : Session). (is_hearable s.limits y ≡ false) ⊎ (y.share ≡ 0)) xy h, l)
   where
     inj_c : (c d : Connection) → Some c ≡ Some d → c ≡ d
     inj_c c d e = cc
@@ -77,15 +80,23 @@ looks s c x e p h = λ d y f q.
     inj_x : (x y : Session) → Between x ≡ Between y → x ≡ y
     inj_x x y e = cc
 
+consult_within_paced : (s : State) → (s.quiet ≤ s.now → MayLook s) → IsPaced s (consult_within s)
+consult_within_paced s h = cases (nat_le s.quiet s.now) refl
+  where
+    cases : (b : Bool) → nat_le s.quiet s.now ≡ b → IsPaced s (if b then consult s else Nothing)
+    cases true y = let l : s.quiet ≤ s.now = grind (arith, nat_tests, y) in consult_paced s (h l)
+    cases false n = tt
+
 within_paced : (s : State) (c : Connection) (p : Phase) → find (in_phase is_between_phase) s.connections ≡ Some c → c.phase ≡ p → IsPaced s (within s c.id p)
 within_paced s c (Between x) e q = cases (is_hearable s.limits x) refl (x.share == 0) refl
   where
-    cases : (a : Bool) → is_hearable s.limits x ≡ a → (b : Bool) → (x.share == 0) ≡ b → IsPaced s (if a then (if b then or_else (consult s) (Proceed c.id x) else Proceed c.id x) else consult s)
+    cases : (a : Bool) → is_hearable s.limits x ≡ a → (b : Bool) → (x.share == 0) ≡ b
+        → IsPaced s (if a then (if b then or_else (consult_within s) (Proceed c.id x) else Proceed c.id x) else consult_within s)
     cases true ha true hb =
         let zero_share : x.share ≡ 0 = grind (arith, nat_tests, hb) in
-        paced_either s (consult s) (Proceed c.id x) (consult_paced s (looks s c x e q (inr zero_share))) tt
+        paced_either s (consult_within s) (Proceed c.id x) (consult_within_paced s (looks s c x e q (inr zero_share))) tt
     cases true ha false hb = tt
-    cases false ha b hb = consult_paced s (looks s c x e q (inl ha))
+    cases false ha b hb = consult_within_paced s (looks s c x e q (inl ha))
 within_paced s c p e q = tt
 
 requested_paced : (s : State) (id : ℕ) (p : Phase) → IsPaced s (requested id p)

@@ -115,6 +115,7 @@ tally_printed Finished (Ending Finished) k t = one_line k t
 tally_printed Unreached (Ending Unreached) k t = one_line k t
 tally_printed Evicted Unjudged k t = one_line k t
 tally_printed TimedOut Unjudged k t = one_line k t
+tally_printed TimedOut Standing k t = one_line k t
 tally_printed Unreached Ringing k t = one_line k t
 tally_printed TimedOut Cut_off k t = one_line k t
 tally_printed Stalled Cut_off k t = one_line k t

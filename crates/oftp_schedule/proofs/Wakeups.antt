@@ -23,15 +23,15 @@ use Rattle.oftp_schedule.specs.declared.connection.Session.{Session}
 use Rattle.oftp_schedule.specs.declared.connection.Connection.{Connection}
 use Rattle.oftp_schedule.specs.declared.connection.Limits.{Limits}
 use Rattle.oftp_schedule.specs.Rules.{is_hearable, answered, due, dismissal, is_dismissed, concerns, at_office, in_session, is_between_phase, is_guest_phase, is_query_phase, is_update_phase, is_owed_phase, is_copying_phase, is_wanted_phase, is_connected_phase, is_up_phase, is_arriving_phase, in_phase, call_in, phase_at, told_phase, is_to_tell, is_parting_phase, goes_on, answer_octets, room_left}
-use Rattle.oftp_schedule.specs.Machine.{State, limits_now, gate, or_else, choice_of, is_enough, finish, dismissed, is_ending, is_knocked, has_place, admit, is_reviewing, is_busy, may_dial, sought, consult, within, requested, update, new_session, guest_session, called_session, call_session, in_turn, inspection, between_jobs, job_for, is_past, departed, departure, Move, start, run}
+use Rattle.oftp_schedule.specs.Machine.{State, limits_now, gate, or_else, choice_of, is_enough, finish, dismissed, is_ending, is_knocked, has_place, admit, is_reviewing, is_busy, may_dial, sought, consult, consult_within, within, requested, update, new_session, guest_session, called_session, call_session, in_turn, inspection, between_jobs, job_for, is_past, departed, departure, Move, start, run}
 use Rattle.oftp_schedule.specs.declared.connection.Way.TheVariants.{In}
 use Rattle.oftp_schedule.specs.Deadlines.{IsStill}
-use Rattle.oftp_schedule.specs.Wakeups.{IsAtWork, IsAny, Waits, holds_office, holds_room, holds_calls, is_resolving_phase, IsAwake, GuestsAreAwake, UpdatesAreAwake, UpsAreAwake, ClockIsAwake, QueriesAreAwake, SessionIsAwake, CallsAreAwake, CommandsAreAwake, DoorsAreAwake, EndIsAwake, has_time, EndComes}
+use Rattle.oftp_schedule.specs.Wakeups.{IsAtWork, IsAny, Waits, IsHeldBack, holds_office, holds_room, holds_calls, is_resolving_phase, IsAwake, GuestsAreAwake, UpdatesAreAwake, UpsAreAwake, ClockIsAwake, QueriesAreAwake, SessionIsAwake, CallsAreAwake, CommandsAreAwake, DoorsAreAwake, EndIsAwake, has_time, EndComes}
 use Rattle.oftp_schedule.proofs.Numbers.{found, known}
 use Rattle.oftp_schedule.proofs.Fitting.{IsDistinct, run_distinct}
 use Rattle.oftp_schedule.proofs.Within.{Each, Bounded, at_phase, run_within}
 use Rattle.oftp_schedule.proofs.Still.{both, nobody, Stillness, stillness}
-use Rattle.oftp_schedule.proofs.Deadlines.{knows_deadlines, on_time}
+use Rattle.oftp_schedule.proofs.Deadlines.{knows_deadlines, knows_quiet, on_time}
 
 -- 1. Who is there
 
@@ -60,7 +60,7 @@ any_there t id (c ∷ cs) p e h = split (λ k. any_there t id cs p k h) (c.id ==
     split more false e = rw (more e) (or_true (t c.phase))
 
 -- where somebody does, one is found
-any_found : (t : Phase → Bool) (cs : List Connection) → list_any (in_phase t) cs ≡ true → (c : Connection) × (find (in_phase t) cs ≡ Some c)
+pub any_found : (t : Phase → Bool) (cs : List Connection) → list_any (in_phase t) cs ≡ true → (c : Connection) × (find (in_phase t) cs ≡ Some c)
 any_found t [] e = cc
 any_found t (c ∷ cs) e = split (any_found t cs) (t c.phase) e
   where
@@ -241,17 +241,34 @@ room_holds p h = cc
 consult_something : (id : ℕ) → Consult id ≢ Nothing
 consult_something id e = cc
 
+-- nothing, or a look-up
+abbrev IsConsult : Choice → Type 0
+IsConsult Nothing = Unit {0}
+IsConsult (Consult id) = Unit {0}
+IsConsult c = ⊥
+
+consult_is : (s : State) → IsConsult (consult s)
+consult_is s = by_room (nat_lt 0 (room_left s.limits.held s.connections))
+  where
+    by_query : (at : Option Connection) → IsConsult (choice_of at (λ c. Consult c.id))
+    by_query None = tt
+    by_query (Some c) = tt
+
+    by_room : (b : Bool) → IsConsult (if b then choice_of (find (in_phase is_query_phase) s.connections) (λ c. Consult c.id) else Nothing)
+    by_room true = by_query (find (in_phase is_query_phase) s.connections)
+    by_room false = tt
+
 pub queries_are_awake : (s : State) → IsDistinct s → QueriesAreAwake s
 queries_are_awake s o id k still l e = by_office (is_busy s) refl (stillness s still.0 still.1).job_is
   where
     Room : Type 0
-    Room = Waits holds_room s
+    Room = Waits holds_room s ⊎ IsHeldBack s
 
     by_room : (b : Bool) → nat_lt 0 (room_left s.limits.held s.connections) ≡ b → (if b then choice_of (find (in_phase is_query_phase) s.connections) (λ c. Consult c.id) else Nothing) ≡ Nothing → Room
     by_room true y j =
         let f = nobody (find (in_phase is_query_phase) s.connections) (λ c. Consult c.id) (λ c. consult_something c.id) j in absurd
         (none_there is_query_phase id s.connections (Ready Query k) f e refl)
-    by_room false n j = waits_by s holds_room holds_room o still room_holds (holder s.limits.held s.connections l n)
+    by_room false n j = inl (waits_by s holds_room holds_room o still room_holds (holder s.limits.held s.connections l n))
 
     by_consult : consult s ≡ Nothing → Room
     by_consult j = by_room (nat_lt 0 (room_left s.limits.held s.connections)) refl j
@@ -259,14 +276,27 @@ queries_are_awake s o id k still l e = by_office (is_busy s) refl (stillness s s
     proceeds : (i : ℕ) (x : Session) → Proceed i x ≢ Nothing
     proceeds i x j = cc
 
-    by_piece : (i : ℕ) (p : Phase) → is_between_phase p ≡ true → within s i p ≡ Nothing → Room
-    by_piece i (Between x) h j = pieces (is_hearable s.limits x) (x.share == 0) j
+    -- it would be done but for the rest
+    by_rest : is_busy s ≡ false → IsAny is_between_phase s → s.now < s.quiet → Room
+    by_rest n any l = by_choice (consult s) refl (consult_is s)
       where
-        pieces : (a b : Bool) → (if a then (if b then or_else (consult s) (Proceed i x) else Proceed i x) else consult s) ≡ Nothing → Room
-        pieces true true j = by_consult (both (consult s) (Proceed i x) j).0
+        by_choice : (c : Choice) → consult s ≡ c → IsConsult c → Room
+        by_choice Nothing q h = by_consult q
+        by_choice (Consult i) q h = inr (any, l, knows_quiet s i n any q l)
+        by_choice c q h = elim h [ ]
+
+    by_consult_within : is_busy s ≡ false → IsAny is_between_phase s → (b : Bool) → nat_le s.quiet s.now ≡ b → (if b then consult s else Nothing) ≡ Nothing → Room
+    by_consult_within n any true y j = by_consult j
+    by_consult_within n any false y j = by_rest n any (grind (arith, nat_tests, y))
+
+    by_piece : is_busy s ≡ false → IsAny is_between_phase s → (i : ℕ) (p : Phase) → is_between_phase p ≡ true → within s i p ≡ Nothing → Room
+    by_piece n any i (Between x) h j = pieces (is_hearable s.limits x) (x.share == 0) j
+      where
+        pieces : (a b : Bool) → (if a then (if b then or_else (consult_within s) (Proceed i x) else Proceed i x) else consult_within s) ≡ Nothing → Room
+        pieces true true j = absurd (proceeds i x (both (consult_within s) (Proceed i x) j).1)
         pieces true false j = absurd (proceeds i x j)
-        pieces false b j = by_consult j
-    by_piece i p h j = cc
+        pieces false b j = by_consult_within n any (nat_le s.quiet s.now) refl j
+    by_piece n any i p h j = cc
 
     by_end : (b : Bool) → is_ending s.course ≡ b → (if b then Nothing else between_jobs s) ≡ Nothing → Room
     by_end true h j = absurd (undismissed s id (Ready Query k) still h (λ st. refl) e)
@@ -276,21 +306,23 @@ queries_are_awake s o id k still l e = by_office (is_busy s) refl (stillness s s
     by_copy true j = by_consult j
     by_copy false j = by_end (is_ending s.course) refl j
 
-    by_session : (at : Option Connection) → find (in_phase is_between_phase) s.connections ≡ at → job_for s at ≡ Nothing → Room
-    by_session (Some c) f j = by_piece c.id c.phase (found (in_phase is_between_phase) s.next s.connections c f o).1 j
-    by_session None f j = by_copy (list_any (in_phase is_copying_phase) s.connections) j
+    by_session : is_busy s ≡ false → (at : Option Connection) → find (in_phase is_between_phase) s.connections ≡ at → job_for s at ≡ Nothing → Room
+    by_session n (Some c) f j =
+        let h = found (in_phase is_between_phase) s.next s.connections c f o in
+        by_piece n (any_there is_between_phase c.id s.connections c.phase h.0 h.1) c.id c.phase h.1 j
+    by_session n None f j = by_copy (list_any (in_phase is_copying_phase) s.connections) j
 
     by_office : (b : Bool) → is_busy s ≡ b → (if b then Nothing else job_for s (find (in_phase is_between_phase) s.connections)) ≡ Nothing → IsAtWork s ⊎ Room
     by_office true h j = inl h
-    by_office false h j = inr (by_session (find (in_phase is_between_phase) s.connections) refl j)
+    by_office false h j = inr (by_session h (find (in_phase is_between_phase) s.connections) refl j)
 
 -- 5. A session
 
 pub session_is_awake : (s : State) → SessionIsAwake s
 session_is_awake s c x still f e h = by_office (is_busy s) refl (stillness s still.0 still.1).job_is
   where
-    pieces : (b : Bool) → (if b then or_else (consult s) (Proceed c.id x) else Proceed c.id x) ≡ Nothing → ⊥
-    pieces true j = let k : Proceed c.id x ≡ Nothing = (both (consult s) (Proceed c.id x) j).1 in cc
+    pieces : (b : Bool) → (if b then or_else (consult_within s) (Proceed c.id x) else Proceed c.id x) ≡ Nothing → ⊥
+    pieces true j = let k : Proceed c.id x ≡ Nothing = (both (consult_within s) (Proceed c.id x) j).1 in cc
     pieces false j = cc
 
     by_office : (b : Bool) → is_busy s ≡ b → (if b then Nothing else job_for s (find (in_phase is_between_phase) s.connections)) ≡ Nothing → IsAtWork s
@@ -298,8 +330,8 @@ session_is_awake s c x still f e h = by_office (is_busy s) refl (stillness s sti
     by_office false n j =
         let a : job_for s (Some c) ≡ Nothing = ap (job_for s) (sym f) ∙ j in
         let b : within s c.id (Between x) ≡ Nothing = ap (within s c.id) (sym e) ∙ a in
-        let d : (if true then (if x.share == 0 then or_else (consult s) (Proceed c.id x) else Proceed c.id x) else consult s) ≡ Nothing = ap
-        (λ t. cond t (cond (x.share == 0) (or_else (consult s) (Proceed c.id x)) (Proceed c.id x)) (consult s)) (sym h) ∙ b in
+        let d : (if true then (if x.share == 0 then or_else (consult_within s) (Proceed c.id x) else Proceed c.id x) else consult_within s) ≡ Nothing = ap
+        (λ t. cond t (cond (x.share == 0) (or_else (consult_within s) (Proceed c.id x)) (Proceed c.id x)) (consult_within s)) (sym h) ∙ b in
         absurd (pieces (x.share == 0) d)
 
 -- 6. Calls

@@ -41,8 +41,8 @@ use Rattle.oftp_schedule.specs.declared.connection.Session.{Session}
 use Rattle.oftp_schedule.specs.declared.connection.Step.{Step}
 use Rattle.oftp_schedule.specs.declared.connection.Connection.{Connection}
 use Rattle.oftp_schedule.specs.declared.connection.Limits.{Limits}
-use Rattle.oftp_schedule.specs.Rules.{heard_on, wait_after, stepped, after_step, at_end, answering, answered, answered_whole, went, rule, due, is_late, late, dismissal, concerns, hurried_phase, hurried, is_between_phase, is_guest_phase, is_query_phase, is_update_phase, is_owed_phase, is_copying_phase, is_wanted_phase, is_connected_phase, is_arriving_phase, in_phase, is_ripe, is_at, call_in, calls, ends_session, has_id, is_other, connection_at, phase_at, became, owed_phase, owed, shared_phase, shared, is_orphan, is_to_tell, is_hearable, room_left}
-use Rattle.oftp_schedule.specs.Machine.{State, Turn, hasty, limits_in, limits_now, with_next, with_connections, new_call, at_door, edited, after_session, replied, in_numbers, replied_at, places, with_gate, gate, knocked, first_phase, makes_room, evicted, came, accepted, accepted_at, with_call, due_to, reviewed, received, or_else, choice_of, is_enough, finish, dismissed, is_to_yield, yielded, yield_to, yield_for, way_given, is_ending, is_knocked, has_place, admit, admission, is_busy, may_dial, sought, dial, consult, within, requested, update, new_session, guest_session, called_session, call_session, in_turn, inspection, between_jobs, outside, job_for, job, departed, departure, choice, chosen, Move, step, start, run, Tell, Ask, is_reviewing}
+use Rattle.oftp_schedule.specs.Rules.{heard_on, wait_after, stepped, after_step, at_end, answering, answered, answered_whole, went, dialing_time, rule, due, is_late, once_less, redialed, late, dismissal, concerns, hurried_phase, hurried, is_between_phase, is_guest_phase, is_query_phase, is_update_phase, is_owed_phase, is_copying_phase, is_wanted_phase, is_connected_phase, is_arriving_phase, in_phase, is_ripe, is_at, call_in, calls, ends_session, has_id, is_other, connection_at, phase_at, became, owed_phase, owed, shared_phase, shared, is_orphan, is_to_tell, is_hearable, room_left}
+use Rattle.oftp_schedule.specs.Machine.{State, Turn, hasty, limits_in, limits_now, with_next, with_connections, new_call, at_door, edited, after_session, replied, in_numbers, replied_at, places, with_gate, gate, knocked, first_phase, makes_room, evicted, came, accepted, accepted_at, with_call, due_to, reviewed, received, or_else, choice_of, is_enough, finish, dismissed, is_to_yield, yielded, yield_to, yield_for, way_given, is_ending, is_knocked, has_place, admit, admission, is_busy, may_dial, sought, dial, consult, consult_within, within, requested, update, new_session, guest_session, called_session, call_session, in_turn, inspection, between_jobs, outside, job_for, job, departed, departure, choice, chosen, Move, step, start, run, Tell, Ask, is_reviewing}
 use Rattle.oftp_schedule.specs.Deadlines.{patience_of, longest_of, time_limit, IsWithin, session_of, SessionsEnd}
 use Rattle.oftp_schedule.proofs.Numbers.{Distinct, known, at_number, Distinct-map}
 use Rattle.oftp_schedule.proofs.Still.{either, each_choice}
@@ -149,7 +149,7 @@ Within now l me d (Copying u) = u ≤ now + l.copying
 Within now l me d (Answered u o) = u ≤ now + max (answering l d) l.farewell
 Within now l me d (Wanted c) = Unit {0}
 Within now l me d (Resolving c) = Unit {0}
-Within now l me d (Dialing c u) = u ≤ now + l.dialing
+Within now l me d (Dialing c u) = u ≤ now + dialing_time l c
 Within now l me d (Connected c u) = u ≤ now + l.standing
 
 abbrev pub Bounded : ℕ → Limits → Connection → Type 0
@@ -283,11 +283,14 @@ rule_within now k l me d (Dialing c u) Failed n h = tt
 rule_within now k l me d (Connected c u) Lost n h = tt
 rule_within now k l me d p g n h = tt
 
+redialed_within : (now : ℕ) (l : Limits) (me : ℕ) (d : Door) (c : Call) → ReplyWithin now l me d (redialed c)
+redialed_within now l me d c = elim (nat_lt 0 c.times) as (λ b. ReplyWithin now l me d (if b then Redial (Wanted (once_less c)) else Leave TimedOut)) [ true ↦ tt | false ↦ tt ]
+
 late_within : (now : ℕ) (k l : Limits) (me : ℕ) (d : Door) (p : Phase) → IsNoMore k l → ReplyWithin now l me d (late now k d p)
 late_within now k l me d (Between x) n = tt
 late_within now k l me d (Copying u) n = answered_within now k l me d 0 n
 late_within now k l me d (Dialing c u) n = tt
-late_within now k l me d (Connected c u) n = tt
+late_within now k l me d (Connected c u) n = redialed_within now l me d c
 late_within now k l me d p n = tt
 
 dismissal_within : (now : ℕ) (l : Limits) (me : ℕ) (d : Door) (p : Phase) → ReplyWithin now l me d (dismissal now l d p)
@@ -487,7 +490,7 @@ dismissed_within s Past o = tt
 
 yielded_within : (s : State) (id : ℕ) (c : Call) → ChoiceWithin s (Settle id (yielded c))
 yielded_within s id c d e = elim (nat_lt 0 c.times) as (λ b. ReplyWithin s.now s.limits d.id d.door
-    (if b then Yield (Wanted (record { partner = c.partner; asker = c.asker; times = c.times - 1 })) else Break TimedOut))
+    (if b then Yield (Wanted (once_less c)) else Break TimedOut))
     [ true ↦ tt | false ↦ tt ]
 
 yield_to_within : (s : State) (id : ℕ) (x : Session) (t : ℕ) (w : Way) → ChoiceWithin s (yield_to s.now id x t w)
@@ -531,18 +534,21 @@ dial_within : (s : State) → IsDistinct s → ChoiceWithin s (dial s)
 dial_within s o = elim (may_dial s) as (λ b. ChoiceWithin s (if b then choice_of (find (in_phase is_wanted_phase) s.connections) (λ c. sought c (call_in c.phase)) else Nothing))
     [ true ↦ of_found s (in_phase is_wanted_phase) (λ c. sought c (call_in c.phase)) (find (in_phase is_wanted_phase) s.connections) o refl (λ c e. sought_within s c (call_in c.phase)) | false ↦ tt ]
 
-consult_within : (s : State) → IsDistinct s → ChoiceWithin s (consult s)
-consult_within s o = elim (nat_lt 0 (room_left s.limits.held s.connections)) as
+query_within : (s : State) → IsDistinct s → ChoiceWithin s (consult s)
+query_within s o = elim (nat_lt 0 (room_left s.limits.held s.connections)) as
     (λ b. ChoiceWithin s (if b then choice_of (find (in_phase is_query_phase) s.connections) (λ c. Consult c.id) else Nothing))
     [ true ↦ of_found s (in_phase is_query_phase) (λ c. Consult c.id) (find (in_phase is_query_phase) s.connections) o refl (λ c e. tt) | false ↦ tt ]
+
+held_within : (s : State) → IsDistinct s → ChoiceWithin s (consult_within s)
+held_within s o = elim (nat_le s.quiet s.now) as (λ b. ChoiceWithin s (if b then consult s else Nothing)) [ true ↦ query_within s o | false ↦ tt ]
 
 piece_within : (s : State) (id : ℕ) (p : Phase) → IsDistinct s → ChoiceWithin s (within s id p)
 piece_within s id (Between x) o = cases (is_hearable s.limits x) (x.share == 0)
   where
-    cases : (a b : Bool) → ChoiceWithin s (if a then (if b then or_else (consult s) (Proceed id x) else Proceed id x) else consult s)
-    cases true true = either (ChoiceWithin s) (consult s) (Proceed id x) (consult_within s o) tt
+    cases : (a b : Bool) → ChoiceWithin s (if a then (if b then or_else (consult_within s) (Proceed id x) else Proceed id x) else consult_within s)
+    cases true true = either (ChoiceWithin s) (consult_within s) (Proceed id x) (held_within s o) tt
     cases true false = tt
-    cases false b = consult_within s o
+    cases false b = held_within s o
 piece_within s id p o = tt
 
 requested_within : (s : State) (id : ℕ) (p : Phase) → ChoiceWithin s (requested id p)
@@ -580,7 +586,7 @@ between_within : (s : State) → IsDistinct s → ChoiceWithin s (between_jobs s
 between_within s o =
     let Q = ChoiceWithin s in
     let turn = in_turn s.last (consult s) (guest_session s) (update s is_update_phase) in
-    let h = turn_within s s.last (consult s) (guest_session s) (update s is_update_phase) (consult_within s o) (guest_within s o) (update_within s is_update_phase o) in
+    let h = turn_within s s.last (consult s) (guest_session s) (update s is_update_phase) (query_within s o) (guest_within s o) (update_within s is_update_phase o) in
     either Q (inspection s s.clock) (or_else (update s is_owed_phase) (or_else (call_session s) turn)) (inspection_within s s.clock)
     (either Q (update s is_owed_phase) (or_else (call_session s) turn) (update_within s is_owed_phase o) (either Q (call_session s) turn (call_within s o) h))
 
@@ -588,7 +594,7 @@ outside_within : (s : State) → IsDistinct s → ChoiceWithin s (outside s)
 outside_within s o = cases (list_any (in_phase is_copying_phase) s.connections) (is_ending s.course)
   where
     cases : (a b : Bool) → ChoiceWithin s (if a then consult s else (if b then Nothing else between_jobs s))
-    cases true b = consult_within s o
+    cases true b = query_within s o
     cases false true = tt
     cases false false = between_within s o
 

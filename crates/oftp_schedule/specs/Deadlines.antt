@@ -1,8 +1,10 @@
 -- When the time of a connection is over: within which limit, who moves that moment, and when the shell is to tell the time.
-use Rattle.std.specs.Prelude.{◌≡◌, ◌⊎◌, ◌^◌, ℕ, ◌+◌, ◌<◌, ◌≤◌, ◌==◌, max, min, Bool, true, false, Option, Some, None, find}
+use Rattle.std.specs.Prelude.{◌≡◌, ◌⊎◌, ◌^◌, ℕ, ◌+◌, ◌-◌, ◌<◌, ◌≤◌, ◌==◌, max, min, Bool, true, false, Option, Some, None, find}
+use Rattle.std.specs.List.{list_any}
 use Rattle.oftp_schedule.specs.declared.connection.Door.{Door}
 use Rattle.oftp_schedule.specs.declared.connection.Way.{Way}
 use Rattle.oftp_schedule.specs.declared.connection.Way.TheVariants.{In, Out, Unanswered}
+use Rattle.oftp_schedule.specs.declared.connection.Input.TheVariants.{Awaited}
 use Rattle.oftp_schedule.specs.declared.connection.Phase.{Phase}
 use Rattle.oftp_schedule.specs.declared.connection.Phase.TheVariants.{Stranger, Guest, Stepping, Between, Parting, Asking, Copying, Answered, Dialing, Connected}
 use Rattle.oftp_schedule.specs.declared.connection.Call.{Call}
@@ -13,10 +15,11 @@ use Rattle.oftp_schedule.specs.declared.connection.Event.{Event}
 use Rattle.oftp_schedule.specs.declared.connection.Event.TheVariants.{Accepted, Told}
 use Rattle.oftp_schedule.specs.declared.connection.Gate.TheVariants.{Knocked, Resting}
 use Rattle.oftp_schedule.specs.declared.connection.Clock.TheVariants.{At}
+use Rattle.oftp_schedule.specs.declared.connection.Reply.TheVariants.{Yield}
 use Rattle.oftp_schedule.specs.declared.connection.Choice.{Choice}
 use Rattle.oftp_schedule.specs.declared.connection.Choice.TheVariants.{Nothing, Finish, Settle, Start, Proceed, Consult, Perform, Lend, Seek}
-use Rattle.oftp_schedule.specs.Rules.{answering, due, hurried_phase, owed_phase, shared_phase, in_phase, is_between_phase, is_guest_phase, is_ripe_phase, connection_at, phase_at}
-use Rattle.oftp_schedule.specs.Machine.{State, gate, received, is_ending, choice, is_past, next_time, Move, step, Ask}
+use Rattle.oftp_schedule.specs.Rules.{answering, dialing_time, due, hurried_phase, owed_phase, shared_phase, in_phase, is_between_phase, is_guest_phase, is_ripe_phase, connection_at, phase_at}
+use Rattle.oftp_schedule.specs.Machine.{State, gate, received, is_ending, consult, is_busy, choice, is_past, next_time, Move, step, Ask}
 
 -- 1. Limits
 
@@ -39,7 +42,7 @@ time_limit l d (Parting u) = l.farewell
 time_limit l d (Asking u) = answering l d
 time_limit l d (Copying u) = l.copying
 time_limit l d (Answered u o) = max (answering l d) l.farewell
-time_limit l d (Dialing c u) = l.dialing
+time_limit l d (Dialing c u) = dialing_time l c
 time_limit l d (Connected c u) = l.standing
 time_limit l d p = 0
 
@@ -84,11 +87,15 @@ KnowsRests s = (d : Door) (u : ℕ) → gate s d ≡ Resting u → AtMost u (nex
 abbrev pub KnowsRoom : State → Type 0
 KnowsRoom s = (id u r : ℕ) → s.partners ≡ Knocked → phase_at id s.connections ≡ Some (Stranger u r) → s.now < r → AtMost r (next_time s)
 
--- a call's session that isn't answered, and the guest that it may give way to
+-- the end of the rest of look-ups within a session, where one that waits would be done else,
+abbrev pub KnowsQuiet : State → Type 0
+KnowsQuiet s = (id : ℕ) → is_busy s ≡ false → list_any (in_phase is_between_phase) s.connections ≡ true → consult s ≡ Consult id → s.now < s.quiet → AtMost s.quiet (next_time s)
+
+-- a call's session that isn't answered, and of whose partner nothing is there to hear, and the guest that it may give way to
 abbrev pub AreRivals : State → Session → Call → ℕ → Type 0
 AreRivals s x c t =
     (a : Connection) × (g : Connection) × (k : ℕ) × (find (in_phase is_between_phase) s.connections ≡ Some a) × (find (in_phase is_guest_phase) s.connections ≡ Some g) ×
-    (a.phase ≡ Between x) × (x.way ≡ Unanswered c k) × (g.phase ≡ Guest t)
+    (a.phase ≡ Between x) × (x.way ≡ Unanswered c k) × (x.input ≡ Awaited) × (g.phase ≡ Guest t)
 
 -- and the moment at which a call gives way
 abbrev pub KnowsWay : State → Type 0
@@ -156,6 +163,11 @@ IsOnTime s = (id u : ℕ) (p : Phase) → IsStill s → phase_at id s.connection
 -- and so is the moment at which a call gives way
 abbrev pub GivesWay : State → Type 0
 GivesWay s = (x : Session) (c : Call) (t : ℕ) → IsStill s → AreRivals s x c t → s.now < max x.begun t + c.partner.pause
+
+-- but none gives way before that, nor one of whose partner something is there to hear
+abbrev pub YieldsInTime : State → Type 0
+YieldsInTime s =
+    (id : ℕ) (p : Phase) → choice s ≡ Settle id (Yield p) → (x : Session) × (c : Call) × (t : ℕ) × AreRivals s x c t × (c.partner.pause ≤ s.now - max x.begun t)
 
 -- and so is every moment that the shell is told: it never asks in vain (a door rests for some time, and times are as small as the shell tells them)
 abbrev pub IsToCome : State → Type 0

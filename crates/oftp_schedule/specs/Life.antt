@@ -116,6 +116,7 @@ printed Unreached (Ending Unreached) = Going Unreached
 printed Evicted Unjudged = Going Evicted
 -- its time is over
 printed TimedOut Unjudged = Going TimedOut
+printed TimedOut Standing = Going TimedOut
 printed Unreached Ringing = Going Unreached
 -- a session that was ended as it stood
 printed TimedOut Cut_off = Going TimedOut

@@ -38,10 +38,14 @@ use Rattle.oftp_schedule.specs.declared.connection.Call.{Call}
 use Rattle.oftp_schedule.specs.declared.connection.Session.{Session}
 use Rattle.oftp_schedule.specs.declared.connection.Connection.{Connection}
 use Rattle.oftp_schedule.specs.declared.connection.Limits.{Limits}
-use Rattle.oftp_schedule.specs.Rules.{is_hearable, answered, rule, due, is_late, late, dismissal, concerns, hurried, at_office, in_session, is_between_phase, is_guest_phase, is_query_phase, is_update_phase, is_owed_phase, is_copying_phase, is_wanted_phase, is_connected_phase, is_up_phase, is_arriving_phase, in_phase, is_ripe, same_door, is_at, call_in, calls, orders, is_job, ends_session, is_other, connection_at, became, owed, shared, is_orphan, is_to_tell, room_left}
+use Rattle.oftp_schedule.specs.Rules.{is_awaited, is_hearable, answered, rule, due, is_late, once_less, late, dismissal, concerns, hurried, at_office, in_session, is_between_phase, is_guest_phase, is_query_phase, is_update_phase, is_owed_phase, is_copying_phase, is_wanted_phase, is_connected_phase, is_up_phase, is_arriving_phase, in_phase, is_ripe, same_door, is_at, call_in, calls, orders, is_counted, ends_session, is_other, connection_at, became, owed, shared, is_orphan, is_to_tell, room_left}
 
 pub record State : Type 0 where
   pub now : ℕ
+  -- when the last look-up was ordered
+  pub looked : ℕ
+  -- until when no look-up begins within a session
+  pub quiet : ℕ
   -- the number of the next connection
   pub next : ℕ
   -- how many jobs are left, if they are counted
@@ -68,6 +72,27 @@ abbrev pub with_time : State → ℕ → State
 with_time s v =
     record {
       now = v;
+      looked = s.looked;
+      quiet = s.quiet;
+      next = s.next;
+      left = s.left;
+      last = s.last;
+      guest_first = s.guest_first;
+      clock = s.clock;
+      course = s.course;
+      partners = s.partners;
+      commands = s.commands;
+      requests = s.requests;
+      limits = s.limits;
+      connections = s.connections;
+    }
+
+abbrev pub with_looked : State → ℕ → State
+with_looked s v =
+    record {
+      now = s.now;
+      looked = v;
+      quiet = s.quiet;
       next = s.next;
       left = s.left;
       last = s.last;
@@ -85,6 +110,8 @@ abbrev pub with_next : State → ℕ → State
 with_next s v =
     record {
       now = s.now;
+      looked = s.looked;
+      quiet = s.quiet;
       next = v;
       left = s.left;
       last = s.last;
@@ -102,6 +129,8 @@ abbrev pub with_last_job : State → Kind → State
 with_last_job s v =
     record {
       now = s.now;
+      looked = s.looked;
+      quiet = s.quiet;
       next = s.next;
       left = s.left;
       last = v;
@@ -119,6 +148,8 @@ abbrev pub with_guest_first : State → Bool → State
 with_guest_first s v =
     record {
       now = s.now;
+      looked = s.looked;
+      quiet = s.quiet;
       next = s.next;
       left = s.left;
       last = s.last;
@@ -136,6 +167,8 @@ abbrev pub with_clock : State → Clock → State
 with_clock s v =
     record {
       now = s.now;
+      looked = s.looked;
+      quiet = s.quiet;
       next = s.next;
       left = s.left;
       last = s.last;
@@ -153,6 +186,8 @@ abbrev pub with_course : State → Course → State
 with_course s v =
     record {
       now = s.now;
+      looked = s.looked;
+      quiet = s.quiet;
       next = s.next;
       left = s.left;
       last = s.last;
@@ -170,6 +205,8 @@ abbrev pub with_partners : State → Gate → State
 with_partners s v =
     record {
       now = s.now;
+      looked = s.looked;
+      quiet = s.quiet;
       next = s.next;
       left = s.left;
       last = s.last;
@@ -187,6 +224,8 @@ abbrev pub with_commands : State → Gate → State
 with_commands s v =
     record {
       now = s.now;
+      looked = s.looked;
+      quiet = s.quiet;
       next = s.next;
       left = s.left;
       last = s.last;
@@ -204,6 +243,8 @@ abbrev pub with_requests : State → Gate → State
 with_requests s v =
     record {
       now = s.now;
+      looked = s.looked;
+      quiet = s.quiet;
       next = s.next;
       left = s.left;
       last = s.last;
@@ -221,6 +262,8 @@ abbrev pub with_connections : State → List Connection → State
 with_connections s v =
     record {
       now = s.now;
+      looked = s.looked;
+      quiet = s.quiet;
       next = s.next;
       left = s.left;
       last = s.last;
@@ -265,6 +308,7 @@ hasty l =
       times = l.times;
       greeting = l.greeting;
       jobs = l.jobs;
+      counted = l.counted;
     }
 
 abbrev pub limits_in : Course → Limits → Limits
@@ -310,13 +354,20 @@ abbrev pub guest_next : Bool → Reply → Bool
 guest_next b (Yield p) = true
 guest_next b r = b
 
--- a job is counted, a number given away, and a guest comes first where a call gave way
+-- a look-up that was done is followed by as long a time as it took
+abbrev pub quiet_after : State → Phase → Reply → ℕ
+quiet_after s (Served Query) (Respond p) = max s.quiet (s.now + (s.now - s.looked))
+quiet_after s p r = s.quiet
+
+-- a job is counted, a number given away, a look-up's time is known, and a guest comes first where a call gave way
 abbrev pub counted : State → Door → Phase → Reply → State
 counted s d p r =
     record {
       now = s.now;
+      looked = s.looked;
+      quiet = quiet_after s p r;
       next = s.next + numbers r;
-      left = s.left - jobs (is_job d p r);
+      left = s.left - jobs (is_counted s.limits.counted d p r);
       last = s.last;
       guest_first = guest_next s.guest_first r;
       clock = s.clock;
@@ -475,12 +526,12 @@ orphaned s = choice_of (find (is_orphan s.connections) s.connections) (λ c. Set
 abbrev pub call_over : State → Choice
 call_over s = choice_of (find (is_to_tell s.connections) s.connections) (λ c. Settle c.id (Respond (answered s.now (limits_now s) c.door 0)))
 
--- a call that isn't answered gives way to a guest that has waited for the partner's pause
+-- a call that isn't answered, and of whose partner nothing is there to hear, gives way to a guest that has waited for the partner's pause
 abbrev pub is_to_yield : ℕ → Session → Call → ℕ → Bool
-is_to_yield now x c t = nat_le c.partner.pause (now - max x.begun t)
+is_to_yield now x c t = if is_awaited x.input then nat_le c.partner.pause (now - max x.begun t) else false
 
 abbrev pub yielded : Call → Reply
-yielded c = if nat_lt 0 c.times then Yield (Wanted (record { partner = c.partner; asker = c.asker; times = c.times - 1 })) else Break TimedOut
+yielded c = if nat_lt 0 c.times then Yield (Wanted (once_less c)) else Break TimedOut
 
 abbrev pub yield_to : ℕ → ℕ → Session → ℕ → Way → Choice
 yield_to now id x t (Unanswered c k) = if is_to_yield now x c t then Settle id (yielded c) else Nothing
@@ -545,12 +596,16 @@ dial s = if may_dial s then choice_of (find (in_phase is_wanted_phase) s.connect
 abbrev pub consult : State → Choice
 consult s = if nat_lt 0 (room_left s.limits.held s.connections) then choice_of (find (in_phase is_query_phase) s.connections) (λ c. Consult c.id) else Nothing
 
+-- a look-up within a session, once as long has passed as the last one took
+abbrev pub consult_within : State → Choice
+consult_within s = if nat_le s.quiet s.now then consult s else Nothing
+
 -- within a session: what its partner sent, or a look-up after so many octets, or while it is silent
 abbrev pub within : State → ℕ → Phase → Choice
 within s id (Between x) =
     if is_hearable s.limits x
-    then (if x.share == 0 then or_else (consult s) (Proceed id x) else Proceed id x)
-    else consult s
+    then (if x.share == 0 then or_else (consult_within s) (Proceed id x) else Proceed id x)
+    else consult_within s
 within s id p = Nothing
 
 abbrev pub requested : ℕ → Phase → Choice
@@ -662,7 +717,7 @@ chosen s (Admit d) = if nat_lt s.next (2 ^ 63) then welcomed s d else (s, [])
 chosen s Inspect = (with_clock s Reviewing, Review ∷ [])
 chosen s (Start id x) = (with_guest_first (with_last_job (became_all s id (Stepping x)) Sessions) (not (is_in x.way)), Begin id ∷ [])
 chosen s (Proceed id x) = (became_all s id (Stepping x), Hear id ∷ [])
-chosen s (Consult id) = (with_last_job (with_connections s (map (shared s.limits.share) (map (became id (Served Query)) s.connections))) Queries, Look id ∷ [])
+chosen s (Consult id) = (with_last_job (with_looked (with_connections s (map (shared s.limits.share) (map (became id (Served Query)) s.connections))) s.now) Queries, Look id ∷ [])
 chosen s (Perform id) = (with_last_job (became_all s id (Served Update)) Updates, Change id ∷ [])
 chosen s (Lend id) = (with_last_job (became_all s id (Copying (s.now + s.limits.copying))) Updates, Copy id ∷ [])
 chosen s (Seek id c) = (became_all s id (Resolving c), Resolve id ∷ [])
@@ -682,6 +737,8 @@ abbrev pub start : Limits → State
 start l =
     record {
       now = 0;
+      looked = 0;
+      quiet = 0;
       next = 0;
       left = l.jobs;
       last = Updates;
@@ -754,9 +811,9 @@ first_ripe now (c ∷ cs) = earlier (ripe_time now c.phase) (first_ripe now cs)
 abbrev pub waits_for_room : State → Option ℕ
 waits_for_room s = if is_knocked s.partners then first_ripe s.now s.connections else None
 
--- when a call gives way
+-- when a call gives way, if nothing of its partner comes
 abbrev pub yield_time : Session → Way → ℕ → Option ℕ
-yield_time x (Unanswered c k) t = Some (min (max x.begun t + c.partner.pause) (2 ^ 64 - 1))
+yield_time x (Unanswered c k) t = if is_awaited x.input then Some (min (max x.begun t + c.partner.pause) (2 ^ 64 - 1)) else None
 yield_time x w t = None
 
 abbrev pub yield_time_of : Phase → Phase → Option ℕ
@@ -772,11 +829,20 @@ way_time s =
     time_of (find (in_phase is_between_phase) s.connections) (λ c.
     time_of (find (in_phase is_guest_phase) s.connections) (λ g. yield_time_of c.phase g.phase))
 
+-- when this choice may be made, if that is to come
+abbrev pub quiet_until : ℕ → ℕ → Choice → Option ℕ
+quiet_until now t (Consult id) = to_come now t
+quiet_until now t c = None
+
+-- when a look-up that waits may begin within a session
+abbrev pub quiet_time : State → Option ℕ
+quiet_time s = if is_busy s then None else time_of (find (in_phase is_between_phase) s.connections) (λ c. quiet_until s.now s.quiet (consult s))
+
 abbrev pub next_time : State → Option ℕ
 next_time s =
     earlier (first_due s.connections)
     (earlier (earlier (rest_over s.partners) (earlier (rest_over s.commands) (rest_over s.requests)))
-    (earlier (clock_time s.now s.clock) (earlier (waits_for_room s) (way_time s))))
+    (earlier (clock_time s.now s.clock) (earlier (waits_for_room s) (earlier (way_time s) (quiet_time s)))))
 
 -- 6. What is asked for: the first action that is ordered, and else what is done next
 

@@ -1,6 +1,8 @@
 -- The rules of one connection, apart from all others: what each signal does in each phase, when its time is over, and what is done then.
 use Rattle.std.specs.Prelude.{ℕ, zero, suc, ◌+◌, ◌-◌, ◌==◌, max, min, Bool, true, false, nat_lt, nat_le, not, List, [], ◌∷◌, ◌++◌, Option, Some, None, if◌then◌else◌, find}
 use Rattle.std.specs.List.{list_any}
+use Rattle.oftp_schedule.specs.declared.connection.Counted.{Counted}
+use Rattle.oftp_schedule.specs.declared.connection.Counted.TheVariants.{Jobs, Connections}
 use Rattle.oftp_schedule.specs.declared.connection.Door.{Door}
 use Rattle.oftp_schedule.specs.declared.connection.Door.TheVariants.{Partners, Commands, Requests, Calls}
 use Rattle.oftp_schedule.specs.declared.connection.Request.TheVariants.{Query, Update, Backup}
@@ -168,6 +170,10 @@ abbrev pub went : ℕ → Limits → Door → ℕ → ℕ → Reply
 went now l d u zero = answered_whole now l d
 went now l d u (suc k) = Become (Answered (max u (now + answering l d)) (suc k))
 
+-- how long a call may take to connect: no longer than a wait of its session
+abbrev pub dialing_time : Limits → Call → ℕ
+dialing_time l c = min l.dialing c.partner.patience
+
 abbrev pub rule : ℕ → Limits → Door → Phase → Signal → Reply
 rule now l d (Stranger u r) LetIn = Queue (Guest now)
 rule now l d (Stranger u r) Rejected = Farewell (parting now l)
@@ -195,7 +201,7 @@ rule now l d (Copying u) Ends = Respond (answered now l d 0)
 rule now l d (Copying u) Lost = Leave Vanished
 rule now l d (Answered u o) (Went k) = went now l d u k
 rule now l d (Answered u o) Lost = Leave Vanished
-rule now l d (Resolving c) Resolved = Connect (Dialing c (now + l.dialing))
+rule now l d (Resolving c) Resolved = Connect (Dialing c (now + dialing_time l c))
 rule now l d (Resolving c) Failed = Leave Unreached
 rule now l d (Dialing c u) Up = Become (Connected c (now + l.standing))
 rule now l d (Dialing c u) Failed = Leave Unreached
@@ -235,11 +241,19 @@ is_late now c = is_over now (due c.phase)
 abbrev pub overdue : Session → Reason
 overdue x = if x.backlog == 0 then TimedOut else Stalled
 
+-- a call that hangs up may do so once less from then on
+abbrev pub once_less : Call → Call
+once_less c = record { partner = c.partner; asker = c.asker; times = c.times - 1 }
+
+-- a call that didn't begin in its time hangs up and is made again, as often as it may
+abbrev pub redialed : Call → Reply
+redialed c = if nat_lt 0 c.times then Redial (Wanted (once_less c)) else Leave TimedOut
+
 abbrev pub late : ℕ → Limits → Door → Phase → Reply
 late now l d (Between x) = Break (overdue x)
 late now l d (Copying u) = Refuse (answered now l d 0) TimedOut
 late now l d (Dialing c u) = Leave Unreached
-late now l d (Connected c u) = Redial (Wanted c)
+late now l d (Connected c u) = redialed c
 late now l d p = Leave TimedOut
 
 -- 4. The end of the station
@@ -371,6 +385,11 @@ call_in (Stepping x) = call_of x.way
 call_in (Between x) = call_of x.way
 call_in p = None
 
+-- the call of a connection, if it is one
+abbrev pub call_at : Option Connection → Option Call
+call_at None = None
+call_at (Some c) = call_in c.phase
+
 abbrev pub is_clock : Asker → Bool
 is_clock ByClock = true
 is_clock (By i) = false
@@ -438,6 +457,12 @@ is_job d p (Farewell q) = has_line p
 is_job d p (Leave why) = leaves_line p why
 is_job d p (Break why) = true
 is_job d p r = false
+
+-- what is counted is done: a job, or a connection over HTTP is closed
+abbrev pub is_counted : Counted → Door → Phase → Reply → Bool
+is_counted Jobs d p r = is_job d p r
+is_counted Connections d p (Leave why) = same_door Requests d
+is_counted Connections d p r = false
 
 -- a session ends
 abbrev pub ends_session : Phase → Reply → Bool

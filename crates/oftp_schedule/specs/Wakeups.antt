@@ -1,4 +1,4 @@
--- What waits, and for what: where nothing is chosen, each that waits does so for something whose end is told, or for a deadline.
+-- What waits, and for what: where nothing is chosen, each that waits does so for something whose end is told, or for a moment that is to come.
 use Rattle.std.specs.Prelude.{◌≡◌, ◌≢◌, ◌⊎◌, ◌^◌, ℕ, ◌<◌, ◌≤◌, Bool, true, false, nat_lt, Some, find}
 use Rattle.std.specs.List.{list_any}
 use Rattle.oftp_schedule.specs.declared.connection.Door.{Door}
@@ -30,6 +30,10 @@ IsAny t s = list_any (in_phase t) s.connections ≡ true
 -- somebody in such a phase is there until u at the latest, which is to come, and no later than which the shell tells the time
 abbrev pub Waits : (Phase → Bool) → State → Type 0
 Waits t s = (id : ℕ) × (u : ℕ) × (p : Phase) × (phase_at id s.connections ≡ Some p) × (t p ≡ true) × (due p ≡ Some u) × (s.now < u) × AtMost u (next_time s)
+
+-- there is a session, and no look-up begins within it until a moment that is to come, and no later than which the shell tells the time
+abbrev pub IsHeldBack : State → Type 0
+IsHeldBack s = IsAny is_between_phase s × (s.now < s.quiet) × AtMost s.quiet (next_time s)
 
 -- it is between two steps of its session, or copies the files: other jobs wait for that
 abbrev pub holds_office : Phase → Bool
@@ -83,9 +87,10 @@ UpsAreAwake s = (id u : ℕ) (c : Call) → IsStill s → phase_at id s.connecti
 abbrev pub ClockIsAwake : State → Type 0
 ClockIsAwake s = (t : ℕ) → IsStill s → s.clock ≡ At t → t ≤ s.now → is_ending s.course ≡ false → IsAwake s
 
--- a look-up, for the office or for room for its answer, if there is ever any
+-- a look-up, for the office, for room for its answer, if there is ever any, or for the end of the rest after another
 abbrev pub QueriesAreAwake : State → Type 0
-QueriesAreAwake s = (id : ℕ) (k : Rank) → IsStill s → 0 < s.limits.held → phase_at id s.connections ≡ Some (Ready Query k) → IsAtWork s ⊎ Waits holds_room s
+QueriesAreAwake s =
+    (id : ℕ) (k : Rank) → IsStill s → 0 < s.limits.held → phase_at id s.connections ≡ Some (Ready Query k) → IsAtWork s ⊎ (Waits holds_room s ⊎ IsHeldBack s)
 
 -- the session that has something to hear, for the office alone
 abbrev pub SessionIsAwake : State → Type 0

@@ -95,6 +95,7 @@ impl Schedule {
     {
         table::set_phase(&mut self.connections, id, Phase::Served(Request::Query));
         table::share_all(&mut self.connections, self.limits.share);
+        self.looked = self.time;
         self.last = Kind::Queries;
         order_one(&mut self.actions, Action::Look(id))
     }

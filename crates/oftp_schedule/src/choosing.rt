@@ -2,7 +2,7 @@
 
 ghost use Rattle.std.specs.Prelude.{◌≡◌, ◌+◌, ◌-◌, ◌++◌, ◌^◌, ◌<◌, ◌≤◌, ◌∷◌, [], OnOk, IfOk, OnErr, map, filter, find};
 ghost use Rattle.oftp_schedule.specs.Rules.{answered, late, is_update_phase, is_owed_phase};
-ghost use Rattle.oftp_schedule.specs.Machine.{choice, limits_now, or_else, is_enough, finish, expiry, dismissed, orphaned, call_over, is_to_yield, yielded, yield_to, yield_for, way_given, is_ending, is_knocked, has_place, admit, admission, is_busy, may_dial, sought, dial, consult, within, requested, update, new_session, guest_session, called_session, call_session, in_turn, inspection, between_jobs, outside, job_for, job, departure, is_reviewing, clock_time, waits_for_room, way_time, yield_time, yield_time_of, rest_over, earlier, next_time};
+ghost use Rattle.oftp_schedule.specs.Machine.{choice, limits_now, or_else, is_enough, finish, expiry, dismissed, orphaned, call_over, is_to_yield, yielded, yield_to, yield_for, way_given, is_ending, is_knocked, has_place, admit, admission, is_busy, may_dial, sought, dial, consult, consult_within, within, requested, update, new_session, guest_session, called_session, call_session, in_turn, inspection, between_jobs, outside, job_for, job, departure, is_reviewing, clock_time, waits_for_room, way_time, yield_time, yield_time_of, quiet_time, rest_over, earlier, next_time};
 
 use crate::connection::{
     Call, Choice, Clock, Connection, Course, Door, Gate, Kind, Limits, Millis, Phase, Reason,
@@ -29,24 +29,28 @@ fn yielded(call: Call) -> Reply
     ensures { result ≡ yielded call }
 {
     if call.times > 0 {
-        Reply::Yield(Phase::Wanted(Call {
-            times: call.times - 1,
-            ..call
-        }))
+        Reply::Yield(Phase::Wanted(rules::once_less(call)))
     } else {
         Reply::Break(Reason::TimedOut)
     }
 }
 
-/// Whether a session gives way to a guest that was let in at this moment.
+/// Whether a call that isn't answered gives way to a guest that was let in at this moment.
+fn is_to_yield(now: Millis, session: Session, call: Call, since: Millis) -> bool
+    ensures { result ≡ is_to_yield now session call since }
+{
+    let waited = now.saturating_sub(session.begun.max(since));
+    rules::is_awaited(session.input) && u64::from(call.partner.pause) <= waited
+}
+
+/// Whether a session gives way to a guest.
 fn yield_for(now: Millis, id: u64, phase: Phase, guest: Phase) -> Choice
     ensures { result ≡ yield_for now id phase guest }
 {
     match (phase, guest) {
         (Phase::Between(session), Phase::Guest(since)) => match session.way {
             Way::Unanswered(call, _) => {
-                let waited = now.saturating_sub(session.begun.max(since));
-                if u64::from(call.partner.pause) <= waited {
+                if is_to_yield(now, session, call, since) {
                     Choice::Settle(id, yielded(call))
                 } else {
                     Choice::Nothing
@@ -313,6 +317,17 @@ impl Schedule {
         }
     }
 
+    /// Within a session: a look-up, once as long has passed as the last one took.
+    fn consult_within(&self) -> Choice
+        ensures { result ≡ consult_within self.now.0 }
+    {
+        if self.quiet <= self.time {
+            self.consult()
+        } else {
+            Choice::Nothing
+        }
+    }
+
     /// Within a session: what its partner sent, or a look-up.
     fn within(&self, id: u64, phase: Phase) -> Choice
         ensures { result ≡ within self.now.0 id phase }
@@ -321,10 +336,10 @@ impl Schedule {
             return Choice::Nothing;
         };
         if !rules::is_hearable(&self.limits, &session) {
-            return self.consult();
+            return self.consult_within();
         }
         if session.share == 0 {
-            self.consult().or_else(Choice::Proceed(id, session))
+            self.consult_within().or_else(Choice::Proceed(id, session))
         } else {
             Choice::Proceed(id, session)
         }
@@ -471,13 +486,9 @@ fn yield_time(phase: Phase, guest: Phase) -> Option<Millis>
 {
     match (phase, guest) {
         (Phase::Between(session), Phase::Guest(since)) => match session.way {
-            Way::Unanswered(call, _) => {
-                Some(
-                    session
-                        .begun
-                        .max(since)
-                        .saturating_add(u64::from(call.partner.pause)),
-                )
+            Way::Unanswered(call, _) if rules::is_awaited(session.input) => {
+                let from = session.begun.max(since);
+                Some(from.saturating_add(u64::from(call.partner.pause)))
             }
             _ => None,
         },
@@ -529,6 +540,19 @@ impl Schedule {
         }
     }
 
+    /// The moment at which a look-up may begin within a session.
+    fn quiet_time(&self) -> Option<Millis>
+        ensures { result ≡ quiet_time self.now.0 }
+    {
+        if self.is_busy() || table::session(&self.connections).is_none() {
+            return None;
+        }
+        match self.consult() {
+            Choice::Consult(_) if self.time < self.quiet => Some(self.quiet),
+            _ => None,
+        }
+    }
+
     /// The first moment at which a door has rested.
     fn rest_time(&self) -> Option<Millis>
         ensures { result ≡ earlier (rest_over self.now.0.partners) (earlier (rest_over self.now.0.commands) (rest_over self.now.0.requests)) }
@@ -543,7 +567,10 @@ impl Schedule {
     {
         let others = table::earlier(
             self.clock_time(),
-            table::earlier(self.room_time(), self.way_time()),
+            table::earlier(
+                self.room_time(),
+                table::earlier(self.way_time(), self.quiet_time()),
+            ),
         );
         let doors = table::earlier(self.rest_time(), others);
         table::earlier(table::first_deadline(&self.connections), doors)

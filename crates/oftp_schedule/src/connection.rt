@@ -63,7 +63,7 @@ pub enum Asker {
 pub struct Call {
     pub partner: Partner,
     pub asker: Asker,
-    /// How often it may still give way to a guest.
+    /// How often it may still hang up, and be made again.
     pub times: u32,
 }
 
@@ -202,7 +202,7 @@ pub enum Signal {
     Waits(Step),
     /// A step of its session is over, and so is the session.
     Ended(End),
-    /// Its request is carried out, and its answer has so many octets.
+    /// Its request is carried out, and its answer has so many octets. The time is to be told before: how long a look-up took counts.
     Done(u64),
     /// Octets came.
     Came,
@@ -316,6 +316,15 @@ pub enum Action {
     Exit(Status),
 }
 
+/// What is counted until the station ends.
+#[derive(Clone, Copy, Debug, PartialEq, Eq)]
+pub enum Counted {
+    /// Jobs: sessions, callers who aren't let in, and commands.
+    Jobs,
+    /// Connections over HTTP, once they are closed.
+    Connections,
+}
+
 /// How long things may take, in milliseconds, and how many there may be.
 #[derive(Clone, Copy, Debug, PartialEq, Eq)]
 pub struct Limits {
@@ -337,7 +346,7 @@ pub struct Limits {
     pub farewell: u32,
     /// How long a backup may take.
     pub copying: u32,
-    /// How long a call may take to connect, and how long it is up without a session.
+    /// How long a call may take to connect, if a wait in its session may be as long, and how long it is up without a session.
     pub dialing: u32,
     pub standing: u32,
     /// How long a door rests for which the system had no descriptor or no memory.
@@ -350,12 +359,14 @@ pub struct Limits {
     pub backlog: u64,
     /// How many octets of answers are held while another look-up is begun.
     pub held: u64,
-    /// How often a call may give way to a guest.
+    /// How often a call may hang up, to give way to a guest or because its session didn't begin in time, and be made again.
     pub times: u32,
     /// How many octets a partner sends before it answers: its greeting (RFC 5024, section 5.3.1).
     pub greeting: u32,
     /// After how many jobs the station ends. 0 is never.
     pub jobs: u64,
+    /// What counts as a job.
+    pub counted: Counted,
 }
 
 /// What becomes of a connection.

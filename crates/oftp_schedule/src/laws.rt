@@ -3,7 +3,7 @@
 ghost use Rattle.std.specs.Prelude.{◌≡◌, List, true, ◌≢◌, ◌≤◌, ◌+◌, ◌++◌, ◌∷◌, ℕ};
 ghost use Rattle.oftp_schedule.specs.declared.connection.Limits.{Limits};
 ghost use Rattle.oftp_schedule.specs.Machine.{State, Move, start, run, step, choice, is_ending};
-ghost use Rattle.oftp_schedule.specs.Apart.{IsApart, ChosenApart, IsPaced};
+ghost use Rattle.oftp_schedule.specs.Apart.{IsApart, ChosenApart, IsPaced, IsDated, IsBrief, IsRested};
 ghost use Rattle.oftp_schedule.specs.Doors.{evictions, leaver, number};
 ghost use Rattle.oftp_schedule.specs.Order.{IsFirst};
 ghost use Rattle.oftp_schedule.specs.Ends.{BeginsNothing, Departs, IsOver};
@@ -13,13 +13,14 @@ ghost use Rattle.oftp_schedule.specs.History.{Note, Ordered, history, watch};
 ghost use Rattle.oftp_schedule.specs.Life.{Unbegun, Broken, life, stage_of, hands, answers, declines, refusals, prints, asks_for, wants_call, handing, times_ordered, times_told};
 ghost use Rattle.oftp_schedule.specs.declared.connection.Event.{Event};
 ghost use Rattle.oftp_schedule.specs.declared.connection.Phase.{Phase};
-ghost use Rattle.oftp_schedule.specs.Deadlines.{IsWithin, SessionsEnd, KeepsEnds, KnowsDeadlines, KnowsClock, KnowsRests, KnowsRoom, KnowsWay, IsUnmovedBy, IsUnmoved, IsKept, IsOnTime, GivesWay, IsHastened, IsToCome};
+ghost use Rattle.oftp_schedule.specs.Deadlines.{IsWithin, SessionsEnd, KeepsEnds, KnowsDeadlines, KnowsClock, KnowsRests, KnowsRoom, KnowsQuiet, KnowsWay, IsUnmovedBy, IsUnmoved, IsKept, IsOnTime, GivesWay, YieldsInTime, IsHastened, IsToCome};
 ghost use Rattle.oftp_schedule.specs.Wakeups.{GuestsAreAwake, UpdatesAreAwake, UpsAreAwake, ClockIsAwake, QueriesAreAwake, SessionIsAwake, CallsAreAwake, CommandsAreAwake, DoorsAreAwake, EndIsAwake, EndComes};
 
 /// Each deadline lies within its limit, a session ends in its time, and nothing moves that. `Schedule::poll_timeout` is no later than any
 /// moment at which something is to be done. What is told of others, and what is chosen for them, moves no deadline: only the end of the
 /// station makes answers hurry, and from then on none of them gains time. And where the schedule says nothing more, no deadline is past,
-/// and `Schedule::poll_timeout` is to come, if a door rests for any time at all.
+/// and `Schedule::poll_timeout` is to come, if a door rests for any time at all. A call gives way no earlier than after its partner's pause,
+/// and only while nothing of that partner is there to hear.
 pub fn gone_in_time()
     ensures within { (limits : Limits) (moves : List Move) → IsWithin limits (run (start limits) moves) }
     ensures ends { (limits : Limits) (moves : List Move) → SessionsEnd limits (run (start limits) moves) }
@@ -28,18 +29,21 @@ pub fn gone_in_time()
     ensures clock { (limits : Limits) (moves : List Move) → KnowsClock (run (start limits) moves) }
     ensures rests { (limits : Limits) (moves : List Move) → KnowsRests (run (start limits) moves) }
     ensures room { (limits : Limits) (moves : List Move) → KnowsRoom (run (start limits) moves) }
+    ensures quiet { (limits : Limits) (moves : List Move) → KnowsQuiet (run (start limits) moves) }
     ensures way { (limits : Limits) (moves : List Move) → KnowsWay (run (start limits) moves) }
     ensures told { (limits : Limits) (moves : List Move) (event : Event) → IsUnmovedBy (run (start limits) moves) event }
     ensures asked { (limits : Limits) (moves : List Move) → IsUnmoved (run (start limits) moves) }
     ensures kept { (phase : Phase) → IsKept phase }
     ensures gone { (limits : Limits) (moves : List Move) → IsOnTime (run (start limits) moves) }
     ensures gives_way { (limits : Limits) (moves : List Move) → GivesWay (run (start limits) moves) }
+    ensures yields { (limits : Limits) (moves : List Move) → YieldsInTime (run (start limits) moves) }
     ensures hastens { (limits : Limits) (moves : List Move) (next : Move) → IsHastened (run (start limits) moves) next }
     ensures to_come { (limits : Limits) (moves : List Move) → IsToCome (run (start limits) moves) }
 {}
 
 /// Nothing waits for nothing. Where the schedule says nothing more, whatever waits does so for something whose end is told (a job of the
-/// office, the look-up of an address, one who is being accepted), or for somebody whose deadline the shell waits for.
+/// office, the look-up of an address, one who is being accepted), for somebody whose deadline the shell waits for, or, a look-up within a
+/// session, for the end of the rest after another, which the shell waits for too.
 pub fn no_lost_wakeup()
     ensures guests { (limits : Limits) (moves : List Move) → GuestsAreAwake (run (start limits) moves) }
     ensures updates { (limits : Limits) (moves : List Move) → UpdatesAreAwake (run (start limits) moves) }
@@ -81,11 +85,15 @@ pub fn at_most_once()
 /// copy of the database's files, at most, one call that is up without a session, and one connection that is being accepted. A job begins
 /// where the office has none, and a session, a change, a copy, the clock's look-up or a call only where there is neither a session nor a
 /// copy. So between two pieces of a session there are look-ups alone, and while there are octets to hear, a look-up only where the share is
-/// used up: after so many octets, or a wait.
+/// used up: after so many octets, or a wait. After each look-up none begins within a session for as long as that one took, and only
+/// the end of a look-up lengthens that rest.
 pub fn one_at_a_time()
     ensures apart { (limits : Limits) (moves : List Move) → IsApart (run (start limits) moves) }
     ensures chosen { (limits : Limits) (moves : List Move) → ChosenApart (run (start limits) moves) (choice (run (start limits) moves)) }
     ensures paced { (limits : Limits) (moves : List Move) → IsPaced (run (start limits) moves) (choice (run (start limits) moves)) }
+    ensures dated { (limits : Limits) (before during : List Move) → IsDated (run (start limits) before) during }
+    ensures brief { (limits : Limits) (moves : List Move) (next : Move) → IsBrief (run (start limits) moves) next }
+    ensures rested { (limits : Limits) (before during after : List Move) → IsRested (run (start limits) before) during after }
 {}
 
 /// Of each kind the first in the table is served first, and a session begins only where no change or copy is owed that came within the last

@@ -1,11 +1,11 @@
 //! What becomes of a connection: its new phase, and what is ordered for it.
 
 ghost use Rattle.std.specs.Prelude.{◌≡◌, ◌+◌, ◌-◌, ◌++◌, ◌^◌, ◌<◌, ◌≤◌, ◌∷◌, [], OnOk, IfOk, OnErr, map, filter};
-ghost use Rattle.oftp_schedule.specs.Rules.{orders, line, leaves_line, has_line, became, owed, is_other, ends_session, is_job};
-ghost use Rattle.oftp_schedule.specs.Machine.{State, and_then, replied, replied_at, edited, after_session, at_door, new_call, with_connections, in_numbers, numbers, guest_next, jobs, counted};
+ghost use Rattle.oftp_schedule.specs.Rules.{orders, line, leaves_line, has_line, became, owed, is_other, ends_session, is_counted};
+ghost use Rattle.oftp_schedule.specs.Machine.{State, and_then, replied, replied_at, edited, after_session, at_door, new_call, with_connections, in_numbers, numbers, guest_next, quiet_after, jobs, counted};
 
 use crate::connection::{
-    Action, Asker, Call, Connection, Door, Limits, Partner, Phase, Reason, Reply,
+    Action, Asker, Call, Connection, Door, Limits, Millis, Partner, Phase, Reason, Reply, Request,
 };
 use crate::schedule::{LAST, Schedule};
 use crate::{rules, table};
@@ -133,14 +133,29 @@ impl Schedule {
 }
 
 impl Schedule {
-    /// Counts what a reply to a connection in this phase does: a job, a number for a call, and a guest that comes first.
+    /// Until when no look-up begins within a session, after a reply to a connection in this phase.
+    fn quiet_after(&self, phase: Phase, reply: Reply) -> Millis
+        ensures { result ≡ quiet_after self.now.0 phase reply }
+    {
+        match (phase, reply) {
+            (Phase::Served(Request::Query), Reply::Respond(_)) => {
+                let took = self.time.saturating_sub(self.looked);
+                self.quiet.max(self.time + took)
+            }
+            _ => self.quiet,
+        }
+    }
+
+    /// Counts what a reply to a connection in this phase does: a job, the time of a look-up, a number for a call, and a guest that comes
+    /// first.
     fn count(&mut self, door: Door, phase: Phase, reply: Reply)
         requires { in_numbers self.old.0.next reply ≡ reply }
         ensures { self.new ≡ (counted self.old.0 door phase reply, self.old.1) }
     {
-        if rules::is_job(door, phase, reply) {
+        if rules::is_counted(self.limits.counted, door, phase, reply) {
             self.left = self.left.saturating_sub(1);
         }
+        self.quiet = self.quiet_after(phase, reply);
         match reply {
             Reply::Want(_) => self.next += 1,
             Reply::Yield(_) => self.guest_first = true,

@@ -1,11 +1,11 @@
 //! The rules of one connection, apart from all others.
 
 ghost use Rattle.std.specs.Prelude.{max, ◌≡◌, ◌+◌, ◌^◌, ◌<◌, ◌≤◌, true};
-ghost use Rattle.oftp_schedule.specs.Rules.{heard_on, wait_after, share_left, stepped, with_octets, with_backlog, with_last, with_share, after_step, at_end, is_hearable, answering, answered, parting, answered_whole, went, rule, due, is_over, is_late, late, overdue, is_parting_phase, dismissal, is_dismissed, hurried_phase, at_office, in_session, is_between_phase, is_guest_phase, is_query_phase, is_update_phase, is_owed_phase, is_copying_phase, is_wanted_phase, is_connected_phase, is_up_phase, is_arriving_phase, is_ripe_phase, same_door, call_in, call_of, is_by_clock, is_here, has_line, is_told, leaves_line, is_carried_out, is_job, ends_session, owed_phase, shared_phase, answer_octets, arrived};
+ghost use Rattle.oftp_schedule.specs.Rules.{heard_on, wait_after, is_awaited, share_left, stepped, with_octets, with_backlog, with_last, with_share, after_step, at_end, is_hearable, answering, answered, parting, answered_whole, went, dialing_time, rule, due, is_over, is_late, once_less, redialed, late, overdue, is_parting_phase, dismissal, is_dismissed, hurried_phase, at_office, in_session, is_between_phase, is_guest_phase, is_query_phase, is_update_phase, is_owed_phase, is_copying_phase, is_wanted_phase, is_connected_phase, is_up_phase, is_arriving_phase, is_ripe_phase, same_door, call_in, call_of, is_by_clock, is_here, has_line, is_told, leaves_line, is_carried_out, is_job, is_counted, ends_session, owed_phase, shared_phase, answer_octets, arrived};
 
 use crate::connection::{
-    Asker, Call, Door, End, Input, Limits, Millis, Phase, Rank, Reason, Reply, Request, Session,
-    Signal, Status, Step, Way,
+    Asker, Call, Counted, Door, End, Input, Limits, Millis, Phase, Rank, Reason, Reply, Request,
+    Session, Signal, Status, Step, Way,
 };
 
 /// Who began a session, after so many octets more of the partner.
@@ -17,6 +17,13 @@ fn heard_on(way: Way, heard: u32) -> Way
         Way::Unanswered(call, _) => Way::Out(call),
         other => other,
     }
+}
+
+/// Whether there is nothing yet.
+pub fn is_awaited(input: Input) -> bool
+    ensures { result ≡ is_awaited input }
+{
+    matches!(input, Input::Awaited)
 }
 
 /// Whether there are octets to hear.
@@ -187,6 +194,13 @@ fn reply_in_session(now: Millis, limits: &Limits, door: Door, phase: Phase, sign
     }
 }
 
+/// How long a call may take to connect: no longer than a wait of its session.
+fn dialing_time(limits: &Limits, call: Call) -> u32
+    ensures { result ≡ dialing_time limits.now call }
+{
+    limits.dialing.min(call.partner.patience)
+}
+
 /// What a signal does to a call that has no session.
 fn reply_in_call(now: Millis, limits: &Limits, door: Door, phase: Phase, signal: Signal) -> Reply
     requires counted { now < 2 ^ 63 }
@@ -195,7 +209,8 @@ fn reply_in_call(now: Millis, limits: &Limits, door: Door, phase: Phase, signal:
 {
     match (phase, signal) {
         (Phase::Resolving(call), Signal::Resolved) => {
-            Reply::Connect(Phase::Dialing(call, now + u64::from(limits.dialing)))
+            let length = dialing_time(limits, call);
+            Reply::Connect(Phase::Dialing(call, now + u64::from(length)))
         }
         (Phase::Dialing(call, _), Signal::Up) => {
             Reply::Become(Phase::Connected(call, now + u64::from(limits.standing)))
@@ -286,6 +301,27 @@ fn overdue(session: &Session) -> Reason
     }
 }
 
+/// A call that hangs up, which it may do once less from then on.
+pub fn once_less(call: Call) -> Call
+    ensures { result ≡ once_less call }
+{
+    Call {
+        times: call.times.saturating_sub(1),
+        ..call
+    }
+}
+
+/// What becomes of a call whose session didn't begin in its time.
+fn redialed(call: Call) -> Reply
+    ensures { result ≡ redialed call }
+{
+    if call.times > 0 {
+        Reply::Redial(Phase::Wanted(once_less(call)))
+    } else {
+        Reply::Leave(Reason::TimedOut)
+    }
+}
+
 /// What becomes of a connection whose time is over.
 pub fn late(now: Millis, limits: &Limits, door: Door, phase: Phase) -> Reply
     requires { now < 2 ^ 63 }
@@ -295,7 +331,7 @@ pub fn late(now: Millis, limits: &Limits, door: Door, phase: Phase) -> Reply
         Phase::Between(session) => Reply::Break(overdue(&session)),
         Phase::Copying(_) => Reply::Refuse(answered(now, limits, door, 0), Reason::TimedOut),
         Phase::Dialing(_, _) => Reply::Leave(Reason::Unreached),
-        Phase::Connected(call, _) => Reply::Redial(Phase::Wanted(call)),
+        Phase::Connected(call, _) => redialed(call),
         _ => Reply::Leave(Reason::TimedOut),
     }
 }
@@ -531,7 +567,7 @@ fn is_carried_out(door: Door, phase: Phase) -> bool
 }
 
 /// Whether a job is done by a reply.
-pub fn is_job(door: Door, phase: Phase, reply: Reply) -> bool
+fn is_job(door: Door, phase: Phase, reply: Reply) -> bool
     ensures { result ≡ is_job door phase reply }
 {
     match reply {
@@ -539,6 +575,17 @@ pub fn is_job(door: Door, phase: Phase, reply: Reply) -> bool
         Reply::Farewell(_) => has_line(phase),
         Reply::Leave(reason) => leaves_line(phase, reason),
         Reply::Break(_) => true,
+        _ => false,
+    }
+}
+
+/// Whether what is counted is done by a reply.
+pub fn is_counted(counted: Counted, door: Door, phase: Phase, reply: Reply) -> bool
+    ensures { result ≡ is_counted counted door phase reply }
+{
+    match (counted, reply) {
+        (Counted::Jobs, _) => is_job(door, phase, reply),
+        (Counted::Connections, Reply::Leave(_)) => same_door(Door::Requests, door),
         _ => false,
     }
 }

@@ -1,9 +1,14 @@
 //! The schedule: what was told, what is done next, and what is to be done for it.
 
-ghost use Rattle.std.specs.Prelude.{◌≡◌, ◌+◌, ◌++◌, ◌^◌, ◌<◌, ◌≤◌, ◌∷◌, [], OnOk, IfOk, IsTrue, OnErr, find, map, filter, count_by};
+ghost use Rattle.std.specs.Prelude.{◌≡◌, ◌+◌, min, ◌++◌, ◌^◌, ◌<◌, ◌≤◌, ◌∷◌, [], OnOk, IfOk, IsTrue, OnErr, find, map, filter, count_by};
+ghost use Rattle.oftp_schedule.specs.declared.schedule.TheConstants.{MOST_RESERVED};
+ghost use Rattle.oftp_schedule.specs.Rules.{call_at, connection_at};
 ghost use Rattle.oftp_schedule.specs.Machine.{start, step, Tell, Ask, IsInTime, and_then, polled, next_time};
 
-use crate::connection::{Action, Clock, Connection, Course, Event, Gate, Kind, Limits, Millis};
+use crate::connection::{
+    Action, Call, Clock, Connection, Course, Event, Gate, Kind, Limits, Millis,
+};
+use crate::{rules, table};
 use std::alloc::{AllocError, Global};
 use std::collections::VecDeque;
 use std::marker::Model;
@@ -11,11 +16,19 @@ use std::marker::Model;
 /// The number of no connection: none is accepted, and no call made, from here on.
 pub(crate) const LAST: u64 = 1 << 63;
 
+/// The most connections for which a new schedule reserves room.
+const MOST_RESERVED: u64 = 4_096;
+
+/// The actions for which a new schedule reserves room.
+const RESERVED_ACTIONS: usize = 64;
+
 /// The schedule of a station. The shell around it tells it what has happened by [`Schedule::handle`], does what [`Schedule::poll_action`]
 /// says until it says nothing, and then waits for the next event, or until [`Schedule::poll_timeout`].
 #[derive(Drop)]
 pub struct Schedule {
     pub(crate) time: Millis,
+    pub(crate) looked: Millis,
+    pub(crate) quiet: Millis,
     pub(crate) next: u64,
     pub(crate) left: u64,
     pub(crate) last: Kind,
@@ -38,6 +51,8 @@ impl Model for Schedule {
     ghost view = { λ a. (
       record {
         now = a.time;
+        looked = a.looked;
+        quiet = a.quiet;
         next = a.next;
         left = a.left;
         last = a.last;
@@ -56,18 +71,37 @@ impl Model for Schedule {
     ghost invariant = { λ a. has_room a.time a.next };
 }
 
+/// How many connections a new schedule reserves room for: one at each place, and a call for each command.
+fn reserved(limits: &Limits) -> usize
+    ensures { result ≡ min (limits.now.partners + limits.now.commands + limits.now.requests + limits.now.commands) MOST_RESERVED }
+{
+    let calls = limits.commands;
+    let doors = u64::from(limits.partners)
+        + u64::from(limits.commands)
+        + u64::from(limits.requests);
+    (doors + u64::from(calls)).min(MOST_RESERVED) as usize
+}
+
 impl Schedule {
-    /// A schedule with these limits, at moment 0 of the clock.
-    pub fn new(alloc: Global, limits: Limits) -> Schedule
-        ensures { result ≡ (start limits, []) }
+    /// A schedule with these limits, at moment 0 of the clock. It has room for as many connections as its doors have places, and for a call
+    /// for each command, but for 4,096 at most. While no more are there at once, it allocates nothing for them later.
+    ///
+    /// # Errors
+    /// Out of memory.
+    pub fn new(alloc: Global, limits: Limits) -> Result<Schedule, AllocError>
+        ensures { IfOk result (λ made. made ≡ (start limits, [])) }
     {
+        let connections = Vec::with_capacity(alloc, reserved(&limits))?;
+        let actions = VecDeque::with_capacity(alloc, RESERVED_ACTIONS)?;
         let clock = if limits.interval > 0 {
             Clock::At(u64::from(limits.interval))
         } else {
             Clock::Off
         };
-        Schedule {
+        Ok(Schedule {
             time: 0,
+            looked: 0,
+            quiet: 0,
             next: 0,
             left: limits.jobs,
             last: Kind::Updates,
@@ -78,9 +112,9 @@ impl Schedule {
             commands: Gate::Quiet,
             requests: Gate::Quiet,
             limits,
-            connections: Vec::new(alloc),
-            actions: VecDeque::new(alloc),
-        }
+            connections,
+            actions,
+        })
     }
 
     /// Takes in what has happened.
@@ -112,5 +146,15 @@ impl Schedule {
         ensures { result ≡ next_time self.now.0 }
     {
         self.next_time()
+    }
+
+    /// The call with this number: whom it calls, and for whom. `None` if there is no such call.
+    pub fn call(&self, id: u64) -> Option<Call>
+        ensures { result ≡ call_at (connection_at id self.now.0.connections) }
+    {
+        match table::at(&self.connections, id) {
+            Some(connection) => rules::call_in(connection.phase),
+            None => None,
+        }
     }
 }

@@ -1,7 +1,7 @@
 //! The limits of a schedule.
 
 use crate::words::Words;
-use oftp_schedule::connection::Limits;
+use oftp_schedule::connection::{Counted, Limits};
 
 /// The limits in a line: their numbers, in the order of their fields.
 pub fn read(line: &mut Words) -> Limits {
@@ -27,5 +27,10 @@ pub fn read(line: &mut Words) -> Limits {
         times: line.number(),
         greeting: line.number(),
         jobs: line.long(),
+        counted: if line.number() == 0 {
+            Counted::Jobs
+        } else {
+            Counted::Connections
+        },
     }
 }

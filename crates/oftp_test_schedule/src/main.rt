@@ -84,13 +84,13 @@ fn play(rt: &HostRuntime, schedule: &mut Schedule, line: &mut Words) -> io::Resu
 }
 
 fn main(rt: HostRuntime) -> io::Result<()> {
-    let mut schedule = Schedule::new(rt.alloc(), limits::read(&mut Words::new("")));
+    let mut schedule = Schedule::new(rt.alloc(), limits::read(&mut Words::new("")))?;
     for text in rt.lines(rt.alloc()) {
         let text = text?;
         let mut line = Words::new(text.as_str());
         match text.as_str().strip_prefix("limits ") {
             Some(rest) => {
-                schedule = Schedule::new(rt.alloc(), limits::read(&mut Words::new(rest)));
+                schedule = Schedule::new(rt.alloc(), limits::read(&mut Words::new(rest)))?;
             }
             None => play(&rt, &mut schedule, &mut line)?,
         }
