@@ -101,6 +101,7 @@ CHECKS = [
     Check("database", "python3 checks/speed/database_cost.py --assert", "what a register in a database costs, beside stock sqlite3", ALONE),
     Check("growth", "python3 checks/speed/growth.py --assert", "what a station that holds its database takes as its register grows", ALONE),
     Check("beside empty", "python3 checks/speed/beside_empty.py --assert", "what such a station takes over a large register, beside an empty one", ALONE),
+    Check("crowds", "python3 checks/speed/crowds.py --assert", "what such a station takes beside a crowd at each door", ALONE),
     Check("records", "python3 checks/speed/list_of_records.py", "what a list takes beside files of very many records", ALONE),
     Check("page", "python3 checks/scenarios/page.py", "the page for people, in a browser", ALONE),
     Check("sizes", "python3 checks/speed/sizes.py", "files, texts, books and credits at their limits", ALONE),

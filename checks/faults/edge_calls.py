@@ -16,6 +16,7 @@ import bisect
 import contextlib
 import errno
 import fcntl
+import functools
 import os
 import socket
 import subprocess
@@ -29,7 +30,7 @@ sys.path.insert(0, str(Path(__file__).resolve().parents[1] / "lib"))
 import tables
 from program import PROGRAM
 from row_files import ROWS, Row
-from services import BOOK, CARMAKER, LONG, Resident, Service, Wrong, expect, free_port, rest_of
+from services import BOOK, CARMAKER, LONG, Resident, Service, Wrong, answer_to, expect, free_port, rest_of
 from shims import compile_library, stopping
 
 # More allocations than a session with a database makes; and how many are refused one after another, up to the last one before the answer's
@@ -113,6 +114,12 @@ def trace_whose_allocations_are_refused(room, _library):
     expect(told[-1], (1, "", MEMORY), "the last refused allocation")
 
 
+def knock(come):
+    """Somebody comes to a door that fails, and may find nobody any more."""
+    with contextlib.suppress(OSError), come():
+        pass
+
+
 def callers_that_pass(room, library):
     """None of these ends a service, and the next caller is served."""
     greeting = Row(ROWS / "opening/wrong_password.row").sessions()[0].steps[0][1]
@@ -128,6 +135,7 @@ def callers_that_pass(room, library):
             service.ends()
     (room / "EINVAL").mkdir()
     with Service(room / "EINVAL", "listen", environment=failing(library, "accept4", errno.EINVAL, 3)) as service:
+        knock(service.caller)
         service.ends(1, SOCKET.encode())
 
 
@@ -161,7 +169,7 @@ def callers_of_a_station_that_pass(room, library):
 
 
 def door_of_a_station_that_fails(room, library):
-    """An error of one of its three listeners that doesn't pass ends a station. It prints nothing for it but the fault."""
+    """An error of one of its three listeners that doesn't pass ends a station once somebody comes there. It prints nothing for it but the fault."""
     for place in range(3):
         folder = room / str(place)
         folder.mkdir()
@@ -169,21 +177,27 @@ def door_of_a_station_that_fails(room, library):
         failed = failing(library, "accept4", errno.EINVAL, 1000)
         failed["FAIL_PORT"] = str([*ports, 0][place])
         with Resident(folder, "--http-port", str(ports[1]), port=ports[0], environment=failed) as service:
+            knock(service.client if place == 2 else functools.partial(service.caller, port=ports[place]))
             service.ends(1, SOCKET.encode())
             expect(service.socket.exists(), False, "whether the socket is left")
 
 
 def door_that_fails_within_a_session(room, library):
-    """Nor is the session carried on, and its line says why."""
-    steps = Row(ROWS / "listening/nothing_waiting.row").sessions()[0].steps
+    """The session goes on to its end, and then the station ends. Who waits is told so, and nothing was begun of what it asked."""
+    session = Row(ROWS / "listening/nothing_waiting.row").sessions()[0]
     begun = room / "begun"
     failed = {**failing(library, "accept4", errno.EINVAL), "FAIL_PORT": "0", "FAIL_FROM": str(begun)}
     with Resident(room, environment=failed) as service, service.caller() as caller:
-        caller.sendall(steps[1][1])
-        opened = b"".join(octets for side, octets in steps[:3] if side == "out")
+        caller.sendall(session.steps[1][1])
+        opened = b"".join(octets for side, octets in session.steps[:3] if side == "out")
         expect(first_of(caller, len(opened)), opened, "the station sent")
-        begun.touch()
-        expect(service.line(), f"session {CARMAKER} in: fault: 8 socket", "the line")
+        with service.asked(BOOK.read_bytes(), b"", "release", "--db=d", "--book=b", "1") as waiting:
+            begun.touch()
+            with service.client():
+                expect(answer_to(waiting), ({2: SOCKET.encode()}, 1), "the answer to a command that waits")
+                caller.sendall(session.joined("in")[len(session.steps[1][1]) :])
+                expect(opened + rest_of(caller), session.joined("out"), "the station sent in all")
+                expect(service.line() + "\n", f"session {CARMAKER} in: {session.end[1]}", "the line")
         service.ends(1, SOCKET.encode())
 
 

@@ -15,7 +15,7 @@ sys.path.insert(0, str(Path(__file__).resolve().parents[1] / "lib"))
 
 from program import ROOT
 
-WORDS = {"one": 1, "four": 4, "five": 5, "seven": 7, "eight": 8, "ten": 10, "thirteen": 13, "fifteen": 15, "a million": 1_000_000, "a day": 86_400}
+WORDS = {"one": 1, "two": 2, "four": 4, "five": 5, "seven": 7, "eight": 8, "ten": 10, "thirteen": 13, "fifteen": 15, "thirty": 30, "a million": 1_000_000, "a day": 86_400}
 MIB = 1_048_576
 
 
@@ -61,12 +61,11 @@ RECORDS = constant("oftp_vfile/src/format.rt", "MOST_ROWS")
 RECORD = constant("oftp_vfile/src/format.rt", "LONGEST_RECORD")
 LINE = "oftp_command_line/src/line/arguments.rt"
 LOCKED = constant("oftp_database/src/opening.rt", "PATIENCE") * constant("oftp_database/src/opening.rt", "PAUSE") // 1000
-WAITING = constant("oftp_sockets/src/waiting.rt", "MOST_WAITING")
-REQUEST = constant("oftp_sockets/src/requests.rt", "REQUEST_SECONDS")
-DROPPED = constant("oftp_sockets/src/connection.rt", "MOST_DROPPED") // MIB
-FAREWELL = constant("oftp_sockets/src/connection.rt", "FAREWELL")
-VISITORS = constant("oftp_resident/src/visitors.rt", "MOST_VISITORS")
-LESSER, GREATER, TIMES = (constant("oftp_resident/src/yielding.rt", name) for name in ("LESSER", "GREATER", "MOST_TIMES"))
+LIMITS = {
+    name: constant("oftp_resident/src/limits.rt", name)
+    for name in "PARTNERS COMMANDS REQUESTS SHELTER ASKING REQUESTING FAREWELL COPYING STANDING LESSER GREATER TIMES SHARE BACKLOG HELD".split()
+}
+DIALING = constant("oftp_station/src/perform/residence.rt", "DIALING")
 PIECE = constant("oftp_engine/src/serving.rt", "PIECE")
 FIRST_ROWS = constant("oftp_session/src/sending.rt", "FIRST_ROWS")
 ADMISSION = constant(LINE, "MOST_ADMISSION")
@@ -107,19 +106,26 @@ BOUNDS = [
     ("docs/COMMANDS.md", rf"A second program waits for {N} seconds at most", (LOCKED,)),
     ("docs/COMMANDS.md", rf"After {N} seconds the session ends with\s+`fault: 6 store 1`", (LOCKED,)),
     ("docs/COMMANDS.md", rf"every SECONDS seconds \(1 to {N}; 0 is never\)", (INTERVAL,)),
-    ("docs/COMMANDS.md", rf"Such a caller waits for\s+{N} second, or for {N} if", (LESSER, GREATER)),
-    ("docs/COMMANDS.md", rf"A call gives way {N} times at most", (TIMES,)),
+    ("docs/COMMANDS.md", rf"Such a caller waits for\s+{N} second, or for {N} if", (LIMITS["LESSER"], LIMITS["GREATER"])),
+    ("docs/COMMANDS.md", rf"A call gives way {N} times at most", (LIMITS["TIMES"],)),
     ("docs/COMMANDS.md", rf"waits until it is ready, {N} seconds at most", (LOCKED,)),
-    ("docs/COMMANDS.md", rf"and {N} requests at most are open at once", (VISITORS,)),
+    ("docs/COMMANDS.md", rf"{N} partners, {N} commands and {N} clients over HTTP", (LIMITS["PARTNERS"], LIMITS["COMMANDS"], LIMITS["REQUESTS"])),
+    ("docs/COMMANDS.md", rf"has been there for {N}\s+seconds at least", (LIMITS["SHELTER"],)),
+    ("docs/COMMANDS.md", rf"A command has {N} seconds to send its request, and {N}\s+seconds without progress", (LIMITS["ASKING"], LIMITS["ASKING"])),
+    ("docs/COMMANDS.md", rf"one for each {N} octets", (LIMITS["SHARE"],)),
+    ("docs/COMMANDS.md", rf"hears nothing more while {N} MiB", (LIMITS["BACKLOG"] // MIB,)),
+    ("docs/COMMANDS.md", rf"Answers that wait to be taken hold {N} MiB", (LIMITS["HELD"] // MIB,)),
+    ("docs/COMMANDS.md", rf"within {N} seconds, or within `--patience`", (DIALING,)),
+    ("docs/COMMANDS.md", rf"can't begin within {N} seconds", (LIMITS["STANDING"],)),
     ("docs/COMMANDS.md", rf"\(`--sessions`, `--requests`\) is 1 by default, and {N}\s+at most", (CALLERS,)),
     ("docs/COMMANDS.md", rf"The default is {N}, and 1 to {N} \({N}\) are allowed", (default('"admission"'), ADMISSION, 86_400)),
-    ("docs/COMMANDS.md", rf"Up to {N} callers wait side by side", (WAITING,)),
+    ("docs/COMMANDS.md", rf"Up to {N} callers are connected side by side", (LIMITS["PARTNERS"],)),
     ("docs/COMMANDS.md", rf"The default is {N} and the most is {N}; 0 is no timeout", (default('"patience"'), PATIENCE)),
     ("docs/COMMANDS.md", rf"to 1 to {N} seconds, by default {N}\.", (DURATION, default('"longest"'))),
-    ("docs/COMMANDS.md", rf"still sends, {N} MiB and {N} seconds at most", (DROPPED, FAREWELL)),
-    ("docs/COMMANDS.md", rf"must arrive within {N} seconds, and its reply must be out within another {N}\.", (REQUEST, REQUEST)),
+    ("docs/COMMANDS.md", rf"still sends, {N} seconds at most", (LIMITS["FAREWELL"],)),
+    ("docs/COMMANDS.md", rf"must arrive within {N} seconds, and its reply must be out within another {N}\.", (LIMITS["REQUESTING"], LIMITS["REQUESTING"])),
     ("docs/OPERATING.md", rf"then has {N} seconds to send a code and a password", (default('"admission"'),)),
-    ("docs/OPERATING.md", rf"as long as no more than {N} of them wait. A partner who comes after {N} waits", (WAITING, WAITING)),
+    ("docs/OPERATING.md", rf"as long as no more than {N} of them wait. A partner who comes after {N} waits", (LIMITS["PARTNERS"], LIMITS["PARTNERS"])),
     ("docs/PARTNER.md", rf"{N} octets and {N} records at most", (OCTETS, RECORDS)),
     ("docs/PARTNER.md", rf"Records of F and V have up to {N} octets", (RECORD,)),
     ("docs/ARCHITECTURE.md", rf"a piece of at most {N} octets", (PIECE,)),

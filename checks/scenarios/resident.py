@@ -340,7 +340,8 @@ def silent_clients(room):
 
 
 def clients_that_read_nothing(room):
-    """Commands that don't take their answers, each of a mebibyte, delay nobody, and hold no more places than there are."""
+    """Commands that don't take their answers, each of a mebibyte, delay nobody while those take less than 64 MiB. One more look-up waits for
+    those who take nothing for half a minute."""
     book = room / "book"
     book.write_text(one_file.BOOK.format(buffer=16384, credit=99))
     with Resident(room, book=book) as service, contextlib.ExitStack() as stack:
@@ -349,16 +350,23 @@ def clients_that_read_nothing(room):
             caller.shutdown(socket.SHUT_WR)
             rest_of(caller)
         expect(service.line(), f"session {CARMAKER} in: end: partner 00", "the line")
-        for _ in range(100):
-            client = stack.enter_context(service.client())
-            expect(client.recv(1), READY, "the first octet")
-            client.sendall(request_of(b"", b"", b"fetch", b"--db=d", b"1", b"f"))
+        hold_answers(service, stack, 63)
         begin = time.monotonic()
         expect(given(service, "report", "in")[0], 0, "a report")
         play(service, NOTHING_WAITING)
         within(begin, 0, "a report and a session")
+        hold_answers(service, stack, 40)
         expect(given(service, "fetch", "1", room / "fetched"), (0, b"done: fetch 1\n", b""), "fetch")
+        within(begin, 30, "a fetch")
         expect((room / "fetched").read_bytes(), b"A" * one_file.MEBI, "the file")
+
+
+def hold_answers(service, stack, count):
+    """So many commands fetch a file and take nothing of it."""
+    for _ in range(count):
+        client = stack.enter_context(service.client())
+        expect(client.recv(1), READY, "the first octet")
+        client.sendall(request_of(b"", b"", b"fetch", b"--db=d", b"1", b"f"))
 
 
 def strangers(room):
@@ -401,17 +409,22 @@ def patience_of_each_wait(room):
 
 
 def time_of_another_session(room):
-    """The time of another's session isn't counted: one who was greeted before it, and sends his SSID after it, is let in."""
-    with Resident(room, "--admission", str(PATIENT)) as service, service.caller() as late, service.caller() as first:
-        heard(late, GREETING)
+    """Who was let in waits for another's session, however long that is. A stranger has his own time, which no session moves."""
+    with Resident(room, "--admission", str(PATIENT)) as service, service.caller() as first:
         first.sendall(SSID)
         heard(first, OPENED)
-        time.sleep(PATIENT + 2)
-        first.sendall(NOTHING_WAITING.joined("in")[len(SSID) :])
-        expect(service.line() + "\n", f"session {CARMAKER} in: {NOTHING_WAITING.end[1]}", "the line of the first")
-        late.sendall(NOTHING_WAITING.joined("in"))
-        expect(GREETING + rest_of(late), NOTHING_WAITING.joined("out"), "the station sent to the late one")
-        expect(service.line() + "\n", f"session {CARMAKER} in: {NOTHING_WAITING.end[1]}", "his line")
+        begin = time.monotonic()
+        with service.caller() as late, service.caller() as silent:
+            heard(late, GREETING)
+            heard(silent, GREETING)
+            late.sendall(NOTHING_WAITING.joined("in"))
+            expect(service.line(), "session - in: fault: 1 read", "the line of the silent one")
+            within(begin, PATIENT, "the silent one")
+            time.sleep(2)
+            first.sendall(NOTHING_WAITING.joined("in")[len(SSID) :])
+            expect(service.line() + "\n", f"session {CARMAKER} in: {NOTHING_WAITING.end[1]}", "the line of the first")
+            expect(GREETING + rest_of(late), NOTHING_WAITING.joined("out"), "the station sent to the late one")
+            expect(service.line() + "\n", f"session {CARMAKER} in: {NOTHING_WAITING.end[1]}", "his line")
 
 
 def longest_frame_of_a_stranger(room):
@@ -732,8 +745,10 @@ def backup_that_takes_too_long(room):
         begin = time.monotonic()
         begin_backup(client)
         expect(given(service, "report", "in")[0], 0, "a report")
-        expect(time.monotonic() - begin >= 30, True, "whether the report waits")
-        within(begin, 30, "the report")
+        within(begin, 0, "the report")
+        expect(given(service, "release", "1")[0], 1, "a release")
+        expect(time.monotonic() - begin >= 30, True, "whether the release waits")
+        within(begin, 30, "the release")
         expect(answer_of(client), ({2: b"fault: 7 file\n"}, 1), "the answer")
 
 

@@ -289,38 +289,34 @@ def longest_frame_now_and_then(room):
 
 
 def patience_within_the_admission(room):
-    """The timeout (`--patience`) bounds each wait of an admission."""
-    with Listening(room, 2, "--admission", "600", "--patience", "2") as service:
+    """The admission alone bounds who isn't let in, also where a wait of a session (`--patience`) may be shorter."""
+    with Listening(room, 2, "--admission", "3", "--patience", "1") as service:
         begin = time.monotonic()
         send_away(service.caller())
-        within(begin, 1.5, 2, "the silence")
+        within(begin, 2.5, 3, "the silence")
         expect(service.fault(), SILENCE, "the line")
         play(service, NOTHING_WAITING)
         service.ends()
 
 
 def time_of_another_session(room):
-    """Callers that were greeted, and send their SSID during the long session of another, or a second after it, are admitted."""
+    """A caller that sends its SSID during the long session of another is let in, and waits. One that says nothing has its own time."""
     opened = b"".join(octets for side, octets in NOTHING_WAITING.steps[:3] if side == "out")
     with Listening(room, 3, "--admission", str(LONG_ADMISSION)) as service:
-        with service.caller() as late, service.caller() as later, service.caller() as first:
-            for caller in (late, later):
+        with service.caller() as late, service.caller() as silent, service.caller() as first:
+            begin = time.monotonic()
+            for caller in (late, silent):
                 expect(receive(caller, "a late one reads", len(GREETING)), GREETING, "a late one reads")
             first.sendall(SSID)
             expect(receive(first, "the first reads", len(opened)), opened, "the first reads")
-            time.sleep(LONG_ADMISSION + 2)
             late.sendall(NOTHING_WAITING.joined("in"))
+            expect(service.fault(), SILENCE, "the line of the silent one")
+            within(begin, LONG_ADMISSION - 1, LONG_ADMISSION, "the silent one")
+            time.sleep(2)
             first.shutdown(socket.SHUT_WR)
             expect(service.line(), "end: input", "the line of the first")
             what = "one who sends its SSID during that session reads"
             expect(GREETING + receive(late, what), NOTHING_WAITING.joined("out"), what)
-            late.close()
-            expect(service.line() + "\n", NOTHING_WAITING.end[1], "its line")
-            time.sleep(1)
-            with contextlib.suppress(ConnectionError):
-                later.sendall(NOTHING_WAITING.joined("in"))
-            what = "one who sends it after that session reads"
-            expect(GREETING + receive(later, what), NOTHING_WAITING.joined("out"), what)
         expect(service.line() + "\n", NOTHING_WAITING.end[1], "its line")
         service.ends()
 

@@ -2,10 +2,13 @@
 
 use oftp_command_line::{Call, Entrance, Files, Http, Listen, SessionTerms};
 use oftp_database::{self as database, Opened};
-use oftp_files::{Trace, open_trace, read_book};
-use oftp_outcomes::{Fault, Outcome};
+use oftp_engine::End;
+use oftp_files::{Trace, book_of, open_trace, read_book};
+use oftp_outcomes::{Fault, Outcome, write_line};
 use oftp_partners::Book;
-use oftp_sockets::{Reception, Station, bound, connected, dial, http_on, listen_on, patience_of};
+use oftp_resident::{Bench, Site, Start, serve};
+use oftp_schedule::connection::Counted;
+use oftp_sockets::{Reporter, Station, Trouble, Way, bound, patience_of};
 use std::io::Write;
 use std::time::Duration;
 
@@ -40,11 +43,39 @@ pub fn station_of<'a>(
     }
 }
 
+/// A service without doors, codes or a clock.
+fn idle_bench<'a>(jobs: u64) -> Bench<'a> {
+    Bench {
+        partners: None,
+        commands: None,
+        requests: None,
+        site: Site::Register,
+        places: 0,
+        admission: Duration::from_secs(0),
+        dialing: Duration::from_secs(0),
+        codes: &[],
+        interval: Duration::from_secs(0),
+        start: Start::Waiting,
+        counted: Counted::Jobs,
+        jobs,
+    }
+}
+
+/// The settings of a service without sessions.
+fn bare_station(book: &Book) -> Station<'_> {
+    Station {
+        book,
+        patience: None,
+        longest: Duration::from_secs(0),
+        trace: None,
+    }
+}
+
 /// Serves the sessions of partners that call, and writes a line for each: its end to `out`, or its error to `err`.
 ///
 /// # Errors
 /// [`Fault::Book`], [`Fault::File`], [`Fault::Store`] or [`Fault::Socket`] if the book, the trace, the database or the port can't be opened;
-/// those of [`listen_on`].
+/// those of [`serve`].
 pub fn listen(
     rt: &HostRuntime,
     line: &Listen<'_>,
@@ -55,41 +86,136 @@ pub fn listen(
     database::make(rt, line.files.database)?;
     let trace = trace_of(rt, &line.files, &line.terms)?;
     let listener = bound(rt, line.entrance.address, line.entrance.port)?;
-    let reception = Reception {
-        listener: &listener,
-        sessions: line.sessions,
+    let bench = Bench {
+        partners: Some(&listener),
+        places: line.sessions,
         admission: admission_of(&line.entrance, &line.terms),
+        ..idle_bench(line.sessions)
     };
     let station = station_of(&book, &line.terms, trace.as_ref());
-    let mut desk = Opened::new(rt, line.files.database);
-    listen_on(rt, &reception, &station, &mut desk, out, err)
+    serve_each(rt, &bench, &station, line.files.database, out, err)
 }
 
 /// Calls a partner for one session.
 ///
 /// # Errors
 /// [`Fault::Book`], [`Fault::File`], [`Fault::Store`] or [`Fault::Socket`] if the book, the trace, the database or the connection can't be
-/// opened; those of [`dial`].
+/// opened; those of the session.
 pub fn call(rt: &HostRuntime, line: &Call<'_>) -> Result<Outcome, Fault> {
     let book = read_book(rt, line.files.book)?;
-    let Some(partner) = book.partner(line.partner.as_bytes()) else {
+    if book.partner(line.partner.as_bytes()).is_none() {
         return Ok(Outcome::Unknown);
-    };
+    }
     database::open_shared(rt, line.files.database)?;
     let trace = trace_of(rt, &line.files, &line.terms)?;
     let station = station_of(&book, &line.terms, trace.as_ref());
-    let stream = connected(rt, partner.address.as_str(), station.patience)?;
-    let mut desk = Opened::new(rt, line.files.database);
-    dial(rt, stream, partner, &station, &mut desk).map(Outcome::Ended)
+    let code = String::from_str(rt.alloc(), line.partner).map_err(|_| Fault::MEMORY)?;
+    let bench = Bench {
+        dialing: station.longest,
+        codes: &[code],
+        start: Start::Calling,
+        ..idle_bench(1)
+    };
+    let mut keeper = Opened::new(rt, line.files.database);
+    let mut ended = LastEnd { ended: None };
+    serve(rt, &bench, &station, &mut keeper, &mut ended)?;
+    match ended.ended {
+        Some(ended) => ended.map(Outcome::Ended),
+        None => Err(Fault::Socket),
+    }
 }
+
+/// A book without partners: nobody is served by it, and nobody called.
+const NOBODY: &[u8] = b"[station]\ncode = 'O'\nbuffer = 128\ncredit = 1\nrestart = false\n";
 
 /// Answers HTTP requests about a database. The error of one client is written to `err`.
 ///
 /// # Errors
-/// [`Fault::Store`] or [`Fault::Socket`] if the database or the port can't be opened; those of [`http_on`].
-pub fn http(rt: &HostRuntime, line: &Http<'_>, err: &mut impl Write) -> Result<(), Fault> {
+/// [`Fault::Store`] or [`Fault::Socket`] if the database or the port can't be opened; those of [`serve`].
+pub fn http(
+    rt: &HostRuntime,
+    line: &Http<'_>,
+    out: &mut impl Write,
+    err: &mut impl Write,
+) -> Result<(), Fault> {
     database::make(rt, line.database)?;
     let listener = bound(rt, line.address, line.port)?;
-    let mut replies = Opened::new(rt, line.database);
-    http_on(rt, &listener, line.requests, &mut replies, err)
+    let bench = Bench {
+        requests: Some(&listener),
+        counted: Counted::Connections,
+        ..idle_bench(line.requests)
+    };
+    let book = book_of(rt.alloc(), NOBODY)?;
+    serve_each(rt, &bench, &bare_station(&book), line.database, out, err)
+}
+
+/// Serves whoever comes, with a life over the database for each job.
+fn serve_each(
+    rt: &HostRuntime,
+    bench: &Bench<'_>,
+    station: &Station<'_>,
+    database: &str,
+    out: &mut impl Write,
+    err: &mut impl Write,
+) -> Result<(), Fault> {
+    let mut keeper = Opened::new(rt, database);
+    serve(rt, bench, station, &mut keeper, &mut EndLines { out, err })
+}
+
+/// Writes the end of each session to one output, and the error of each session or request to the other. That the error can't be written
+/// doesn't matter.
+#[derive(Drop)]
+struct EndLines<'w, W, E> {
+    out: &'w mut W,
+    err: &'w mut E,
+}
+
+impl<W: Write, E: Write> Reporter for EndLines<'_, W, E> {
+    fn begin(&mut self) -> Result<(), Fault> {
+        Ok(())
+    }
+
+    fn report(
+        &mut self,
+        _code: Option<&str>,
+        _way: Way,
+        ended: Result<End, Trouble>,
+    ) -> Result<(), Fault> {
+        match ended {
+            Ok(end) => write_line(self.out, &Outcome::Ended(end)),
+            Err(Trouble::OfJob(fault)) => {
+                self.refuse(fault);
+                Ok(())
+            }
+            Err(Trouble::OfService(fault)) => Err(fault),
+        }
+    }
+
+    fn refuse(&mut self, fault: Fault) {
+        let _ = write_line(self.err, &fault);
+    }
+}
+
+/// The end of the last session.
+#[derive(Clone, Copy)]
+struct LastEnd {
+    ended: Option<Result<End, Fault>>,
+}
+
+impl Reporter for LastEnd {
+    fn begin(&mut self) -> Result<(), Fault> {
+        Ok(())
+    }
+
+    fn report(
+        &mut self,
+        _code: Option<&str>,
+        _way: Way,
+        ended: Result<End, Trouble>,
+    ) -> Result<(), Fault> {
+        self.ended = Some(ended.map_err(Trouble::fault));
+        Ok(())
+    }
+
+    fn refuse(&mut self, _fault: Fault) {}
 }

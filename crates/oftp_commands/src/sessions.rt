@@ -11,7 +11,7 @@ use oftp_life::Life;
 use oftp_outcomes::{Fault, Outcome};
 use oftp_partners::{Book, Partner};
 use oftp_register::PlainOffice;
-use oftp_sockets::{Idle, Start, Trouble, ports_of, run_session};
+use oftp_sockets::{ports_of, run_session};
 use std::fs::{self, File, Metadata, OpenFile};
 use std::io::ErrorKind;
 use std::rt::Files;
@@ -43,17 +43,9 @@ fn feed_durable(
     let input = open_input(rt, line.input)?;
     let trace = trace_of(rt, line)?;
     let (mut reader, mut writer) = ports(rt, line, input, trace.as_ref())?;
-    let (life, ended) = run_session(
-        rt.alloc(),
-        life,
-        book,
-        Start::As(role),
-        &mut reader,
-        &mut writer,
-        &mut Idle,
-    );
+    let (life, ended) = run_session(rt.alloc(), life, book, role, &mut reader, &mut writer);
     drop(life);
-    outcome_of(ended.map_err(Trouble::fault), trace.as_ref())
+    outcome_of(ended.map_err(Fault::Run), trace.as_ref())
 }
 
 /// Runs the session with a register in memory.

@@ -4,21 +4,17 @@ use crate::living::live_if_free;
 use crate::office::DatabaseOffice;
 use crate::opening::PATIENCE;
 use crate::spare::{Spare, Supply};
-use oftp_engine::End;
 use oftp_life::Life;
-use oftp_listing::{Reply, answer};
 use oftp_outcomes::Fault;
-use oftp_sockets::{Desk, Idle, Replies, Start, Station, Trouble, Wire, run_session};
+use oftp_sockets::{Keeper, Term, Trouble};
 use oftp_store::{PathFault, StoreFault};
-use std::alloc::Global;
-use std::io::{Read, Write};
 use std::time::{Clock, Duration};
 
 /// The pause before descriptors are asked for again, in milliseconds.
 const PAUSE: u64 = 50;
 
 /// The error for a database that one caller can't have now.
-const HELD: Trouble = Trouble::OfCaller(Fault::Store(StoreFault::Store));
+const HELD: Trouble = Trouble::OfJob(Fault::Store(StoreFault::Store));
 
 /// A database that is opened for each session and each request, and closed after it.
 #[derive(Drop)]
@@ -57,65 +53,23 @@ impl<'a> Opened<'a> {
     }
 }
 
-impl Desk for Opened<'_> {
-    fn converse<R: Read + Drop, W: Write + Drop>(
-        &mut self,
-        rt: &HostRuntime,
-        start: Start<'_>,
-        station: &Station<'_>,
-        wire: Wire<'_, R, W>,
-    ) -> Result<End, Trouble> {
-        let served = match self.life(rt) {
-            Ok(life) => converse_once(rt, life, start, station, wire),
-            Err(trouble) => Err(trouble),
-        };
-        let _ = self.spare.hold(rt);
-        served
+impl Keeper<Life<DatabaseOffice>> for Opened<'_> {
+    // A database that stays locked, or for which there stays no descriptor, is an error of this job alone.
+    fn open(&mut self, rt: &HostRuntime) -> Result<Life<DatabaseOffice>, Trouble> {
+        let opened = self.life(rt);
+        if opened.is_err() {
+            let _ = self.spare.hold(rt);
+        }
+        opened
     }
-}
 
-impl Replies for Opened<'_> {
-    fn reply_to(&mut self, rt: &HostRuntime, request: &[u8]) -> Result<Reply, Trouble> {
-        let reply = match self.life(rt) {
-            Ok(life) => answer_once(rt.alloc(), life, request),
-            Err(trouble) => Err(trouble),
-        };
+    fn close(&mut self, rt: &HostRuntime, life: Life<DatabaseOffice>) {
+        drop(life);
         let _ = self.spare.hold(rt);
-        reply
     }
-}
 
-/// Runs the only session of a life.
-fn converse_once<R: Read + Drop, W: Write + Drop>(
-    rt: &HostRuntime,
-    life: Life<DatabaseOffice>,
-    start: Start<'_>,
-    station: &Station<'_>,
-    wire: Wire<'_, R, W>,
-) -> Result<End, Trouble> {
-    let (mut reader, mut writer) = wire.into_ports();
-    let (life, ended) = run_session(
-        rt.alloc(),
-        life,
-        station.book,
-        start,
-        &mut reader,
-        &mut writer,
-        &mut Idle,
-    );
-    drop(life);
-    ended
-}
-
-/// Answers the only request of a life.
-fn answer_once(
-    alloc: Global,
-    mut life: Life<DatabaseOffice>,
-    request: &[u8],
-) -> Result<Reply, Trouble> {
-    match answer(alloc, request, &mut life) {
-        Ok(reply) => Ok(reply),
-        Err(fault) => Err(Trouble::from(Fault::from(fault))),
+    fn term(&self) -> Term {
+        Term::OfJob
     }
 }
 

@@ -9,6 +9,7 @@ mod drafts;
 mod files;
 mod limits;
 mod replacing;
+mod session_trace;
 mod showing;
 mod traces;
 mod tracing;
@@ -25,6 +26,7 @@ pub use files::{
 };
 pub use limits::LIMITS;
 pub use replacing::{Name, Place, discard, draft_in_swept, draft_of, free_name, place_of, settle};
+pub use session_trace::{Lines, SessionTrace};
 pub use showing::show;
 pub use traces::open_trace;
 pub use tracing::{Trace, Traced};

@@ -112,6 +112,53 @@ fn keep(alloc: Global, kept: &RefCell<Vec<u8>>, lines: &[u8]) {
     }
 }
 
+/// One direction of a session: the mark in front of its lines, and the parser of its octets.
+#[derive(Drop)]
+pub(crate) struct Strand {
+    mark: &'static str,
+    // `None` after a failure: the start of the next command isn't known then.
+    transcript: Option<Transcript>,
+}
+
+impl Strand {
+    /// What the partner sends.
+    pub(crate) fn heard(alloc: Global) -> Strand {
+        Strand::new(alloc, "<")
+    }
+
+    /// What the partner receives.
+    pub(crate) fn said(alloc: Global) -> Strand {
+        Strand::new(alloc, ">")
+    }
+
+    fn new(alloc: Global, mark: &'static str) -> Strand {
+        Strand {
+            mark,
+            transcript: Some(Transcript::new(alloc)),
+        }
+    }
+
+    /// Appends the lines of a piece to a trace. Once the clock can't be read or memory runs out, this direction isn't traced any more.
+    pub(crate) fn tell(&mut self, trace: &Trace<'_>, piece: &[u8]) {
+        if let Some(transcript) = &mut self.transcript
+            && append(trace, self.mark, transcript, piece).is_none()
+        {
+            self.transcript = None;
+        }
+    }
+}
+
+/// Appends the lines of a piece. Returns `None` if the clock can't be read, or memory runs out.
+fn append(trace: &Trace<'_>, mark: &str, transcript: &mut Transcript, piece: &[u8]) -> Option<()> {
+    let alloc = trace.rt.alloc();
+    let time = trace.time()?;
+    let head = format!(in alloc; "{time} {mark} ").ok()?;
+    let mut lines = String::new(alloc);
+    transcript.take(piece, head.as_str(), &mut lines).ok()?;
+    trace.put(lines.as_bytes());
+    Some(())
+}
+
 /// The reader or writer of a session, with the trace of its octets, if there is one. Once the clock can't be read or memory runs out, the
 /// octets aren't traced any more.
 #[derive(Drop)]
@@ -120,58 +167,41 @@ pub struct Traced<'a, S> {
     way: Option<Way<'a>>,
 }
 
-/// One direction of a session: the trace, the mark in front of its lines, and the parser of its octets.
+/// One direction of a session, and its trace.
 #[derive(Drop)]
 struct Way<'a> {
     trace: &'a Trace<'a>,
-    mark: &'static str,
-    transcript: Transcript,
+    strand: Strand,
 }
 
 impl<'a, S> Traced<'a, S> {
     /// A reader for what the partner sends.
     pub fn reader(stream: S, trace: Option<&'a Trace<'a>>) -> Traced<'a, S> {
-        Traced::new(stream, trace, "<")
+        Traced {
+            stream,
+            way: trace.map(|trace| Way {
+                trace,
+                strand: Strand::heard(trace.rt.alloc()),
+            }),
+        }
     }
 
     /// A writer for what the partner receives.
     pub fn writer(stream: S, trace: Option<&'a Trace<'a>>) -> Traced<'a, S> {
-        Traced::new(stream, trace, ">")
-    }
-
-    /// A stream with a mark in front of its lines.
-    fn new(stream: S, trace: Option<&'a Trace<'a>>, mark: &'static str) -> Traced<'a, S> {
-        let way = trace.map(|trace| Way {
-            trace,
-            mark,
-            transcript: Transcript::new(trace.rt.alloc()),
-        });
-        Traced { stream, way }
-    }
-
-    /// Adds a piece to the trace, which was read or written already. After a failure this direction isn't traced any more, since the start of
-    /// its next command isn't known.
-    pub fn tell(&mut self, piece: &[u8]) {
-        let is_told = match &mut self.way {
-            Some(way) => way.tell(piece).is_some(),
-            None => true,
-        };
-        if !is_told {
-            self.way = None;
+        Traced {
+            stream,
+            way: trace.map(|trace| Way {
+                trace,
+                strand: Strand::said(trace.rt.alloc()),
+            }),
         }
     }
-}
 
-impl Way<'_> {
-    /// Appends the lines of a piece. Returns `None` if the clock can't be read, or memory runs out.
-    fn tell(&mut self, piece: &[u8]) -> Option<()> {
-        let alloc = self.trace.rt.alloc();
-        let time = self.trace.time()?;
-        let head = format!(in alloc; "{time} {} ", self.mark).ok()?;
-        let mut lines = String::new(alloc);
-        self.transcript.take(piece, head.as_str(), &mut lines).ok()?;
-        self.trace.put(lines.as_bytes());
-        Some(())
+    /// Adds a piece to the trace, which was read or written already.
+    pub fn tell(&mut self, piece: &[u8]) {
+        if let Some(way) = &mut self.way {
+            way.strand.tell(way.trace, piece);
+        }
     }
 }
 

@@ -11,14 +11,14 @@ use std::alloc::Global;
 
 /// The octets of an answer.
 #[derive(Drop)]
-pub(super) struct Answer {
+pub(crate) struct Answer {
     alloc: Global,
     octets: Vec<u8>,
 }
 
 impl Answer {
     /// An answer without pieces.
-    pub(super) fn new(alloc: Global) -> Answer {
+    pub(crate) fn new(alloc: Global) -> Answer {
         Answer {
             alloc,
             octets: Vec::new(alloc),
@@ -29,7 +29,7 @@ impl Answer {
     ///
     /// # Errors
     /// Out of memory.
-    pub(super) fn add(&mut self, outlet: Outlet, octets: &[u8]) -> Result<(), Fault> {
+    pub(crate) fn add(&mut self, outlet: Outlet, octets: &[u8]) -> Result<(), Fault> {
         let mut rest = octets;
         for _ in 0..octets.len() {
             if rest.is_empty() {
@@ -96,7 +96,7 @@ impl Answer {
     }
 
     /// The octets of an answer with this end. `None` if memory runs out.
-    pub(super) fn ended(mut self, outcome: Result<u8, Fault>) -> Option<Vec<u8>>
+    pub(crate) fn ended(mut self, outcome: Result<u8, Fault>) -> Option<Vec<u8>>
         ensures status { IfOk outcome (λ status. IfSome result (λ octets. (front : List ℕ) × (octets.items ≡ front ++ spelled_end status))) }
         ensures failed { IfErr outcome (λ fault. IfSome result (λ octets. (front : List ℕ) × (octets.items ≡ front ++ spelled_end FAILED))) }
     {
@@ -108,7 +108,7 @@ impl Answer {
 }
 
 /// The answer to a command that called a partner: the lines for its trace, and the end of the session. `None` if memory runs out.
-pub(super) fn answer_of_call(
+pub(crate) fn answer_of_call(
     alloc: Global,
     trace: &[u8],
     ended: &Result<End, Fault>,

@@ -1,299 +1,247 @@
-//! Outgoing connections. A partner that can't be reached delays nothing: connections are made in the background.
+//! The calls of the station: for whom something waits, and how a call gets its connection.
 
-use crate::watch::Watch;
-use mio::net::TcpStream;
+use crate::asked::Wanted;
+use crate::dialing::Outgoing;
+use crate::due::is_due;
+use crate::home::Home;
+use crate::limits::partner_of;
+use crate::peer::{Peer, Reading, Task};
+use crate::service::{Books, Shell, peer_in};
+use crate::stream::Stream;
+use oftp_engine::{End, RunFault};
+use oftp_files::{Lines, SessionTrace, Trace};
+use oftp_life::Life;
 use oftp_outcomes::Fault;
 use oftp_partners::Book;
-use oftp_sockets::socket_fault;
-use std::io;
-use std::net::{self, SocketAddr, ToSocketAddrs};
-use std::time::{Duration, Instant};
+use oftp_register::Office;
+use oftp_schedule::connection::{Asker, Event, Signal};
+use oftp_sockets::{Keeper, Trouble};
+use std::alloc::Global;
 
-/// How many addresses of one partner are tried, at most.
-const MOST_ADDRESSES: usize = 64;
-
-/// How many connections are made at once, at most.
-const MOST_CONNECTING: usize = 64;
-
-/// A call that is requested.
-#[derive(Drop)]
-pub(super) struct Wanted {
-    /// The book of the command that requested it. `None` is the station's own.
-    pub(super) book: Option<Book>,
-    /// The partner's code.
-    pub(super) code: String,
-    /// How long the partner may be idle. `None` is no limit.
-    pub(super) patience: Option<Duration>,
-    /// How long the session may take.
-    pub(super) longest: Duration,
-    /// Whether the command wants a trace of the connection.
-    pub(super) is_traced: bool,
-    /// How often the call gave way to a caller.
-    pub(super) times: u32,
-}
-
-/// A call that is being made.
-#[derive(Drop)]
-struct Call {
-    // The number of the command that requested it; `None` for the clock.
-    client: Option<u64>,
-    wanted: Wanted,
-    // The host and port, and their addresses once they were looked up.
-    address: String,
-    addresses: Vec<SocketAddr>,
-    // How many of them were tried.
-    tried: usize,
-    begun: Instant,
-    progress: Progress,
-}
-
-/// The state of a call.
-#[derive(Drop)]
-enum Progress {
-    /// It hasn't begun.
-    Wanted,
-    /// It is connecting.
-    Connecting(TcpStream),
-    /// It is connected.
-    Connected(TcpStream),
-    /// The partner can't be reached.
-    Failed(Fault),
-}
-
-/// A call that has ended: the partner's stream, or an error.
-#[derive(Drop)]
-pub(super) struct Called {
-    /// The number of the command that requested it; `None` for the clock.
-    pub(super) client: Option<u64>,
-    /// The requested call.
-    pub(super) wanted: Wanted,
-    /// The stream, in blocking mode.
-    pub(super) stream: Result<net::TcpStream, Fault>,
-}
-
-/// The calls, in the order in which they were requested.
-#[derive(Drop)]
-pub(super) struct Calls<'a> {
-    rt: &'a HostRuntime,
-    calls: Vec<Call>,
-}
-
-impl<'a> Calls<'a> {
-    /// No calls.
-    pub(super) fn new(rt: &'a HostRuntime) -> Calls<'a> {
-        Calls {
-            rt,
-            calls: Vec::new(rt.alloc()),
-        }
-    }
-
-    /// Whether there are no calls.
-    pub(super) fn is_empty(&self) -> bool {
-        self.calls.is_empty()
-    }
-
-    /// Whether the clock is calling a partner.
-    pub(super) fn has(&self, code: &str) -> bool {
-        for call in &self.calls {
-            if call.client.is_none() && call.wanted.code.as_str() == code {
-                return true;
-            }
-        }
-        false
-    }
-
-    /// Requests a call of a partner at an address, for the command with a number or for the clock.
-    ///
-    /// # Errors
-    /// Out of memory, or the clock can't be read.
-    pub(super) fn want(
+impl<'a> Shell<'a> {
+    /// Tells each partner for whom something waits, and that all were told.
+    pub(crate) fn review<O: Office + Drop>(
         &mut self,
-        client: Option<u64>,
-        wanted: Wanted,
-        address: String,
+        home: &mut Home<'_, O>,
+        keeper: &mut impl Keeper<Life<O>>,
     ) -> Result<(), Fault> {
-        let rt = self.rt;
-        let Ok(begun) = Instant::now(rt) else {
-            return Err(Fault::Socket);
+        let opened = home.open(self.rt, keeper);
+        self.settle_opening(opened)?;
+        for place in 0..self.bench.codes.len() {
+            if let Home::Idle(life) = home
+                && self.review_at(place, life)?.is_none()
+            {
+                self.fail(Fault::Run(RunFault::Office))?;
+                break;
+            }
+        }
+        self.say(Event::Reviewed)
+    }
+
+    /// Tells each partner of the list, whatever waits.
+    pub(crate) fn call_all(&mut self) -> Result<(), Fault> {
+        for place in 0..self.bench.codes.len() {
+            self.call_at(place)?;
+        }
+        Ok(())
+    }
+
+    /// Tells the partner at a place of the list.
+    fn call_at(&mut self, place: usize) -> Result<(), Fault> {
+        if let Some(code) = self.bench.codes.get(place)
+            && let Ok(number) = u32::try_from(place)
+            && let Some(partner) = self.station.book.partner(code.as_bytes())
+        {
+            let partner = partner_of(&self.station, number, partner);
+            return self.say(Event::Due(partner));
+        }
+        Ok(())
+    }
+
+    /// Tells the partner at a place of the list, if something waits for it. Returns `None` if the office failed.
+    fn review_at(&mut self, place: usize, office: &mut impl Office) -> Result<Option<()>, Fault> {
+        let Some(code) = self.bench.codes.get(place) else {
+            return Ok(Some(()));
         };
-        let call = Call {
-            client,
-            wanted,
+        let Ok(is_due) = is_due(self.station.book, code.as_str(), office) else {
+            return Ok(None);
+        };
+        if is_due {
+            self.call_at(place)?;
+        }
+        Ok(Some(()))
+    }
+
+    /// Looks up the address of a call's partner.
+    pub(crate) fn resolve(&mut self, id: u64) -> Result<(), Fault> {
+        let rt = self.rt;
+        if peer_in(&mut self.peers, id).is_none()
+            && let Some(peer) = self.new_call(id)
+        {
+            let _ = self.peers.push(peer);
+        }
+        let Some(peer) = peer_in(&mut self.peers, id) else {
+            return self.tell(id, Signal::Failed);
+        };
+        match peer.resolve(rt) {
+            Ok(()) => self.tell(id, Signal::Resolved),
+            Err(fault) => {
+                peer.note(Err(Trouble::OfJob(fault)));
+                self.tell(id, Signal::Failed)
+            }
+        }
+    }
+
+    /// The connection of a call that isn't begun. `None` if there is no such call, or no memory for it.
+    fn new_call(&self, id: u64) -> Option<Peer<'a>> {
+        let call = self.schedule.call(id)?;
+        match call.asker {
+            Asker::ByClock => self.call_of_clock(id, call.partner.number as usize),
+            Asker::By(command) => self.call_of_command(id, command),
+        }
+    }
+
+    /// A call by the clock of the partner at a place of the list.
+    fn call_of_clock(&self, id: u64, place: usize) -> Option<Peer<'a>> {
+        let alloc = self.rt.alloc();
+        let code = self.bench.codes.get(place)?;
+        let partner = self.station.book.partner(code.as_bytes())?;
+        let address = String::from_str(alloc, partner.address.as_str()).ok()?;
+        let code = String::from_str(alloc, code.as_str()).ok()?;
+        let outgoing = Outgoing::new(self.rt, None, false, address);
+        Some(called(alloc, id, code, outgoing))
+    }
+
+    /// A call that a command wants.
+    fn call_of_command(&self, id: u64, command: u64) -> Option<Peer<'a>> {
+        let alloc = self.rt.alloc();
+        let Wanted {
+            partner: _,
+            code,
             address,
-            addresses: Vec::new(rt.alloc()),
-            tried: 0,
-            begun,
-            progress: Progress::Wanted,
-        };
-        self.calls.push(call).map_err(|_| Fault::MEMORY)
+            is_traced,
+        } = self.asked_by(command)?.wanted(alloc)?;
+        let outgoing = Outgoing::new(self.rt, Some(command), is_traced, address);
+        Some(called(alloc, id, code, outgoing))
     }
 
-    /// Begins the next call, if there is room. Returns whether it did. Only one is begun at a time, since the system may take long to
-    /// resolve a name.
-    pub(super) fn begin_next(&mut self, watch: &Watch) -> bool {
+    /// The request of a command.
+    fn asked_by(&self, command: u64) -> Option<&crate::asked::Asked> {
+        match &self.peers.iter().find(|peer| peer.id == command)?.task {
+            Task::Command(asked) => asked.as_ref(),
+            _ => None,
+        }
+    }
+
+    /// Connects a call.
+    pub(crate) fn dial(&mut self, id: u64) -> Result<(), Fault> {
         let rt = self.rt;
-        let mut connecting = 0usize;
-        for call in &mut self.calls {
-            match &call.progress {
-                Progress::Connecting(_) => connecting = connecting.saturating_add(1),
-                Progress::Wanted if connecting < MOST_CONNECTING => {
-                    call.begin(rt, watch);
-                    return true;
-                }
-                _ => {}
-            }
+        let alloc = rt.alloc();
+        let shared = self.station.trace;
+        if let Some(peer) = peer_in(&mut self.peers, id) {
+            peer.trace = if peer.is_traced() {
+                Some(SessionTrace::new(alloc, Lines::Own(Trace::kept(rt))))
+            } else {
+                shared_trace(alloc, shared)
+            };
         }
-        false
+        self.connect(rt, id, Fault::Socket)
     }
 
-    /// Checks all calls. Returns the first that has ended, if one has.
-    pub(super) fn next_called(&mut self, watch: &Watch) -> Option<Called> {
-        let rt = self.rt;
-        let mut ended = None;
-        for (place, call) in self.calls.iter_mut().enumerate() {
-            call.look(rt, watch);
-            if ended.is_none() && call.has_ended() {
-                ended = Some(place);
-            }
-        }
-        let place = ended?;
-        if place >= self.calls.len() {
-            return None;
-        }
-        Some(outcome_of(self.calls.remove(place)))
-    }
-}
-
-impl Call {
-    /// Whether it has ended.
-    fn has_ended(&self) -> bool {
-        matches!(&self.progress, Progress::Connected(_) | Progress::Failed(_))
-    }
-
-    /// Looks up the partner's addresses, and begins to connect.
-    fn begin(&mut self, rt: &HostRuntime, watch: &Watch) {
-        match addresses_of(rt, self.address.as_str()) {
-            Ok(addresses) => {
-                self.addresses = addresses;
-                self.progress = Progress::Failed(Fault::Socket);
-                self.try_next(rt, watch);
-            }
-            Err(fault) => self.progress = Progress::Failed(fault),
-        }
-    }
-
-    /// Checks whether it is connected, and tries the next address after a failure.
-    fn look(&mut self, rt: &HostRuntime, watch: &Watch) {
-        let fault = match &self.progress {
-            Progress::Connecting(stream) => match state_of(stream) {
-                Ok(true) => None,
-                Ok(false) if !self.is_over(rt) => return,
-                Ok(false) => Some(Fault::Socket),
-                Err(error) => Some(socket_fault(&error)),
-            },
-            _ => return,
+    /// Connects a call to the next of its addresses, after this error of the one before.
+    pub(crate) fn connect(&mut self, rt: &HostRuntime, id: u64, fault: Fault) -> Result<(), Fault> {
+        let Some(peer) = peer_in(&mut self.peers, id) else {
+            return self.tell(id, Signal::Failed);
         };
-        match fault {
-            Some(fault) => {
-                self.progress = Progress::Failed(fault);
-                self.try_next(rt, watch);
-            }
-            None => self.connect(),
-        }
-    }
-
-    /// Marks it as connected.
-    fn connect(&mut self) {
-        let before = std::mem::replace(&mut self.progress, Progress::Failed(Fault::Socket));
-        self.progress = match before {
-            Progress::Connecting(stream) => Progress::Connected(stream),
-            other => other,
+        let connecting = match &mut peer.task {
+            Task::Call(call) => call.connect(rt, &self.watch, id, fault),
+            _ => Err(fault),
         };
-    }
-
-    /// Whether the present address took longer than the partner may be idle.
-    fn is_over(&self, rt: &HostRuntime) -> bool {
-        match (self.wanted.patience, self.begun.elapsed(rt)) {
-            (Some(patience), Ok(passed)) => passed >= patience,
-            (None, Ok(_)) => false,
-            (_, Err(_)) => true,
-        }
-    }
-
-    /// Tries the next addresses until one is connecting. If none is left, the error of the last one stays.
-    fn try_next(&mut self, rt: &HostRuntime, watch: &Watch) {
-        for _ in 0..MOST_ADDRESSES {
-            if self.tried >= self.addresses.len() {
-                return;
+        match connecting {
+            Ok(stream) => {
+                peer.stream = Stream::Dialing(stream);
+                peer.reading = Reading::Dial;
+                peer.readiness.is_writable = true;
+                Ok(())
             }
-            let address = self.addresses[self.tried];
-            self.tried += 1;
-            match connecting(rt, address, watch) {
-                Ok(stream) => {
-                    self.begun = Instant::now(rt).unwrap_or(self.begun);
-                    self.progress = Progress::Connecting(stream);
-                    return;
-                }
-                Err(error) => self.progress = Progress::Failed(socket_fault(&error)),
+            Err(fault) => {
+                peer.note(Err(Trouble::OfJob(fault)));
+                self.tell(id, Signal::Failed)
             }
         }
     }
-}
 
-/// The addresses of a host and port.
-fn addresses_of(rt: &HostRuntime, address: &str) -> Result<Vec<SocketAddr>, Fault> {
-    let mut addresses = Vec::new(rt.alloc());
-    let found = address
-        .to_socket_addrs(rt)
-        .map_err(|error| socket_fault(&error))?;
-    for address in found.take(MOST_ADDRESSES) {
-        if addresses.push(address).is_err() {
-            return Err(Fault::MEMORY);
+    /// Closes the connection of a call, which is made again. The trace of a session that gave way ends as that of one that is cut off.
+    pub(crate) fn hang_up(&mut self, id: u64) {
+        let alloc = self.rt.alloc();
+        if let Some(peer) = peer_in(&mut self.peers, id) {
+            if peer.reading == Reading::Session
+                && let Some(trace) = &mut peer.trace
+            {
+                let ended: Result<End, Fault> = Err(Fault::Run(RunFault::Read));
+                trace.end(&ended);
+            }
+            peer.hang_up(alloc);
         }
     }
-    Ok(addresses)
-}
 
-/// Begins to connect to an address.
-fn connecting(rt: &HostRuntime, address: SocketAddr, watch: &Watch) -> io::Result<TcpStream> {
-    let stream = TcpStream::connect(rt, address)?;
-    watch.add(&stream)?;
-    Ok(stream)
-}
-
-/// Whether a stream is connected. An error says why it can't be.
-fn state_of(stream: &TcpStream) -> io::Result<bool> {
-    if let Some(error) = stream.take_error()? {
-        return Err(error);
+    /// Whether a session begins by the book of a command, which isn't lent.
+    pub(crate) fn lacks_book(&self, id: u64, books: Books<'_>) -> bool {
+        let is_lent = match books.lent {
+            Some((call, _)) => call == id,
+            None => false,
+        };
+        !is_lent && self.asker_of(id).is_some()
     }
-    Ok(stream.peer_addr().is_ok())
-}
 
-/// The result of a call.
-fn outcome_of(call: Call) -> Called {
-    let Call {
-        client,
-        wanted,
-        progress,
-        ..
-    } = call;
-    let stream = match progress {
-        Progress::Connected(stream) => waiting_stream(stream),
-        Progress::Wanted | Progress::Connecting(_) => Err(Fault::Socket),
-        Progress::Failed(fault) => Err(fault),
-    };
-    Called {
-        client,
-        wanted,
-        stream,
+    /// The book of the command that wanted a call. `None` for other calls, or if there is no memory for it.
+    pub(crate) fn book_of_call(&self, call: Option<u64>) -> Option<Book> {
+        let command = self.asker_of(call?)?;
+        self.asked_by(command)?.book(self.rt.alloc()).ok()
+    }
+
+    /// The command that wanted a call.
+    fn asker_of(&self, id: u64) -> Option<u64> {
+        match &self.peers.iter().find(|peer| peer.id == id)?.task {
+            Task::Call(call) => call.asker,
+            _ => None,
+        }
     }
 }
 
-/// The stream in blocking mode.
-fn waiting_stream(stream: TcpStream) -> Result<net::TcpStream, Fault> {
-    let stream = net::TcpStream::from(stream);
-    match stream.set_nonblocking(false) {
-        Ok(()) => Ok(stream),
-        Err(error) => Err(socket_fault(&error)),
+impl Peer<'_> {
+    /// Whether it is a call whose command wants a trace.
+    fn is_traced(&self) -> bool {
+        match &self.task {
+            Task::Call(call) => call.is_traced,
+            _ => false,
+        }
+    }
+
+    /// Looks up the addresses of its partner.
+    fn resolve(&mut self, rt: &HostRuntime) -> Result<(), Fault> {
+        match &mut self.task {
+            Task::Call(call) => call.resolve(rt),
+            _ => Err(Fault::Socket),
+        }
+    }
+}
+
+/// A call that isn't begun.
+fn called<'a>(alloc: Global, id: u64, code: String, outgoing: Outgoing) -> Peer<'a> {
+    let task = Task::Call(outgoing);
+    let mut peer = Peer::new(alloc, id, task, Stream::Absent, Reading::Nothing);
+    peer.code = Some(code);
+    peer
+}
+
+/// A trace whose lines go to that of the service, if there is one.
+pub(crate) fn shared_trace<'a>(
+    alloc: Global,
+    shared: Option<&'a Trace<'a>>,
+) -> Option<SessionTrace<'a>> {
+    match shared {
+        Some(trace) => Some(SessionTrace::new(alloc, Lines::Shared(trace))),
+        None => None,
     }
 }

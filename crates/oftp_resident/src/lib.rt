@@ -1,25 +1,28 @@
-//! The resident station: it keeps an office open, and does one job after another with it.
+//! The services: one loop over sockets, which does one job after another. The schedule says what is done; this crate does it.
 #![tactic(auto)]
 
 mod answers;
 mod asked;
 mod attending;
-mod calling;
 mod calls;
-mod clients;
-mod clock;
-mod commands;
-mod copying;
-mod jobs;
-mod listing;
-mod owner;
+mod dialing;
+mod doors;
+mod due;
+mod heads;
+mod home;
+mod kept;
+mod limits;
 mod page;
+mod peer;
 mod replies;
+mod requests;
+mod service;
 mod session_lines;
-mod turns;
-mod visitors;
+mod sessions;
+mod stream;
 mod watch;
-mod yielding;
 
-pub use clock::codes_of;
-pub use turns::{Bench, reside};
+pub use due::codes_of;
+pub use kept::Kept;
+pub use service::{Bench, Site, Start, serve};
+pub use session_lines::SessionLines;

@@ -1,6 +1,7 @@
 //! The replies to HTTP requests: the page, the content of the register, or an error if the request is for another host.
 
 use crate::page::PAGE;
+use crate::service::Site;
 use httparse::Status;
 use httparse::spans::{EMPTY_HEADER_SPAN, HeaderSpan, Span, parse_request};
 use oftp_listing::{ListFault, OfficeState, answer};
@@ -15,20 +16,24 @@ const MOST_FIELDS: usize = 64;
 const OTHER_HOST: &[u8] =
     b"HTTP/1.1 400 Bad Request\r\nContent-Type: application/json\r\nContent-Length: 13\r\nConnection: close\r\n\r\n{\"error\":400}";
 
+/// The reply to a request that isn't answered, since the station ends.
+pub(crate) const STOPPING: &[u8] =
+    b"HTTP/1.1 503 Service Unavailable\r\nContent-Type: application/json\r\nContent-Length: 13\r\nConnection: close\r\n\r\n{\"error\":503}";
+
 /// The hosts that a request may name: the address that was called, `localhost`, or a name.
 #[derive(Clone, Copy)]
-pub(super) struct Hosts<'a> {
+struct Hosts<'a> {
     /// The address that was called.
-    pub(super) address: Option<IpAddr>,
+    address: Option<IpAddr>,
     /// The name, if there is one.
-    pub(super) name: Option<&'a str>,
+    name: Option<&'a str>,
 }
 
 /// A reply, and whether the office failed while it was made.
 #[derive(Drop)]
-pub(super) struct Answered {
-    pub(super) octets: Vec<u8>,
-    pub(super) office: OfficeState,
+pub(crate) struct Answered {
+    pub(crate) octets: Vec<u8>,
+    pub(crate) office: OfficeState,
 }
 
 impl Answered {
@@ -45,13 +50,14 @@ impl Answered {
 ///
 /// # Errors
 /// Out of memory; [`ListFault::Office`] where the office has failed, too.
-pub(super) fn reply_to(
+pub(crate) fn reply_to(
     alloc: Global,
     office: &mut impl Office,
-    hosts: Hosts<'_>,
+    site: Site<'_>,
+    address: Option<IpAddr>,
     request: &[u8],
 ) -> Result<Answered, ListFault> {
-    match goal_of(hosts, request) {
+    match goal_at(site, address, request) {
         Asked::OtherHost => Ok(Answered::unasked(Vec::from_slice(alloc, OTHER_HOST)?)),
         Asked::Page => Ok(Answered::unasked(page(alloc)?)),
         Asked::Register => {
@@ -86,7 +92,21 @@ enum Asked {
     Register,
 }
 
-/// What a request asks for.
+/// What a request asks for at a site.
+fn goal_at(site: Site<'_>, address: Option<IpAddr>, request: &[u8]) -> Asked {
+    match site {
+        Site::Register => Asked::Register,
+        Site::Page(name) => {
+            let name = match name {
+                Some(name) => Some(name.as_str()),
+                None => None,
+            };
+            goal_of(Hosts { address, name }, request)
+        }
+    }
+}
+
+/// What a request asks for, of these hosts.
 fn goal_of(hosts: Hosts<'_>, request: &[u8]) -> Asked {
     let mut fields = [EMPTY_HEADER_SPAN; MOST_FIELDS];
     let Ok(Status::Complete(head)) = parse_request(request, &mut fields) else {

@@ -2,18 +2,9 @@
 
 use oftp_engine::{End, RunFault};
 use oftp_outcomes::{Fault, Outcome, write_line};
-use oftp_sockets::Trouble;
+use oftp_sockets::{Reporter, Trouble, Way};
 use std::fmt;
 use std::io::Write;
-
-/// Which side called.
-#[derive(Clone, Copy)]
-pub(super) enum Way {
-    /// The partner called.
-    In,
-    /// The station called.
-    Out,
-}
 
 /// The line of a session: the partner's code, the side that called, and the end of the session.
 #[derive(Clone, Copy)]
@@ -37,39 +28,15 @@ impl fmt::Display for SessionLine<'_> {
     }
 }
 
-/// Writes the line of a session with the partner with this code. `None` is a caller that wasn't admitted, and is printed as `-`.
-///
-/// # Errors
-/// `out` returned an error.
-fn tell_session(
-    out: &mut impl Write,
-    code: Option<&str>,
-    way: Way,
-    ended: Result<End, Fault>,
-) -> Result<(), Fault> {
-    let code = code.unwrap_or("-");
-    write_line(out, &SessionLine { code, way, ended })
-}
-
-/// Writes the line of a session.
-///
-/// # Errors
-/// `out` returned an error; or the error of the session, if it ends the station.
-pub(super) fn settle(
-    out: &mut impl Write,
-    code: Option<&str>,
-    way: Way,
-    ended: Result<End, Trouble>,
-) -> Result<(), Fault> {
-    let last = last_fault(&ended);
-    tell_session(out, code, way, ended.map_err(Trouble::fault))?;
-    match last {
-        Some(fault) => Err(fault),
-        None => Ok(()),
+/// How a session ended, whoever else its error concerns.
+pub(crate) fn plain(ended: &Result<End, Trouble>) -> Result<End, Fault> {
+    match ended {
+        Ok(end) => Ok(*end),
+        Err(trouble) => Err(trouble.fault()),
     }
 }
 
-/// The error that ends the station: each error of the service but out of memory, which ends the session alone.
+/// The error of a session that ends the station: each of the service but out of memory, which ends the session alone.
 fn last_fault(ended: &Result<End, Trouble>) -> Option<Fault> {
     match ended {
         Err(Trouble::OfService(Fault::Run(RunFault::Memory))) => None,
@@ -78,14 +45,43 @@ fn last_fault(ended: &Result<End, Trouble>) -> Option<Fault> {
     }
 }
 
-/// Writes the line of a session with a caller.
-///
-/// # Errors
-/// Those of [`settle`].
-pub(super) fn tell_caller(
-    out: &mut impl Write,
-    code: Option<&str>,
-    served: Result<End, Trouble>,
-) -> Result<(), Fault> {
-    settle(out, code, Way::In, served)
+/// Prints a line for each session, and `ready` before the first.
+#[derive(Drop)]
+pub struct SessionLines<'w, W> {
+    out: &'w mut W,
+}
+
+impl<'w, W: Write> SessionLines<'w, W> {
+    /// Prints the lines to `out`.
+    pub fn new(out: &'w mut W) -> SessionLines<'w, W> {
+        SessionLines { out }
+    }
+}
+
+impl<W: Write> Reporter for SessionLines<'_, W> {
+    fn begin(&mut self) -> Result<(), Fault> {
+        write_line(self.out, &"ready")
+    }
+
+    // Out of memory ends the session alone.
+    fn report(
+        &mut self,
+        code: Option<&str>,
+        way: Way,
+        ended: Result<End, Trouble>,
+    ) -> Result<(), Fault> {
+        let code = code.unwrap_or("-");
+        let line = SessionLine {
+            code,
+            way,
+            ended: plain(&ended),
+        };
+        write_line(self.out, &line)?;
+        match last_fault(&ended) {
+            Some(fault) => Err(fault),
+            None => Ok(()),
+        }
+    }
+
+    fn refuse(&mut self, _fault: Fault) {}
 }

@@ -2,8 +2,7 @@
 
 use oftp_outcomes::Fault;
 use std::io::{self, ErrorKind};
-use std::net::{TcpListener, TcpStream, ToSocketAddrs};
-use std::time::{Clock, Duration};
+use std::net::TcpListener;
 
 /// The error of a system without memory for a socket (ENOBUFS).
 const NO_BUFFERS: i32 = 105;
@@ -15,8 +14,8 @@ const PASSING: [i32; 16] = [
     1, 64, 71, 92, 95, 100, 101, 103, 104, 110, 112, 113, 12, 23, 24, NO_BUFFERS,
 ];
 
-/// The pause before accept is called again, in milliseconds.
-const PAUSE: u64 = 100;
+/// Those of them for which there is no descriptor or memory now.
+const SHORT: [i32; 4] = [12, 23, 24, NO_BUFFERS];
 
 /// Listens on a port of one of the machine's addresses. The port can be bound again at once.
 ///
@@ -26,49 +25,18 @@ pub fn bound(rt: &HostRuntime, address: &str, port: u16) -> Result<TcpListener, 
     TcpListener::bind(rt, (address, port)).map_err(|error| socket_fault(&error))
 }
 
-/// Connects to an address, which is a host and a port. Each address of the host is tried for up to `limit`; without a limit, for as long as
-/// the system tries.
-///
-/// # Errors
-/// [`Fault::Socket`] if none can be reached, or the name has no address; [`Fault::MEMORY`]. If several addresses failed, it is the error of
-/// the last.
-pub fn connected(
-    rt: &HostRuntime,
-    address: &str,
-    limit: Option<Duration>,
-) -> Result<TcpStream, Fault> {
-    let Some(limit) = limit else {
-        return TcpStream::connect(rt, address).map_err(|error| socket_fault(&error));
-    };
-    let addresses = address
-        .to_socket_addrs(rt)
-        .map_err(|error| socket_fault(&error))?;
-    let mut fault = Fault::Socket;
-    for address in addresses {
-        match TcpStream::connect_timeout(rt, &address, limit) {
-            Ok(stream) => return Ok(stream),
-            Err(error) => fault = socket_fault(&error),
-        }
-    }
-    Err(fault)
-}
-
-/// Accepts the next connection. After an error that [`passes`], accept is called again.
-pub(super) fn accepted(rt: &HostRuntime, listener: &TcpListener) -> Result<TcpStream, Fault> {
-    for _ in 0..u64::MAX {
-        match listener.accept() {
-            Ok((stream, _)) => return Ok(stream),
-            Err(error) if passes(&error) => rt.sleep(Duration::from_millis(PAUSE)),
-            Err(_) => return Err(Fault::Socket),
-        }
-    }
-    Err(Fault::Socket)
-}
-
 /// Whether accept may be called again after this error.
 pub fn passes(error: &io::Error) -> bool {
     match error.raw_os_error() {
         Some(number) => PASSING.contains(&number),
+        None => false,
+    }
+}
+
+/// Whether the system had no descriptor or no memory for a connection. It may have one later.
+pub fn is_short(error: &io::Error) -> bool {
+    match error.raw_os_error() {
+        Some(number) => SHORT.contains(&number),
         None => false,
     }
 }

@@ -184,7 +184,7 @@ fn carry_out_alone(
             Ok(DONE)
         }
         Line::Http(http) => {
-            commands::http(rt, http, err)?;
+            commands::http(rt, http, out, err)?;
             Ok(DONE)
         }
     }

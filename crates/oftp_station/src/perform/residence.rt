@@ -6,11 +6,15 @@ use oftp_database::{self as database, DatabaseOffice, PATIENCE};
 use oftp_files::read_book_octets;
 use oftp_life::Life;
 use oftp_outcomes::Fault;
-use oftp_resident::{Bench, codes_of, reside};
+use oftp_resident::{Bench, Kept, SessionLines, Site, Start, codes_of, serve};
+use oftp_schedule::connection::Counted;
 use oftp_sockets::{SocketPlace, Station, bound, socket_fault};
 use std::alloc::Global;
 use std::io::Write;
 use std::time::Duration;
+
+/// For how many seconds a call is connected at most: the system has sent four SYNs by then.
+const DIALING: u64 = 15;
 
 /// Serves partners and commands over the database, which stays open. Writes a line to `out` when it is ready, and one for each session.
 pub(super) fn run(rt: &HostRuntime, line: &Run<'_>, out: &mut impl Write) -> Result<(), Fault> {
@@ -53,16 +57,26 @@ fn run_over(
     let requests = requests.as_ref();
     let host = host.as_ref();
     let bench = Bench {
-        partners: &partners,
-        commands: &commands,
+        partners: Some(&partners),
+        commands: Some(&commands),
         requests,
-        host,
+        site: Site::Page(host),
+        places: u64::MAX,
         admission: admission_of(&line.entrance, &line.terms),
+        dialing: Duration::from_secs(DIALING),
         codes: codes.as_slice(),
         interval: Duration::from_secs(line.interval),
+        start: Start::Waiting,
+        counted: Counted::Jobs,
         jobs: line.jobs,
     };
-    let ended = reside(rt, &bench, station, life, out);
+    let ended = serve(
+        rt,
+        &bench,
+        station,
+        &mut Kept::new(life),
+        &mut SessionLines::new(out),
+    );
     let _ = place.remove(rt);
     ended
 }

@@ -1,0 +1,110 @@
+//! The trace of one session, whose octets are told in pieces.
+
+use crate::tracing::{Strand, Trace};
+use oftp_engine::End;
+use oftp_outcomes::Fault;
+use std::alloc::Global;
+use std::mem;
+
+/// Where the lines of a session go.
+#[derive(Drop)]
+pub enum Lines<'a> {
+    /// To a trace that other sessions have too.
+    Shared(&'a Trace<'a>),
+    /// To one of its own.
+    Own(Trace<'a>),
+}
+
+/// Who sent a piece.
+#[derive(Clone, Copy)]
+enum Sender {
+    Partner,
+    Station,
+}
+
+/// The trace of one session. It is told each piece once, in the order in which they came and went.
+#[derive(Drop)]
+pub struct SessionTrace<'a> {
+    alloc: Global,
+    lines: Lines<'a>,
+    heard: Strand,
+    said: Strand,
+    // The pieces that are told later. `None` once they are told at once.
+    held: Option<Vec<(Sender, Vec<u8>)>>,
+}
+
+impl<'a> SessionTrace<'a> {
+    /// A trace that holds its pieces until [`SessionTrace::begin`], so that the lines of sessions don't mix.
+    pub fn new(alloc: Global, lines: Lines<'a>) -> SessionTrace<'a> {
+        SessionTrace {
+            alloc,
+            lines,
+            heard: Strand::heard(alloc),
+            said: Strand::said(alloc),
+            held: Some(Vec::new(alloc)),
+        }
+    }
+
+    /// Appends what was held. From now on each piece is appended at once.
+    pub fn begin(&mut self) {
+        let Some(held) = mem::replace(&mut self.held, None) else {
+            return;
+        };
+        for (sender, piece) in held {
+            self.append(sender, piece.as_slice());
+        }
+    }
+
+    /// A piece of the partner was read.
+    pub fn heard(&mut self, piece: &[u8]) {
+        self.take(Sender::Partner, piece);
+    }
+
+    /// A piece was written to the partner.
+    pub fn said(&mut self, piece: &[u8]) {
+        self.take(Sender::Station, piece);
+    }
+
+    /// Appends the line for the end of the session, after all that was held.
+    pub fn end(&mut self, ended: &Result<End, Fault>) {
+        self.begin();
+        trace_in(&self.lines).tell_end(ended);
+    }
+
+    /// The lines that a trace of its own kept in memory; none of another one.
+    pub fn into_kept(self) -> Vec<u8> {
+        let SessionTrace { alloc, lines, .. } = self;
+        match lines {
+            Lines::Own(trace) => trace.into_kept(),
+            Lines::Shared(_) => Vec::new(alloc),
+        }
+    }
+
+    /// Holds or appends a piece. One that there is no memory for is lost.
+    fn take(&mut self, sender: Sender, piece: &[u8]) {
+        match &mut self.held {
+            Some(held) => {
+                if let Ok(piece) = Vec::from_slice(self.alloc, piece) {
+                    let _ = held.push((sender, piece));
+                }
+            }
+            None => self.append(sender, piece),
+        }
+    }
+
+    fn append(&mut self, sender: Sender, piece: &[u8]) {
+        let trace = trace_in(&self.lines);
+        match sender {
+            Sender::Partner => self.heard.tell(trace, piece),
+            Sender::Station => self.said.tell(trace, piece),
+        }
+    }
+}
+
+/// The trace to which the lines go.
+fn trace_in<'t, 'a>(lines: &'t Lines<'a>) -> &'t Trace<'a> {
+    match lines {
+        Lines::Shared(trace) => trace,
+        Lines::Own(trace) => trace,
+    }
+}

@@ -1,0 +1,121 @@
+//! The calls of the station: their addresses, and how they are connected.
+
+use crate::watch::Watch;
+use mio::net::TcpStream;
+use oftp_outcomes::Fault;
+use oftp_sockets::socket_fault;
+use std::io;
+use std::net::{SocketAddr, ToSocketAddrs};
+use std::os::fd::AsRawFd;
+
+/// How many addresses of one partner are tried, at most.
+const MOST_ADDRESSES: usize = 64;
+
+/// A call of a partner.
+#[derive(Drop)]
+pub(crate) struct Outgoing {
+    /// The number of the command that wants it; `None` for the clock.
+    pub(crate) asker: Option<u64>,
+    /// Whether that command wants a trace.
+    pub(crate) is_traced: bool,
+    /// The partner's host and port.
+    pub(crate) address: String,
+    // Their addresses once they are looked up, and how many of these were tried.
+    addresses: Vec<SocketAddr>,
+    tried: usize,
+}
+
+impl Outgoing {
+    /// A call at this address that isn't begun.
+    pub(crate) fn new(
+        rt: &HostRuntime,
+        asker: Option<u64>,
+        is_traced: bool,
+        address: String,
+    ) -> Outgoing {
+        Outgoing {
+            asker,
+            is_traced,
+            address,
+            addresses: Vec::new(rt.alloc()),
+            tried: 0,
+        }
+    }
+
+    /// Looks up the addresses.
+    ///
+    /// # Errors
+    /// There is none; [`Fault::MEMORY`].
+    pub(crate) fn resolve(&mut self, rt: &HostRuntime) -> Result<(), Fault> {
+        self.addresses = addresses_of(rt, self.address.as_str())?;
+        self.tried = 0;
+        if self.addresses.is_empty() {
+            Err(Fault::Socket)
+        } else {
+            Ok(())
+        }
+    }
+
+    /// Begins to connect to the next address that takes it.
+    ///
+    /// # Errors
+    /// None is left: the error of the last one, or else `fault`.
+    pub(crate) fn connect(
+        &mut self,
+        rt: &HostRuntime,
+        watch: &Watch,
+        id: u64,
+        fault: Fault,
+    ) -> Result<TcpStream, Fault> {
+        let mut fault = fault;
+        for _ in 0..MOST_ADDRESSES {
+            let Some(address) = self.addresses.get(self.tried) else {
+                break;
+            };
+            match connecting(rt, *address, watch, id) {
+                Ok(stream) => {
+                    self.tried = self.tried.saturating_add(1);
+                    return Ok(stream);
+                }
+                Err(error) => fault = socket_fault(&error),
+            }
+            self.tried = self.tried.saturating_add(1);
+        }
+        Err(fault)
+    }
+}
+
+/// The addresses of a host and port.
+fn addresses_of(rt: &HostRuntime, address: &str) -> Result<Vec<SocketAddr>, Fault> {
+    let mut addresses = Vec::new(rt.alloc());
+    let found = address
+        .to_socket_addrs(rt)
+        .map_err(|error| socket_fault(&error))?;
+    for address in found.take(MOST_ADDRESSES) {
+        addresses.push(address).map_err(|_| Fault::MEMORY)?;
+    }
+    Ok(addresses)
+}
+
+/// Begins to connect to an address.
+fn connecting(
+    rt: &HostRuntime,
+    address: SocketAddr,
+    watch: &Watch,
+    id: u64,
+) -> io::Result<TcpStream> {
+    let stream = TcpStream::connect(rt, address)?;
+    watch.add(id, stream.as_raw_fd())?;
+    Ok(stream)
+}
+
+/// Whether a stream is connected.
+///
+/// # Errors
+/// Why it can't be.
+pub(crate) fn is_connected(stream: &TcpStream) -> io::Result<bool> {
+    if let Some(error) = stream.take_error()? {
+        return Err(error);
+    }
+    Ok(stream.peer_addr().is_ok())
+}

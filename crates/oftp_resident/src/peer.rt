@@ -1,0 +1,277 @@
+//! A connection of the station: its socket, what it has sent, what is to go to it, and what it is.
+
+use crate::asked::Asked;
+use crate::dialing::Outgoing;
+use crate::stream::Stream;
+use oftp_engine::{End, RunFault};
+use oftp_files::SessionTrace;
+use oftp_life::Opening;
+use oftp_outcomes::Fault;
+use oftp_schedule::connection::Signal;
+use oftp_sockets::Trouble;
+use std::alloc::Global;
+use std::io::ErrorKind;
+use std::mem;
+
+/// How many octets are read at once.
+pub(crate) const PIECE: usize = 4_096;
+
+/// How many times one connection is written to before the others get their turn.
+const MOST_WRITES: u32 = 16;
+
+/// What is read of a connection.
+#[derive(Clone, Copy, PartialEq, Eq)]
+pub(crate) enum Reading {
+    /// The octets of a partner that isn't let in yet.
+    Opening,
+    /// The next piece of a session.
+    Session,
+    /// A command's request.
+    Command,
+    /// A request over HTTP.
+    Request,
+    /// The end of a copy of the database's files.
+    Copy,
+    /// What still comes, which is dropped.
+    Rest,
+    /// Whether a call is connected.
+    Dial,
+    /// Nothing.
+    Nothing,
+}
+
+/// What a connection is.
+#[derive(Drop)]
+pub(crate) enum Task<'a> {
+    /// A partner who called, with its opening until its session begins.
+    Caller(Option<Opening<'a>>),
+    /// A partner who is called.
+    Call(Outgoing),
+    /// A command, with its request once that is whole.
+    Command(Option<Asked>),
+    /// A request over HTTP.
+    Visitor,
+}
+
+/// What the system last reported of a socket.
+#[derive(Clone, Copy)]
+pub(crate) struct Readiness {
+    pub(crate) is_readable: bool,
+    pub(crate) is_writable: bool,
+    /// Nothing can be sent to it any more.
+    pub(crate) is_gone: bool,
+}
+
+/// What reading a socket gave.
+#[derive(Clone, Copy)]
+pub(crate) enum Came {
+    /// So many octets.
+    Octets(usize),
+    /// Nothing yet.
+    Nothing,
+    /// The end.
+    End,
+    /// An error.
+    Lost,
+}
+
+/// A connection.
+#[derive(Drop)]
+pub(crate) struct Peer<'a> {
+    pub(crate) id: u64,
+    pub(crate) task: Task<'a>,
+    pub(crate) stream: Stream,
+    pub(crate) reading: Reading,
+    pub(crate) readiness: Readiness,
+    /// What it has sent and is still to be taken.
+    pub(crate) heard: Vec<u8>,
+    // What is to go to it, of which so many octets went.
+    out: Vec<u8>,
+    sent: usize,
+    // Whether the station's direction is ended.
+    is_ended: bool,
+    /// The answer to its request, once that is made.
+    pub(crate) answer: Option<Vec<u8>>,
+    /// The partner's code, once it is known.
+    pub(crate) code: Option<String>,
+    /// How its session ended, once it did.
+    pub(crate) ended: Option<Result<End, Trouble>>,
+    pub(crate) trace: Option<SessionTrace<'a>>,
+}
+
+impl<'a> Peer<'a> {
+    /// A connection that has sent nothing.
+    pub(crate) fn new(
+        alloc: Global,
+        id: u64,
+        task: Task<'a>,
+        stream: Stream,
+        reading: Reading,
+    ) -> Peer<'a> {
+        Peer {
+            id,
+            task,
+            stream,
+            reading,
+            readiness: Readiness {
+                is_readable: true,
+                is_writable: true,
+                is_gone: false,
+            },
+            heard: Vec::new(alloc),
+            out: Vec::new(alloc),
+            sent: 0,
+            is_ended: false,
+            answer: None,
+            code: None,
+            ended: None,
+            trace: None,
+        }
+    }
+
+    /// Notes how its session ended, unless that was noted before.
+    pub(crate) fn note(&mut self, ended: Result<End, Trouble>) {
+        if self.ended.is_none() {
+            self.ended = Some(ended);
+        }
+    }
+
+    /// How many octets are to go to it.
+    pub(crate) fn left(&self) -> u64 {
+        self.out.len().saturating_sub(self.sent) as u64
+    }
+
+    /// Lets octets go to it after those that are to go already.
+    ///
+    /// # Errors
+    /// Out of memory. None of them goes then.
+    pub(crate) fn say(&mut self, octets: Vec<u8>) -> Result<(), Fault> {
+        if self.left() == 0 {
+            self.out = octets;
+            self.sent = 0;
+            return Ok(());
+        }
+        self.out
+            .extend_from_slice(octets.as_slice())
+            .map_err(|_| Fault::MEMORY)
+    }
+
+    /// Whether something can be read of it that is to be read, or sent to it.
+    pub(crate) fn is_ready(&self) -> bool {
+        self.is_ready_to_read() || self.readiness.is_writable && self.left() > 0
+    }
+
+    /// Whether something can be read of it that is to be read.
+    pub(crate) fn is_ready_to_read(&self) -> bool {
+        self.readiness.is_readable && self.is_read()
+    }
+
+    /// Whether its octets are read now.
+    fn is_read(&self) -> bool {
+        match self.reading {
+            Reading::Nothing | Reading::Dial => false,
+            Reading::Session => self.heard.is_empty(),
+            _ => true,
+        }
+    }
+
+    /// Reads a piece.
+    pub(crate) fn read(&mut self, piece: &mut [u8]) -> Came {
+        match self.stream.read(piece) {
+            Ok(count) if count > 0 => Came::Octets(count),
+            Ok(_) => Came::End,
+            Err(error) => match error.kind() {
+                ErrorKind::WouldBlock => {
+                    self.readiness.is_readable = false;
+                    Came::Nothing
+                }
+                ErrorKind::Interrupted => Came::Nothing,
+                _ => Came::Lost,
+            },
+        }
+    }
+
+    /// Sends what can be sent. Returns what is to be told of that.
+    pub(crate) fn send(&mut self) -> Option<Signal> {
+        let before = self.left();
+        if before == 0 || !self.readiness.is_writable {
+            return None;
+        }
+        for _ in 0..MOST_WRITES {
+            if self.left() == 0 || !self.readiness.is_writable {
+                break;
+            }
+            if !self.write() {
+                self.note(Err(Trouble::OfJob(Fault::Run(RunFault::Write))));
+                return Some(Signal::Lost);
+            }
+        }
+        self.drop_sent();
+        let left = self.left();
+        if left == before {
+            None
+        } else {
+            Some(Signal::Went(left))
+        }
+    }
+
+    /// Writes once. Returns whether the connection stands.
+    fn write(&mut self) -> bool {
+        let Some(rest) = self.out.get(self.sent..) else {
+            return true;
+        };
+        match self.stream.write(rest) {
+            Ok(count) if count > 0 => {
+                if let (Some(trace), Some(said)) = (&mut self.trace, rest.get(..count)) {
+                    trace.said(said);
+                }
+                self.sent = self.sent.saturating_add(count);
+                true
+            }
+            Err(error) if error.kind() == ErrorKind::WouldBlock => {
+                self.readiness.is_writable = false;
+                true
+            }
+            Err(error) => error.kind() == ErrorKind::Interrupted,
+            Ok(_) => false,
+        }
+    }
+
+    /// Forgets the octets that went, once they are as many as those that are left.
+    fn drop_sent(&mut self) {
+        let left = self.out.len().saturating_sub(self.sent);
+        if left == 0 {
+            self.out.clear();
+            self.sent = 0;
+        } else if self.sent >= left {
+            let _ = self.out.drain(..self.sent);
+            self.sent = 0;
+        }
+    }
+
+    /// Ends the station's direction once all is sent, if only the rest of what comes is read.
+    pub(crate) fn end_writing(&mut self) {
+        if self.reading == Reading::Rest && self.left() == 0 && !self.is_ended {
+            self.is_ended = true;
+            let _ = self.stream.end_writing();
+        }
+    }
+
+    /// Lets go of its socket and of all that belongs to that. What it is stays.
+    pub(crate) fn hang_up(&mut self, alloc: Global) {
+        self.stream = Stream::Absent;
+        self.reading = Reading::Nothing;
+        self.readiness.is_gone = false;
+        self.heard = Vec::new(alloc);
+        self.out = Vec::new(alloc);
+        self.sent = 0;
+        self.is_ended = false;
+        self.ended = None;
+        self.trace = None;
+    }
+
+    /// Takes what it has sent.
+    pub(crate) fn take_heard(&mut self, alloc: Global) -> Vec<u8> {
+        mem::replace(&mut self.heard, Vec::new(alloc))
+    }
+}

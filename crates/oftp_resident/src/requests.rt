@@ -1,0 +1,275 @@
+//! The requests of commands and over HTTP, and their answers.
+
+use crate::answers::Answer;
+use crate::asked::{Asked, Made};
+use crate::heads::reply_of_any;
+use crate::home::Home;
+use crate::peer::{Peer, Reading, Task};
+use crate::replies::{Answered, STOPPING, reply_to};
+use crate::service::{Shell, Site, peer_in};
+use oftp_channel::{LONGEST_PIECE, Outlet, write_piece};
+use oftp_engine::{Port, RunFault};
+use oftp_life::Life;
+use oftp_listing::{ListFault, OfficeState};
+use oftp_outcomes::{DONE, Fault};
+use oftp_register::Office;
+use oftp_schedule::connection::{Reason, Signal};
+use oftp_sockets::{Keeper, Term, Trouble};
+use std::alloc::Global;
+use std::net::IpAddr;
+
+/// The message that lets a command copy the database's files.
+const COPY: &[u8] = b"copy";
+
+impl Shell<'_> {
+    /// Does a look-up, and tells the length of its answer.
+    pub(crate) fn look<O: Office + Drop>(
+        &mut self,
+        id: u64,
+        home: &mut Home<'_, O>,
+        keeper: &mut impl Keeper<Life<O>>,
+    ) -> Result<(), Fault> {
+        let rt = self.rt;
+        let alloc = rt.alloc();
+        let site = self.bench.site;
+        let Some(peer) = peer_in(&mut self.peers, id) else {
+            return self.take_answer(id, nothing(alloc));
+        };
+        if let Some(made) = peer.look_nowhere(alloc, site) {
+            return self.take_answer(id, made);
+        }
+        if let Err(trouble) = home.open(rt, keeper) {
+            peer.note(Err(trouble));
+        }
+        let made = peer.look_at(alloc, site, home);
+        self.take_answer(id, within(keeper.term(), made))
+    }
+
+    /// Makes a change, and tells the length of its answer.
+    pub(crate) fn change<O: Office + Drop>(
+        &mut self,
+        id: u64,
+        home: &mut Home<'_, O>,
+        keeper: &mut impl Keeper<Life<O>>,
+    ) -> Result<(), Fault> {
+        let rt = self.rt;
+        let alloc = rt.alloc();
+        let opened = home.open(rt, keeper);
+        let made = match peer_in(&mut self.peers, id) {
+            Some(peer) => peer.change(alloc, home),
+            None => nothing(alloc),
+        };
+        self.take_answer(id, made)?;
+        self.settle_opening(opened)
+    }
+
+    /// Takes in whether a life could be had.
+    pub(crate) fn settle_opening(&mut self, opened: Result<(), Trouble>) -> Result<(), Fault> {
+        match opened {
+            Ok(()) | Err(Trouble::OfJob(_)) => Ok(()),
+            Err(Trouble::OfService(fault)) => self.fail(fault),
+        }
+    }
+
+    /// Keeps an answer, and tells its length. The time is told before, so that the schedule knows how long a look-up took.
+    fn take_answer(&mut self, id: u64, made: Made) -> Result<(), Fault> {
+        let Made { octets, office } = made;
+        let length = octets.len() as u64;
+        if let Some(peer) = peer_in(&mut self.peers, id) {
+            peer.answer = Some(octets);
+        }
+        self.tell_time()?;
+        self.tell(id, Signal::Done(length))?;
+        match office {
+            OfficeState::Working => Ok(()),
+            OfficeState::Failed => self.fail(Fault::Run(RunFault::Office)),
+        }
+    }
+
+    /// Sends the answer that was made.
+    pub(crate) fn answer(&mut self, id: u64) -> Result<(), Fault> {
+        let alloc = self.rt.alloc();
+        let Some(peer) = peer_in(&mut self.peers, id) else {
+            return Ok(());
+        };
+        let answer = match peer.answer.take() {
+            Some(answer) => answer,
+            None => ended(alloc, peer.outcome()),
+        };
+        self.send_answer(id, answer)
+    }
+
+    /// Answers that what was asked for isn't done.
+    pub(crate) fn decline(&mut self, id: u64, reason: Reason) -> Result<(), Fault> {
+        let alloc = self.rt.alloc();
+        let Some(peer) = peer_in(&mut self.peers, id) else {
+            return Ok(());
+        };
+        let answer = match (&peer.task, reason) {
+            (Task::Visitor, _) => Vec::from_slice(alloc, STOPPING).unwrap_or(Vec::new(alloc)),
+            (_, Reason::TimedOut) => ended(alloc, Err(Fault::File)),
+            _ => ended(alloc, Err(Fault::Socket)),
+        };
+        self.send_answer(id, answer)
+    }
+
+    /// Lets an answer go out. An empty one, for which there was no memory, has gone out at once.
+    fn send_answer(&mut self, id: u64, answer: Vec<u8>) -> Result<(), Fault> {
+        let Some(peer) = peer_in(&mut self.peers, id) else {
+            return Ok(());
+        };
+        peer.reading = Reading::Nothing;
+        let is_said = peer.say(answer).is_ok();
+        if is_said && peer.left() > 0 {
+            return Ok(());
+        }
+        self.tell(id, Signal::Went(0))
+    }
+
+    /// Lets a command copy the database's files.
+    pub(crate) fn let_copy(&mut self, id: u64) -> Result<(), Fault> {
+        let mut port = Port::new(Vec::new(self.rt.alloc()), 0);
+        let is_told = COPY.len() <= LONGEST_PIECE && write_piece(&mut port, Outlet::Content, COPY);
+        let Some(peer) = peer_in(&mut self.peers, id) else {
+            return Ok(());
+        };
+        peer.reading = Reading::Copy;
+        if is_told && peer.say(port.into_inner()).is_ok() {
+            Ok(())
+        } else {
+            self.tell(id, Signal::Lost)
+        }
+    }
+
+    /// Lets the last octets go out, and drops what comes.
+    pub(crate) fn part(&mut self, id: u64) {
+        if let Some(peer) = peer_in(&mut self.peers, id) {
+            peer.reading = Reading::Rest;
+            peer.end_writing();
+        }
+    }
+}
+
+impl Peer<'_> {
+    /// What is answered whatever the register has, if it is such a request. A site with the page looks further.
+    fn look_nowhere(&self, alloc: Global, site: Site<'_>) -> Option<Made> {
+        match (&self.task, site) {
+            (Task::Visitor, Site::Register) => match reply_of_any(alloc, self.heard.as_slice()) {
+                Ok(Some(reply)) => Some(Made {
+                    octets: reply.into_octets(),
+                    office: OfficeState::Working,
+                }),
+                _ => None,
+            },
+            _ => None,
+        }
+    }
+
+    /// Makes the change that it asks for, in a life that is here.
+    fn change<O: Office + Drop>(&self, alloc: Global, home: &mut Home<'_, O>) -> Made {
+        match home {
+            Home::Idle(life) => match &self.task {
+                Task::Command(Some(asked)) => asked.change(alloc, life),
+                _ => nothing(alloc),
+            },
+            _ => nothing(alloc),
+        }
+    }
+
+    /// Looks up what it asks for, in a life that is here.
+    fn look_at<O: Office + Drop>(
+        &mut self,
+        alloc: Global,
+        site: Site<'_>,
+        home: &mut Home<'_, O>,
+    ) -> Made {
+        match &self.task {
+            Task::Command(Some(asked)) => look_in(alloc, asked, home),
+            Task::Visitor => {
+                let address = self.stream.called_address();
+                let reply = reply_in(alloc, site, address, self.heard.as_slice(), home);
+                self.take_reply(alloc, reply)
+            }
+            _ => nothing(alloc),
+        }
+    }
+
+    /// The answer with a reply. The error of one that couldn't be made is noted.
+    fn take_reply(&mut self, alloc: Global, reply: Result<Answered, ListFault>) -> Made {
+        match reply {
+            Ok(Answered { octets, office }) => Made { octets, office },
+            Err(ListFault::Office) => {
+                self.note(Err(Trouble::OfService(Fault::Run(RunFault::Office))));
+                Made {
+                    octets: Vec::new(alloc),
+                    office: OfficeState::Failed,
+                }
+            }
+            Err(_) => {
+                self.note(Err(Trouble::OfService(Fault::MEMORY)));
+                nothing(alloc)
+            }
+        }
+    }
+
+    /// The error of a request over HTTP that has no answer for it.
+    pub(crate) fn trouble(&self) -> Option<Trouble> {
+        match (&self.task, self.ended) {
+            (Task::Visitor, Some(Err(trouble))) => Some(trouble),
+            _ => None,
+        }
+    }
+
+    /// The outcome of what needed no answer of the office: a copy that is done, or a call that was never made.
+    fn outcome(&self) -> Result<u8, Fault> {
+        match self.reading {
+            Reading::Copy => Ok(DONE),
+            _ => Err(Fault::Socket),
+        }
+    }
+}
+
+/// Looks up what a command asks for, in a life that is here.
+fn look_in<O: Office + Drop>(alloc: Global, asked: &Asked, home: &mut Home<'_, O>) -> Made {
+    match home {
+        Home::Idle(life) => asked.look(alloc, life),
+        Home::Talking(session) => asked.look(alloc, session),
+        Home::Away => nothing(alloc),
+    }
+}
+
+/// The reply to a request over HTTP, of a life that is here.
+fn reply_in<O: Office + Drop>(
+    alloc: Global,
+    site: Site<'_>,
+    address: Option<IpAddr>,
+    request: &[u8],
+    home: &mut Home<'_, O>,
+) -> Result<Answered, ListFault> {
+    match home {
+        Home::Idle(life) => reply_to(alloc, life, site, address, request),
+        Home::Talking(session) => reply_to(alloc, session, site, address, request),
+        Home::Away => Err(ListFault::Memory),
+    }
+}
+
+/// An answer, where an office lasts as long: what fails with a job is no matter of the service.
+fn within(term: Term, made: Made) -> Made {
+    match term {
+        Term::OfService => made,
+        Term::OfJob => made.of_job(),
+    }
+}
+
+/// The octets of an answer of nothing but its end; none if there is no memory for them.
+fn ended(alloc: Global, outcome: Result<u8, Fault>) -> Vec<u8> {
+    Answer::new(alloc).ended(outcome).unwrap_or(Vec::new(alloc))
+}
+
+/// No answer: the connection is closed.
+fn nothing(alloc: Global) -> Made {
+    Made {
+        octets: Vec::new(alloc),
+        office: OfficeState::Working,
+    }
+}

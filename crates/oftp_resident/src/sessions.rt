@@ -1,0 +1,305 @@
+//! The sessions of a service, step by step, and their ends.
+
+use crate::answers::answer_of_call;
+use crate::home::Home;
+use crate::peer::{Came, PIECE, Peer, Reading, Task};
+use crate::service::{Books, Shell, peer_in};
+use crate::session_lines::plain;
+use oftp_engine::{End, Role, RunFault};
+use oftp_life::{Life, Stage};
+use oftp_outcomes::Fault;
+use oftp_partners::Book;
+use oftp_register::Office;
+use oftp_schedule::connection::{self as schedule, Input, Reason, Signal, Step};
+use oftp_session::Ending;
+use oftp_sockets::{Keeper, Reporter, Trouble, Way};
+use std::alloc::Global;
+
+impl<'a> Shell<'a> {
+    /// Begins a session with a partner, and tells what its first step leaves.
+    pub(crate) fn begin<'b, O: Office + Drop>(
+        &mut self,
+        id: u64,
+        home: &mut Home<'b, O>,
+        books: Books<'b>,
+        keeper: &mut impl Keeper<Life<O>>,
+    ) -> Result<(), Fault>
+    where
+        'a: 'b,
+    {
+        let rt = self.rt;
+        if let Some(peer) = peer_in(&mut self.peers, id) {
+            if let Some(trace) = &mut peer.trace {
+                trace.begin();
+            }
+            peer.reading = Reading::Session;
+            match home.open(rt, keeper) {
+                Ok(()) => peer.begin(rt.alloc(), home, book_for(id, books)),
+                Err(trouble) => peer.note(Err(trouble)),
+            }
+        }
+        self.step(id, home, 0)
+    }
+
+    /// Lets the session hear the piece that was read, and tells what that step leaves.
+    pub(crate) fn hear<O: Office + Drop>(
+        &mut self,
+        id: u64,
+        home: &mut Home<'_, O>,
+    ) -> Result<(), Fault> {
+        let alloc = self.rt.alloc();
+        let mut count = 0;
+        if let (Some(peer), Some(session)) = (peer_in(&mut self.peers, id), home.session()) {
+            let piece = peer.take_heard(alloc);
+            count = u32::try_from(piece.len()).unwrap_or(u32::MAX);
+            let heard = session.hear(piece.as_slice());
+            if let (Err(fault), Stage::Waits) = (heard, session.stage()) {
+                peer.note(Err(trouble_of(fault)));
+            }
+        }
+        self.step(id, home, count)
+    }
+
+    /// Sends what a session has said, and tells how it stands after a step that heard so many octets.
+    fn step<O: Office + Drop>(
+        &mut self,
+        id: u64,
+        home: &mut Home<'_, O>,
+        heard: u32,
+    ) -> Result<(), Fault> {
+        let alloc = self.rt.alloc();
+        let Some(peer) = peer_in(&mut self.peers, id) else {
+            home.end();
+            return self.tell(id, Signal::Ended(schedule::End::Other));
+        };
+        let stage = peer.take_said(alloc, home);
+        // What fails there is noted.
+        let _ = peer.send();
+        let waits = is_waiting(&stage);
+        if waits && peer.ended.is_none() {
+            let step = peer.step(heard);
+            return self.tell(id, Signal::Waits(step));
+        }
+        peer.note(result_of(&stage));
+        home.end();
+        self.tell(id, Signal::Ended(end_of(&stage)))
+    }
+
+    /// Reports the end of a session that is over for this reason, unless it ended by itself.
+    pub(crate) fn print(
+        &mut self,
+        id: u64,
+        reason: Reason,
+        reporter: &mut impl Reporter,
+    ) -> Result<(), Fault> {
+        let told = match peer_in(&mut self.peers, id) {
+            Some(peer) => peer.report(reason, reporter),
+            None => reporter.report(None, Way::In, ended_for(reason)),
+        };
+        self.answer_asker(id);
+        match told {
+            Ok(()) => Ok(()),
+            Err(fault) => self.fail(fault),
+        }
+    }
+
+    /// Makes the answer of the command that wanted a call, which is over.
+    fn answer_asker(&mut self, id: u64) {
+        let alloc = self.rt.alloc();
+        let Some(peer) = peer_in(&mut self.peers, id) else {
+            return;
+        };
+        let Some(asker) = peer.asker() else {
+            return;
+        };
+        let Some(ended) = peer.ended else {
+            return;
+        };
+        let trace = match peer.trace.take() {
+            Some(trace) => trace.into_kept(),
+            None => Vec::new(alloc),
+        };
+        if let Some(command) = peer_in(&mut self.peers, asker) {
+            let answer = answer_of_call(alloc, trace.as_slice(), &plain(&ended));
+            command.answer = Some(answer.unwrap_or(Vec::new(alloc)));
+        }
+    }
+}
+
+/// The book of the session of a connection.
+fn book_for<'b>(id: u64, books: Books<'b>) -> &'b Book {
+    match books.lent {
+        Some((call, book)) if call == id => book,
+        _ => books.own,
+    }
+}
+
+impl<'a> Peer<'a> {
+    /// Begins its session.
+    fn begin<'b, O: Office + Drop>(&mut self, alloc: Global, home: &mut Home<'b, O>, book: &'b Book)
+    where
+        'a: 'b,
+    {
+        match &mut self.task {
+            Task::Caller(opening) => {
+                if let Some(opening) = opening.take()
+                    && let Ok(guest) = opening.into_guest()
+                {
+                    home.admit(alloc, guest);
+                }
+            }
+            _ => {
+                if let Some(code) = &self.code
+                    && let Some(partner) = book.partner(code.as_bytes())
+                {
+                    home.begin(alloc, book, Role::Initiator(partner));
+                }
+            }
+        }
+    }
+
+    /// Takes what the session has said. Returns how it stands; `None` if there is none.
+    fn take_said<O: Office + Drop>(
+        &mut self,
+        alloc: Global,
+        home: &mut Home<'_, O>,
+    ) -> Option<Stage> {
+        let session = home.session()?;
+        let said = session.take_out(alloc);
+        if let Err(fault) = self.say(said) {
+            self.note(Err(Trouble::OfService(fault)));
+        }
+        Some(session.stage())
+    }
+
+    /// What a step leaves that heard so many octets.
+    fn step(&mut self, heard: u32) -> Step {
+        Step {
+            heard,
+            input: self.input(),
+            backlog: self.left(),
+        }
+    }
+
+    /// What there is to hear of it: the next piece is read, if there is one.
+    fn input(&mut self) -> Input {
+        if !self.readiness.is_readable {
+            return Input::Awaited;
+        }
+        let mut piece = [0; PIECE];
+        match self.read(&mut piece) {
+            Came::Octets(count) => self.keep(piece.get(..count).unwrap_or(&[])),
+            Came::Nothing => Input::Awaited,
+            Came::End => {
+                self.note(Ok(End::Input));
+                Input::Gone
+            }
+            Came::Lost => {
+                self.note(Err(trouble_of(RunFault::Read)));
+                Input::Gone
+            }
+        }
+    }
+
+    /// Keeps a piece until it is heard.
+    fn keep(&mut self, piece: &[u8]) -> Input {
+        if let Some(trace) = &mut self.trace {
+            trace.heard(piece);
+        }
+        match self.heard.extend_from_slice(piece) {
+            Ok(()) => Input::Here,
+            Err(_) => {
+                self.note(Err(trouble_of(RunFault::Memory)));
+                Input::Gone
+            }
+        }
+    }
+
+    /// Notes that it ended for this reason, unless it ended before.
+    fn settle_end(&mut self, reason: Reason) {
+        if self.ended.is_none() {
+            self.ended = Some(ended_for(reason));
+        }
+    }
+
+    /// Reports its end, and appends that to its trace.
+    fn report(&mut self, reason: Reason, reporter: &mut impl Reporter) -> Result<(), Fault> {
+        self.settle_end(reason);
+        let Some(ended) = self.ended else {
+            return Ok(());
+        };
+        if let Some(trace) = &mut self.trace {
+            trace.end(&plain(&ended));
+        }
+        let code = match &self.code {
+            Some(code) => Some(code.as_str()),
+            None => None,
+        };
+        reporter.report(code, self.way(), ended)
+    }
+
+    /// Which side called.
+    fn way(&self) -> Way {
+        match &self.task {
+            Task::Call(_) => Way::Out,
+            _ => Way::In,
+        }
+    }
+
+    /// The command that wanted this call.
+    fn asker(&self) -> Option<u64> {
+        match &self.task {
+            Task::Call(call) => call.asker,
+            _ => None,
+        }
+    }
+}
+
+/// An error of a session: of that session alone, or of the service.
+fn trouble_of(fault: RunFault) -> Trouble {
+    match fault {
+        RunFault::Read | RunFault::Write => Trouble::OfJob(Fault::Run(fault)),
+        RunFault::Office | RunFault::Memory => Trouble::OfService(Fault::Run(fault)),
+    }
+}
+
+/// How a session ended that stands like this.
+fn result_of(stage: &Option<Stage>) -> Result<End, Trouble> {
+    match stage {
+        Some(Stage::Ended(ending)) => Ok(End::from(*ending)),
+        // What a session says is kept in memory.
+        Some(Stage::Failed(RunFault::Write)) => Err(trouble_of(RunFault::Memory)),
+        Some(Stage::Failed(fault)) => Err(trouble_of(*fault)),
+        Some(Stage::Waits) | None => Err(trouble_of(RunFault::Write)),
+        Some(Stage::Lost) => Err(trouble_of(RunFault::Office)),
+    }
+}
+
+/// Whether a session waits for its partner.
+fn is_waiting(stage: &Option<Stage>) -> bool {
+    matches!(stage, Some(Stage::Waits))
+}
+
+/// Whether its last words are still to go out.
+fn end_of(stage: &Option<Stage>) -> schedule::End {
+    match stage {
+        Some(Stage::Ended(Ending::Own(_)) | Stage::Failed(RunFault::Office) | Stage::Lost) => {
+            schedule::End::Own
+        }
+        _ => schedule::End::Other,
+    }
+}
+
+/// How a session ended that was cut off for this reason, or was never begun.
+fn ended_for(reason: Reason) -> Result<End, Trouble> {
+    match reason {
+        Reason::Quit | Reason::Finished => Ok(End::Input),
+        Reason::Stalled => Err(trouble_of(RunFault::Write)),
+        Reason::Unreached | Reason::Orphaned => Err(Trouble::OfJob(Fault::Socket)),
+        // A session that goes on is cut off only by a failing office.
+        Reason::Stopping => Err(trouble_of(RunFault::Office)),
+        Reason::Evicted | Reason::Invalid | Reason::TimedOut | Reason::Vanished => {
+            Err(trouble_of(RunFault::Read))
+        }
+    }
+}
