@@ -191,10 +191,10 @@ def door_that_fails_within_a_session(room, library):
         caller.sendall(session.steps[1][1])
         opened = b"".join(octets for side, octets in session.steps[:3] if side == "out")
         expect(first_of(caller, len(opened)), opened, "the station sent")
-        with service.asked(BOOK.read_bytes(), b"", "release", "--db=d", "--book=b", "1") as waiting:
+        with service.asked("release", "1", book=BOOK.read_bytes()) as waiting:
             begun.touch()
             with service.client():
-                expect(answer_to(waiting), ({2: SOCKET.encode()}, 1), "the answer to a command that waits")
+                expect(answer_to(waiting), (b"", SOCKET.strip()), "the answer to a command that waits")
                 caller.sendall(session.joined("in")[len(session.steps[1][1]) :])
                 expect(opened + rest_of(caller), session.joined("out"), "the station sent in all")
                 expect(service.line() + "\n", f"session {CARMAKER} in: {session.end[1]}", "the line")

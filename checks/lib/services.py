@@ -4,11 +4,11 @@ import collections
 import itertools
 import os
 import socket
-import struct
 import subprocess
 import time
 from pathlib import Path
 
+from channel import answer_in, request_of
 from program import PROGRAM
 from ready import ready_to_read
 from row_files import ROWS
@@ -181,12 +181,11 @@ class Resident(Service):
             client.connect(path)
         return client
 
-    def asked(self, book, content, *words):
+    def asked(self, *words, book=b"", content=b""):
         """A connection through which a command has asked, by the octets of its book and of its file."""
         client = self.client()
         expect(client.recv(1), READY, "the first octet to a command")
-        parts = [book, content, *(word.encode() for word in words)]
-        client.sendall(struct.pack(">I", len(parts)) + b"".join(struct.pack(">I", len(part)) + part for part in parts))
+        client.sendall(request_of(*words, book=book, content=content))
         return client
 
 
@@ -213,10 +212,5 @@ def rest_of(connection):
 
 
 def answer_to(client):
-    """The answer to a command: what goes to each outlet, and the exit status, which is None where the answer is cut off."""
-    octets, outlets = rest_of(client), {}
-    while octets[:1] not in (b"", b"\0"):
-        outlet, size = struct.unpack(">BI", octets[:5])
-        outlets[outlet] = outlets.get(outlet, b"") + octets[5 : 5 + size]
-        octets = octets[5 + size :]
-    return outlets, octets[1] if len(octets) == 2 else None
+    """The answer to a command: its pieces together, and how it ends, which is None where the answer is cut off."""
+    return answer_in(rest_of(client))

@@ -97,7 +97,9 @@ def verified():
 
 
 MINUTES = verified()
-MEASURED = [f"oftp_{it}" for it in ("register", "tables", "session", "store", "engine", "durable")]
+# Those that docs/PROMISES.md names as a command that verifies a promise.
+NAMED = set(re.findall(r"`rt ci (oftp_\w+)`", (ROOT / "docs/PROMISES.md").read_text(encoding="utf-8")))
+MEASURED = {it: minutes for it, minutes in MINUTES.items() if it in NAMED}
 
 N = rf"([\d,]+|{'|'.join(WORDS)})"
 BOUNDS = [
@@ -145,8 +147,8 @@ BOUNDS = [
     ("docs/PROMISES.md", rf"the contracts of {N} calls of crates/oftp_durable", (DURABLE,)),
     ("docs/CONTRIBUTING.md", rf"three of its {N} clauses", (TAKE,)),
     ("docs/PROMISES.md", rf"a frame of more than {N} octets is refused", (LONGEST_FRAME,)),
-    ("docs/PROMISES.md", rf"named here {N} to {N} minutes of a processor", (MINUTES["oftp_register"], MINUTES["oftp_durable"])),
-    *(("docs/PERFORMANCE.md", rf"\b{N}\s+for {crate}\b", (MINUTES[crate],)) for crate in MEASURED),
+    ("docs/PROMISES.md", rf"named here {N} to {N} minutes of a processor", (min(MEASURED.values()), max(MEASURED.values()))),
+    *(("docs/PERFORMANCE.md", rf"\b{N}\s+for {crate}\b", (minutes,)) for crate, minutes in MEASURED.items()),
 ]
 
 

@@ -11,10 +11,11 @@ below README's heading "A day .." and below "The first day" of docs/OPERATING.md
 free ports: what follows a `$` prints the lines below it. Without stunnel the first day ends before it. README's three lines for a service
 are typed too, in a folder that takes the place of /usr/local and /etc, without systemd. So are the change of the year of docs/OPERATING.md,
 with two stations between which something is open at first, and its restore. Each folder that a unit of examples/service needs is made
-there, and its book leads to the tunnel. Each speed of README.md stands in docs/PERFORMANCE.md. The definitions that docs/PROMISES.md quotes
-are in the crates, and each promise there is verified by `rt ci` of a crate that there is, or by the gate. If `rt` is installed, the
-documents name its logic. With `--verify`, what docs/PROMISES.md shows of `rt ci` is typed too, at the top of the repository, and ends as
-shown. That is a proof of a small crate: 21 seconds, or 3 where it has passed before. The last line is `N passed, M failed`.
+there, what reads a service's database is given as its user, and the book for a service leads to the tunnel. Each speed of README.md stands
+in docs/PERFORMANCE.md. The definitions that docs/PROMISES.md quotes are in the crates, and each promise there is verified by `rt ci` of a
+crate that there is, or by the gate. If `rt` is installed, the documents name its logic. With `--verify`, what docs/PROMISES.md shows of
+`rt ci` is typed too, at the top of the repository, and ends as shown. That is a proof of a small crate: 21 seconds, or 3 where it has passed
+before. The last line is `N passed, M failed`.
 """
 
 import argparse
@@ -356,6 +357,14 @@ def folders_of_units_are_made():
     expect([line for line in users if " --shell /usr/sbin/nologin " not in line], [], "users that can log in")
 
 
+def database_is_read_as_its_user():
+    """A command of docs/OPERATING.md that reads a service's database is its user's, who alone may read it. Those of the first day read others."""
+    text = OPERATING.read_text(encoding="utf-8").replace(part_of(OPERATING, "The first day"), "")
+    told = re.findall(r"^(?:    |\| `)((?:sudo -u oftp )?(?:oftp_station|sqlite3) .*)$", text, re.M)
+    expect(len(told) > 8, True, "docs/OPERATING.md has commands that read a database")
+    expect([line for line in told if not line.startswith("sudo -u oftp ")], [], "commands of another user than the database's")
+
+
 def book_of_service_leads_to_tunnel():
     """The book for a service is accepted, has the largest buffer and credit, and calls no station but through the tunnels of stunnel.conf."""
     path = SERVICE / "book.toml"
@@ -533,7 +542,7 @@ def verification_ends_as_shown():
 CASES = [
     *(commands_are_told, options_are_told, version_is_told, crates_are_told, reasons_are_told, keys_are_told, columns_are_told),
     *(day_goes_as_shown, first_day_goes_as_shown, example_prints_what_is_shown, service_is_installed_as_shown),
-    *(folders_of_units_are_made, book_of_service_leads_to_tunnel, year_ends_as_shown, restore_is_tried_as_shown, kit_is_told),
+    *(folders_of_units_are_made, database_is_read_as_its_user, book_of_service_leads_to_tunnel, year_ends_as_shown, restore_is_tried_as_shown, kit_is_told),
     *(picture_is_in_order, definitions_are_quoted, speeds_are_measured, promises_are_verified),
 ]
 

@@ -627,7 +627,7 @@ class ResidentLife(Life):
         whys = []
         for register in reversed(registers):
             lines = [order.line(register) for order, _ in self.waiting]
-            wanted = [({1: line.encode()}, status) for line, status in lines]
+            wanted = [(b"", line.strip()) for line, _ in lines]
             why = f"orders are answered {answers}, and not {wanted}" if answers != wanted else found and unlike(found, register)
             if not why:
                 self.register = register
@@ -651,9 +651,8 @@ class ResidentLife(Life):
         """An order that has to wait for the end of the session. Some commands are gone before that: nothing is done for them. The look-up
         shows nothing of it; it is answered only once the station has heard the order."""
         order = self.draw_order()
-        file = ["f"] if order.act == "submit" else []
         book = (self.room / "book").read_bytes()
-        client = self.beside.enter_context(self.station.asked(book, order.content, order.act, "--db=d", "--book=b", *order.words, *file))
+        client = self.beside.enter_context(self.station.asked(order.act, *order.words, book=book, content=order.content))
         if self.chance.random() < 0.15:
             self.told.append("    which is given up within the session")
             self.steps.update(["an order is given up"])

@@ -28,10 +28,11 @@ import one_file
 import row_files
 import staying
 import tables
+from channel import CONTENT, KINDS, OUTPUT, ended, request_of, spelled
 from passage import Passage
 from program import PROGRAM, ROOT
 from ready import ready_to_read
-from services import BOOK, CARMAKER, LONG, NotTried, Resident, Service, Wrong, expect, free_port, port_of_ipv6, rest_of
+from services import BOOK, CARMAKER, LONG, NotTried, Resident, Service, Wrong, answer_to, expect, free_port, port_of_ipv6, rest_of
 
 # What may be added to any time on a machine with other work.
 SOON = 25
@@ -194,6 +195,20 @@ def long_path(room):
         expect((done.returncode, done.stderr), (0, b""), "a report through a link")
 
 
+def long_name(room):
+    """The longest name of a database that the documents allow, and one to which a socket's address has no room for the station's."""
+    for length in (80, 84):
+        named, folder = room / ("n" * length), room / str(length)
+        folder.mkdir()
+        subprocess.run([PROGRAM, "init", "--db", named], stdout=subprocess.DEVNULL, timeout=LONG, check=True)
+        (folder / "database").symlink_to(named)
+        if length > 80:
+            Resident(folder).ends(1, b"fault: 8 socket\n")
+        else:
+            with Resident(folder) as service:
+                expect(given(service, "init"), (0, b"done: init\n", b""), "init")
+
+
 def second_station_takes_over(room):
     """A station that waits for the database of another one has it once that one is killed, with its socket, under another name of the database
     too."""
@@ -257,32 +272,20 @@ def commands_that_come_while_it_opens(room):
         expect(called, (1, b"", b"fault: 8 socket\n"), "the call of nobody")
 
 
-def request_of(*words):
-    spelled = [struct.pack(">I", len(word)) + word for word in words]
-    return struct.pack(">I", len(words)) + b"".join(spelled)
-
-
-def answer_of(client):
-    """The answer that a client gets: what goes to each outlet, and the exit status."""
-    octets, outlets = rest_of(client), {}
-    while octets[:1] != b"\0":
-        outlet, size = struct.unpack(">BI", octets[:5])
-        outlets[outlet] = outlets.get(outlet, b"") + octets[5 : 5 + size]
-        octets = octets[5 + size :]
-    expect(len(octets), 2, "how many octets end an answer")
-    return outlets, octets[1]
-
-
 def false_clients(room):
     """What is no request is closed without an answer and without a change, and so is a request that no command makes."""
     for_nothing = [
         struct.pack(">I", 65),
         struct.pack(">II", 1, 83886081),
-        request_of(),
-        request_of(b"", b"", b"nothing"),
-        request_of(b"", b"", b"listen", b"--db", b"d", b"--book", b"b"),
-        request_of(b"", b"", b"\xff"),
-        request_of(b"", b"", b"init", b"--db=d") + b"A",
+        spelled(),
+        spelled(b""),
+        spelled(bytes([12])),
+        spelled(b"init"),
+        spelled(bytes([KINDS["init"]]), b""),
+        spelled(bytes([KINDS["fetch"]]), bytes(7)),
+        spelled(bytes([KINDS["report"]]), bytes([5])),
+        spelled(bytes([KINDS["outgoing"]]), b"\xff"),
+        request_of("init") + b"A",
     ]
     with Resident(room) as service:
         for octets in for_nothing:
@@ -293,14 +296,14 @@ def false_clients(room):
                     expect(client.recv(1), b"", f"what answers {octets[:40]!r}")
         with service.client() as client:
             client.recv(1)
-            client.sendall(request_of(b"", b"", b"init", b"--db=d"))
-            expect(answer_of(client), ({1: b"done: init\n"}, 0), "the answer to init")
+            client.sendall(request_of("init"))
+            expect(answer_to(client), (b"", "done: init"), "the answer to init")
         expect(given(service, "report", "in")[0], 0, "a report")
 
 
 def half_requests(room):
     """A command that is gone within its request asks for nothing."""
-    request = request_of(BOOK.read_bytes(), b"A", b"submit", b"--db=d", b"--book=b", *(word.encode() for word in IDENTITY), b"f")
+    request = request_of("submit", *IDENTITY, book=BOOK.read_bytes(), content=b"A")
     with Resident(room) as service:
         for size in (0, 3, 4, 100, len(request) - 1):
             with service.client() as client:
@@ -311,7 +314,7 @@ def half_requests(room):
             client.recv(1)
             for place in range(0, len(request), 7):
                 client.sendall(request[place : place + 7])
-            expect(answer_of(client), ({1: b"done: submit 1\n"}, 0), "the answer to a request that drips")
+            expect(answer_to(client), (b"", "done: submit 1"), "the answer to a request that drips")
 
 
 def octets_of_a_fetch(room):
@@ -320,8 +323,8 @@ def octets_of_a_fetch(room):
         play(service, ONE_OCTET)
         with service.client() as client:
             expect(client.recv(1), READY, "the first octet")
-            client.sendall(request_of(b"", b"", b"fetch", b"--db=d", b"1", b"f"))
-            expect(answer_of(client), ({3: b"A", 1: b"done: fetch 1\n"}, 0), "the answer")
+            client.sendall(request_of("fetch", "1"))
+            expect(answer_to(client), (b"A", "done: fetch 1"), "the answer")
     expect(sorted(path.name for path in room.iterdir()), ["database", "database-station", "database-wal"], "the files")
 
 
@@ -366,7 +369,7 @@ def hold_answers(service, stack, count):
     for _ in range(count):
         client = stack.enter_context(service.client())
         expect(client.recv(1), READY, "the first octet")
-        client.sendall(request_of(b"", b"", b"fetch", b"--db=d", b"1", b"f"))
+        client.sendall(request_of("fetch", "1"))
 
 
 def strangers(room):
@@ -579,7 +582,7 @@ def partners_who_keep_open(room):
 
 RIGHT = {
     "a partner": b"".join(octets for side, octets in ONE_OCTET.steps if side == "in"),
-    "a command": request_of(b"", b"", b"report", b"--db=d", b"in"),
+    "a command": request_of("report", "in"),
     "a request": b"GET /in HTTP/1.1\r\n\r\n",
 }
 
@@ -689,11 +692,11 @@ def partner_who_reads_nothing(room):
 def begin_backup(client):
     """Asks for a backup, and waits until the database's files may be copied."""
     client.recv(1)
-    client.sendall(request_of(b"", b"", b"backup", b"--db=d", b"f"))
+    client.sendall(request_of("backup"))
     sign = b""
     while len(sign) < 9 and (piece := client.recv(9 - len(sign))):
         sign += piece
-    expect(sign, struct.pack(">BI", 3, 4) + b"copy", "what tells that the files may be copied")
+    expect(sign, struct.pack(">BI", CONTENT, 4) + b"copy", "what tells that the files may be copied")
 
 
 def backups(room):
@@ -723,7 +726,7 @@ def backup_holds_still(room):
             with service.caller() as caller:
                 expect(caller.recv(len(GREETING)), GREETING, "the greeting")
             client.shutdown(socket.SHUT_WR)
-            expect(answer_of(client), ({}, 0), "the answer")
+            expect(answer_to(client), (b"", "done: backup"), "the answer")
             expect(told(program), (0, b"done: submit 1\n", b""), "the file")
 
 
@@ -749,7 +752,7 @@ def backup_that_takes_too_long(room):
         expect(given(service, "release", "1")[0], 1, "a release")
         expect(time.monotonic() - begin >= 30, True, "whether the release waits")
         within(begin, 30, "the release")
-        expect(answer_of(client), ({2: b"fault: 7 file\n"}, 1), "the answer")
+        expect(answer_to(client), (b"", "fault: 7 file"), "the answer")
 
 
 # ---- calls
@@ -1592,13 +1595,13 @@ def answers_that_are_cut(room):
     is printed, and no file is made."""
     (room / "file").write_bytes(b"A")
     with_files(room, 1)
-    piece = struct.pack(">BI", 3, 2) + b"AB" + struct.pack(">BI", 1, 7) + b"done: 1"
-    whole = READY + piece + b"\0\0"
+    whole = READY + struct.pack(">BI", CONTENT, 2) + b"AB" + ended(1)
     answers = [whole[:size] for size in range(len(whole))]
-    answers += [b"2" + whole[1:], READY + struct.pack(">BI", 4, 1) + b"A\0\0", READY + struct.pack(">BI", 1, 65537) + bytes(65537) + b"\0\0"]
+    answers += [b"2" + whole[1:], READY + struct.pack(">BI", 4, 1) + b"A" + ended(1), READY + struct.pack(">BI", OUTPUT, 65537) + bytes(65537) + ended(1)]
+    answers += [READY + ended(0), READY + ended(4), READY + ended(17)[:-1], READY + ended(21, 6), READY + ended(1, 1)]
     for answer in answers:
         for command, came in false_station(room, answer):
-            printed = b"done: 1" if command == "report" and len(answer) >= len(whole) - 2 and answer[:1] == READY and answer in whole else b""
+            printed = b"AB" if command == "report" and answer in whole and len(answer) >= len(whole) - 10 else b""
             expect(came, (1, printed, b"fault: 3 office\n"), f"{command}, answered by {answer[:40]!r}")
             expect((room / "fetched").exists(), False, "whether a file is made")
     expect_untouched(room, room / "database")
@@ -1723,6 +1726,7 @@ CASES = [
     commands_that_come_while_it_opens,
     faults_in_order,
     long_path,
+    long_name,
     false_clients,
     half_requests,
     octets_of_a_fetch,

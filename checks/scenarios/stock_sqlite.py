@@ -23,6 +23,7 @@ from program import PROGRAM, ROOT
 BOOK = ROOT / "examples/supplier/book.toml"
 ONE_FILE = ROOT / "examples/one_file.octets"
 OPERATING = ROOT / "docs/OPERATING.md"
+OURS = ["--book", BOOK]
 SECONDS = 60
 BLOCK = 1024
 
@@ -270,7 +271,8 @@ def a_database_of_schema_1(room):
     for no, kind, dataset, reason in RESPONSES:
         values = f"{no}, '{kind}', '{dataset}', '20240201', '0800000001', 'O0013SUPPLIER', 'O0177CARMAKER', '{reason}'"
         write(db, f"INSERT INTO received VALUES ({values})")
-    expect_refused(db, ["init", "--db", db])
+    for words in (["init"], ["report", "in"], ["release", *OURS, "1"], ["run", *OURS], ["listen", *OURS], ["http"], ["backup", room / "copy"]):
+        expect_refused(db, [words[0], "--db", db, *words[1:]])
     received = ask(db, "SELECT * FROM received ORDER BY no")
     for _ in range(2):
         expect_run(["migrate", "--db", db], "done: migrate\n")
@@ -316,7 +318,7 @@ def tables_made_in_another_order(room):
 def what_a_viewer_added(room):
     """What a viewer adds is refused. The commands of docs/OPERATING.md show it and remove it, and the database opens again as it was."""
     text = OPERATING.read_text(encoding="utf-8").partition("\n### Leave the tables alone\n")[2].partition("\n### ")[0]
-    shows, removes = re.findall(r'^    sqlite3 station\.db "(.*)"$', text, re.M)
+    shows, removes = re.findall(r'^    sudo -u oftp sqlite3 station\.db "(.*)"$', text, re.M)
     db, own = room / "station.db", {("table", name) for name in TABLES}
     expect_run(["feed", "--db", db, "--book", BOOK, ONE_FILE, room / "out"], "end: partner 00\n")
     expect(len(removes.split("; ")), len(ADDED), "how many kinds docs/OPERATING.md removes")

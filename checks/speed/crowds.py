@@ -112,7 +112,7 @@ def dripping(crowd):
 def commands(crowd):
     book = (row_files.ROWS / "books/usual.toml").read_bytes()
     for _ in range(COMMANDS - 1):
-        crowd.keep(crowd.service.asked(book, b"", "release", "--db=d", "--book=b", "99"))
+        crowd.keep(crowd.service.asked("release", "99", book=book))
 
 
 def readers(crowd):
@@ -144,8 +144,8 @@ def greeted(crowd):
 
 def reported(crowd):
     begin = time.monotonic()
-    with crowd.service.asked(b"", b"", "report", "--db=d", "in") as client:
-        expect(answer_to(client)[1], 0, "a report")
+    with crowd.service.asked("report", "in") as client:
+        expect(answer_to(client)[1], "listed", "a report")
     return time.monotonic() - begin
 
 

@@ -1,5 +1,5 @@
 -- One read after another, and the octets that are left.
-use Rattle.std.proofs.Common.{◌≡◌, ℕ, ◌+◌, ◌%◌, ◌^◌, ◌⊎◌, inl, inr, List, [], ◌++◌, take, Option, None, Some, Result, Ok, Err, IfErr, refl, sym, ap, subst, ◌∙◌}
+use Rattle.std.proofs.Common.{◌≡◌, ℕ, ◌+◌, ◌%◌, ◌^◌, ◌⊎◌, inl, inr, List, [], ◌++◌, take, Option, None, Some, Result, Ok, Err, ok_or, IfErr, refl, sym, ap, subst, ◌∙◌}
 use Rattle.std.specs.Io.KnownBytes.{Consumes}
 use Rattle.std.specs.Result.{IsErrAnd}
 use Rattle.oftp_io.specs.Ports.{Gives, GivesNothing, IsDone}
@@ -9,7 +9,7 @@ use Rattle.oftp_channel.specs.Inputs.{Gave, GaveSome, Leaves, Stopped}
 use Rattle.oftp_channel.specs.declared.fault.HearFault.{HearFault}
 use Rattle.oftp_channel.specs.declared.fault.HearFault.TheVariants as faults
 
-abbrev some : List ℕ → Option (List ℕ)
+abbrev pub some : List ℕ → Option (List ℕ)
 some xs = Some xs
 
 same : (xs ys : List ℕ) → some xs ≡ some ys → xs ≡ ys
@@ -83,6 +83,13 @@ module _ {X : Type 0} (remaining : X → Option (List ℕ)) where
       → Gave remaining a d xs → IfErr result (λ (x : HearFault). Leaves remaining a d x)
   want_behind a d xs (Ok x) is p = tt
   want_behind a d xs (Err x) is p = subst (Leaves remaining a d) (sym is) (record { octets = xs; gave = p })
+
+  -- octets that were read, and are the encoding of nothing
+  pub form_behind : {T : Type 0} (a d : Port X) (xs : List ℕ) (found : Option T) (result : Result T HearFault) → result ≡ ok_or found faults.Form
+      → Gave remaining a d xs → IfErr result (λ (x : HearFault). Leaves remaining a d x)
+  form_behind a d xs found (Ok x) is p = tt
+  form_behind a d xs None (Err x) is p = subst (λ (r : Result _ HearFault). IfErr r (λ (x : HearFault). Leaves remaining a d x)) (sym is) (record { octets = xs; gave = p })
+  form_behind a d xs (Some y) (Err x) is p = absurd cc
 
   -- the same for a last call, whose result is returned
   pub answered_behind : {T : Type 0} (a b d : Port X) (xs : List ℕ) (result : Result T HearFault) → Gave remaining a b xs

@@ -2,8 +2,8 @@
 use Rattle.std.proofs.Common.{◌≡◌, ℕ, ◌+◌, ◌^◌, ◌<◌, ◌≤◌, List, [], ◌∷◌, ◌++◌, length, take, drop, refl, sym, ap, ◌∙◌, append_assoc, arith}
 use Rattle.std.proofs.lemmas.List.{append-nil, take_at, drop_at}
 use Rattle.std.proofs.lemmas.List.Concat.{flat_map-append}
-use Rattle.std.proofs.lemmas.Nat.{from_be_bytes-to_be_bytes_4}
-use Rattle.std.specs.Int.{w32, to_be_bytes, from_be_bytes}
+use Rattle.std.proofs.lemmas.Nat.{from_be_bytes-to_be_bytes_4, from_be_bytes-to_be_bytes_8}
+use Rattle.std.specs.Int.{w32, w64, to_be_bytes, from_be_bytes}
 use Rattle.std.specs.List.{flat_map}
 use Rattle.oftp_channel.specs.Requests.{spelled_word, total}
 
@@ -17,6 +17,11 @@ same_number m n x y p q e =
       sym (from_be_bytes-to_be_bytes_4 m p) ∙ ap (λ (z : List ℕ). from_be_bytes w32 z) fronts ∙ from_be_bytes-to_be_bytes_4 n q,
       sym (drop_at (to_be_bytes w32 m) x 4 refl) ∙ ap (λ (z : List ℕ). drop 4 z) e ∙ drop_at (to_be_bytes w32 n) y 4 refl,
     )
+
+pub same_long : (m n : ℕ) (x y : List ℕ) → m < 2 ^ 64 → n < 2 ^ 64 → to_be_bytes w64 m ++ x ≡ to_be_bytes w64 n ++ y → m ≡ n
+same_long m n x y p q e =
+    let fronts : to_be_bytes w64 m ≡ to_be_bytes w64 n = sym (take_at (to_be_bytes w64 m) x 8 refl) ∙ ap (λ (z : List ℕ). take 8 z) e ∙ take_at (to_be_bytes w64 n) y 8 refl in
+    sym (from_be_bytes-to_be_bytes_8 m p) ∙ ap (λ (z : List ℕ). from_be_bytes w64 z) fronts ∙ from_be_bytes-to_be_bytes_8 n q
 
 pub same_word : (a b x y : List ℕ) → length a < 2 ^ 32 → length b < 2 ^ 32 → spelled_word a ++ x ≡ spelled_word b ++ y → (a ≡ b) × (x ≡ y)
 same_word a b x y p q e =

@@ -3,13 +3,17 @@
 ghost use Rattle.std.specs.Prelude.{◌≡◌, ◌≤◌, ◌++◌, ℕ, List, None, Some, IfOk, IfErr, IfSome, length};
 ghost use Rattle.oftp_io.specs.Ports.{Sent};
 ghost use Rattle.oftp_channel.specs.Answers.{BeginsNoPart, IsPart, Part, outlet_code, part_of, spelled_end, spelled_part, spelled_piece};
+ghost use Rattle.oftp_channel.specs.Endings.{IsEnding, spelled_ending};
 ghost use Rattle.oftp_channel.specs.Inputs.{Gave, Leaves};
 ghost use Rattle.oftp_channel.specs.declared.answer.Outlet.{Outlet};
 ghost use Rattle.oftp_channel.specs.declared.answer.TheConstants.{LONGEST_PIECE};
+ghost use Rattle.oftp_channel.specs.declared.ending.Ending.{Ending};
 ghost use Rattle.oftp_channel.specs.declared.fault.HearFault.TheVariants.{Form};
 
+use crate::ending::Ending;
 use crate::fault::HearFault;
-use crate::inputs::{read_octet, read_word};
+use crate::inputs::{read_long, read_octet, read_word};
+use crate::labels::Label;
 use oftp_io::Port;
 use std::alloc::Global;
 use std::io::{Read, Write};
@@ -22,8 +26,6 @@ pub const LONGEST_PIECE: usize = 65_536;
 pub enum Outlet {
     /// The standard output.
     Output,
-    /// The standard error.
-    Errors,
     /// The file that is made.
     Content,
 }
@@ -33,8 +35,8 @@ pub enum Outlet {
 pub enum AnswerPart {
     /// Octets for an outlet, at most [`LONGEST_PIECE`].
     Piece(Outlet, Vec<u8>),
-    /// The end, with the exit status of the command, 0 to 255.
-    End(u8),
+    /// The end: how the request ended.
+    End(Ending),
 }
 
 impl Outlet {
@@ -44,8 +46,7 @@ impl Outlet {
     {
         match self {
             Outlet::Output => 1,
-            Outlet::Errors => 2,
-            Outlet::Content => 3,
+            Outlet::Content => 2,
         }
     }
 
@@ -56,8 +57,7 @@ impl Outlet {
     {
         match code {
             1 => Some(Outlet::Output),
-            2 => Some(Outlet::Errors),
-            3 => Some(Outlet::Content),
+            2 => Some(Outlet::Content),
             _ => None,
         }
     }
@@ -78,10 +78,29 @@ pub fn write_piece<W: Write>(writer: &mut Port<W>, outlet: Outlet, octets: &[u8]
 
 /// Writes the end of an answer, and returns whether the writer took all of it. If it didn't, it returned an error and has a beginning of
 /// the end.
-pub fn write_end<W: Write>(writer: &mut Port<W>, status: u8) -> bool
-    ensures { Sent W.contents writer.old writer.new (spelled_end status) result }
+pub fn write_end<W: Write>(writer: &mut Port<W>, ending: Ending) -> bool
+    ensures { Sent W.contents writer.old writer.new (spelled_end ending) result }
 {
-    writer.send(&[0, status])
+    let label = ending.label();
+    if !writer.send(&[0, label.kind]) {
+        return false;
+    }
+    writer.send(&label.number.to_be_bytes())
+}
+
+// Reads the kind of an ending and its number.
+fn read_ending<R: Read>(alloc: Global, reader: &mut Port<R>) -> Result<Ending, HearFault>
+    ensures ending { IfOk result (λ ending. IsEnding ending) }
+    ensures read { IfOk result (λ ending. Gave R.remaining reader.old reader.new (spelled_ending ending)) }
+    ensures again { (told : Ending) (rest : List ℕ) → IsEnding told → R.remaining reader.old.inner ≡ Some (spelled_ending told ++ rest)
+        → IfOk result (λ ending. ending ≡ told) }
+    ensures refused { IfErr result (λ fault. fault ≡ Form → (heard more rest : List ℕ) (ending : Ending) → R.remaining reader.old.inner ≡ Some heard
+        → IsEnding ending → heard ++ more ≡ spelled_ending ending ++ rest → ⊥) }
+    ensures leaves { IfErr result (λ fault. Leaves R.remaining reader.old reader.new fault) }
+{
+    let kind = read_octet(alloc, reader)?;
+    let number = read_long(alloc, reader)?;
+    Ending::of_label(Label { kind, number }).ok_or(HearFault::Form)
 }
 
 /// Reads the next part of an answer.
@@ -105,8 +124,8 @@ pub fn read_part<R: Read>(alloc: Global, reader: &mut Port<R>) -> Result<AnswerP
 {
     let code = read_octet(alloc, reader)?;
     if code == 0 {
-        let status = read_octet(alloc, reader)?;
-        return Ok(AnswerPart::End(status));
+        let ending = read_ending(alloc, reader)?;
+        return Ok(AnswerPart::End(ending));
     }
     let outlet = Outlet::of_code(code).ok_or(HearFault::Form)?;
     let octets = read_word(alloc, reader, LONGEST_PIECE)?;

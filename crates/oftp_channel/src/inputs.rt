@@ -1,7 +1,7 @@
 //! Reading octets, numbers and words.
 
 ghost use Rattle.std.specs.Prelude.{◌≡◌, ◌≤◌, ◌<◌, ◌^◌, ◌++◌, ◌∷◌, [], ℕ, List, None, Some, IfOk, IfErr, IfSome, length};
-ghost use Rattle.std.specs.Int.{w32, to_be_bytes};
+ghost use Rattle.std.specs.Int.{w32, w64, to_be_bytes};
 ghost use Rattle.oftp_channel.specs.Inputs.{Gave, Leaves};
 ghost use Rattle.oftp_channel.specs.Requests.{spelled_word};
 ghost use Rattle.oftp_channel.specs.declared.fault.HearFault.TheVariants.{Form};
@@ -66,6 +66,26 @@ pub(crate) fn read_number<R: Read>(alloc: Global, reader: &mut Port<R>) -> Resul
 {
     let octets = read_octets(alloc, reader, 4)?;
     Ok(number_of([octets[0], octets[1], octets[2], octets[3]]))
+}
+
+// The number that eight octets encode.
+fn long_of(octets: &[u8]) -> u64
+    requires { length octets.now ≡ 8 }
+    ensures { to_be_bytes w64 result ≡ octets.now }
+{
+    u64::from_be_bytes([
+        octets[0], octets[1], octets[2], octets[3], octets[4], octets[5], octets[6], octets[7],
+    ])
+}
+
+// Reads a number of eight octets.
+pub(crate) fn read_long<R: Read>(alloc: Global, reader: &mut Port<R>) -> Result<u64, HearFault>
+    ensures read { IfOk result (λ number. Gave R.remaining reader.old reader.new (to_be_bytes w64 number)) }
+    ensures form { IfErr result (λ fault. fault ≡ Form → ⊥) }
+    ensures leaves { IfErr result (λ fault. Leaves R.remaining reader.old reader.new fault) }
+{
+    let octets = read_octets(alloc, reader, 8)?;
+    Ok(long_of(octets.as_slice()))
 }
 
 // Reads a word of at most `most` octets.

@@ -2,6 +2,7 @@
 
 ghost use Rattle.std.specs.Prelude.{◌≡◌, ◌≤◌, ◌<◌, ◌^◌, ◌↔◌, ◌++◌, ℕ, List, Some, IfOk, IfErr, IsTrue, length, map};
 ghost use Rattle.oftp_io.specs.Ports.{Sent};
+ghost use Rattle.oftp_channel.specs.Asked.{octets_in};
 ghost use Rattle.oftp_channel.specs.Inputs.{Gave, Leaves};
 ghost use Rattle.oftp_channel.specs.Requests.{BeginsNoRequest, IsRequest, spelled_request, spelled_word};
 ghost use Rattle.oftp_channel.specs.declared.fault.HearFault.TheVariants.{Form};
@@ -18,25 +19,57 @@ pub const MOST_WORDS: usize = 64;
 /// The most octets of all words of a request together: 80 MiB.
 pub const LARGEST_REQUEST: usize = 83_886_080;
 
+/// A word of a request that is written.
+#[derive(Clone, Copy, Drop)]
+pub enum Word<'a> {
+    /// One octet.
+    Octet(u8),
+    /// A number, whose word is eight octets with the most significant first.
+    Number(u64),
+    /// Octets that are borrowed.
+    Octets(&'a [u8]),
+}
+
+// The word without octets.
+impl Default for Word<'_> {
+    fn default() -> Self {
+        Word::Octets(&[])
+    }
+}
+
+impl Word<'_> {
+    // The number of its octets.
+    fn len(&self) -> usize
+        ensures { result ≡ length (octets_in self.now) }
+    {
+        match self {
+            Word::Octet(_) => 1,
+            Word::Number(_) => 8,
+            Word::Octets(octets) => octets.len(),
+        }
+    }
+}
+
 /// Whether these words make a request: at most [`MOST_WORDS`], of at most [`LARGEST_REQUEST`] octets together.
-pub fn fits(words: &[&[u8]]) -> bool
-    ensures { IsTrue result ↔ IsRequest (map (λ word. word.now) words.now) }
+pub fn words_fit(words: &[Word<'_>]) -> bool
+    ensures { IsTrue result ↔ IsRequest (map (λ word. octets_in word) words.now) }
 {
     let mut left = LARGEST_REQUEST;
     for word in words {
-        if left < word.len() {
+        let length = word.len();
+        if left < length {
             return false;
         }
-        left -= word.len();
+        left -= length;
     }
     words.len() <= MOST_WORDS
 }
 
-/// Writes a request of words that pass [`fits`], and returns whether the writer took all of it. If it didn't, it returned an error and has
-/// a beginning of the request.
-pub fn write_request<W: Write>(writer: &mut Port<W>, words: &[&[u8]]) -> bool
-    requires { IsRequest (map (λ word. word.now) words.now) }
-    ensures { Sent W.contents writer.old writer.new (spelled_request (map (λ word. word.now) words.now)) result }
+/// Writes a request of words that pass [`words_fit`], and returns whether the writer took all of it. If it didn't, it returned an error and
+/// has a beginning of the request.
+pub fn write_words<W: Write>(writer: &mut Port<W>, words: &[Word<'_>]) -> bool
+    requires { IsRequest (map (λ word. octets_in word) words.now) }
+    ensures { Sent W.contents writer.old writer.new (spelled_request (map (λ word. octets_in word) words.now)) result }
 {
     if !writer.send(&(words.len() as u32).to_be_bytes()) {
         return false;
@@ -50,7 +83,19 @@ pub fn write_request<W: Write>(writer: &mut Port<W>, words: &[&[u8]]) -> bool
 }
 
 // Writes a word, and returns whether the writer took all of it.
-fn write_word<W: Write>(writer: &mut Port<W>, word: &[u8]) -> bool
+fn write_word<W: Write>(writer: &mut Port<W>, word: &Word<'_>) -> bool
+    requires { length (octets_in word.now) < 2 ^ 32 }
+    ensures { Sent W.contents writer.old writer.new (spelled_word (octets_in word.now)) result }
+{
+    match word {
+        Word::Octet(octet) => write_octets(writer, &[*octet]),
+        Word::Number(number) => write_octets(writer, &number.to_be_bytes()),
+        Word::Octets(octets) => write_octets(writer, octets),
+    }
+}
+
+// Writes a word of these octets, and returns whether the writer took all of it.
+fn write_octets<W: Write>(writer: &mut Port<W>, word: &[u8]) -> bool
     requires { length word.now < 2 ^ 32 }
     ensures { Sent W.contents writer.old writer.new (spelled_word word.now) result }
 {

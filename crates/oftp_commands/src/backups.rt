@@ -1,5 +1,8 @@
 //! The command `backup`, which copies a database to one file.
 
+use crate::backing::Backing;
+use crate::beside::GONE;
+use oftp_channel::{Ending, Request};
 use oftp_command_line::Backup;
 use oftp_database as database;
 use oftp_files::{
@@ -7,8 +10,9 @@ use oftp_files::{
     remove_log, settle,
 };
 use oftp_outcomes::{Fault, Outcome};
+use oftp_requests::Backend;
 use std::fs::{self, File};
-use std::io::{ErrorKind, Read, Write};
+use std::io::{self, ErrorKind, Read, Write};
 
 /// How many octets are copied at once.
 const PIECE: usize = 16_384;
@@ -16,35 +20,74 @@ const PIECE: usize = 16_384;
 /// The endings of the files that SQLite reads together with a database.
 const READ_WITH_IT: [&str; 2] = ["-wal", "-journal"];
 
-/// Copies a database to a file. No other process changes it meanwhile, since it is open and locked here.
+/// Copies a database to a file. Nothing changes it while its files are copied: it is locked here, or its station does no job meanwhile. The
+/// copy is finished after that.
 ///
 /// # Errors
-/// [`Fault::Store`] if the database can't be opened; [`Fault::File`] if the copy can't be made; [`Fault::MEMORY`]. Nothing is copied then.
-pub fn back_up(rt: &HostRuntime, line: &Backup<'_>) -> Result<Outcome, Fault> {
-    let office = database::open_shared(rt, line.database)?;
+/// [`Fault::Store`] if the database can't be opened; [`Fault::File`] if the copy can't be made; [`Fault::Run`] if the station is gone;
+/// [`Fault::MEMORY`]. Nothing is copied then.
+pub fn back_up<'a>(rt: &'a HostRuntime, line: &Backup<'a>) -> Result<Outcome, Fault> {
+    let mut backing = Backing::opened(rt, line.database, None)?;
     let copy = DatabaseCopy::begun(rt, line)?;
-    let written = copy.write(rt, line.database);
-    drop(office);
-    copy.finish(rt, written)
+    let mut copying = Copying {
+        rt,
+        database: line.database,
+        copy: &copy,
+        written: Err(GONE),
+    };
+    let asked = backing.ask(&Request::Backup, &mut copying);
+    let written = copying.written;
+    drop(backing);
+    match asked {
+        Ok(Ending::Outcome(Outcome::BackedUp)) => copy.finish(rt, written),
+        Ok(_) => {
+            copy.give_up(rt);
+            Err(GONE)
+        }
+        Err(fault) => {
+            copy.give_up(rt);
+            Err(fault)
+        }
+    }
+}
+
+/// A writer that is told when the database's files may be copied, and copies them.
+#[derive(Clone, Copy)]
+struct Copying<'a> {
+    rt: &'a HostRuntime,
+    database: &'a str,
+    copy: &'a DatabaseCopy,
+    written: Result<(), Fault>,
+}
+
+impl Write for Copying<'_> {
+    fn write(&mut self, told: &[u8]) -> io::Result<usize> {
+        self.written = self.copy.write(self.rt, self.database);
+        Ok(told.len())
+    }
+
+    fn flush(&mut self) -> io::Result<()> {
+        Ok(())
+    }
 }
 
 /// A copy of a database, which is a draft until it is whole.
 #[derive(Drop)]
-pub(crate) struct DatabaseCopy {
+struct DatabaseCopy {
     name: Name,
     draft: Draft,
 }
 
 impl DatabaseCopy {
     /// Begins a copy to the file that a command line names.
-    pub(crate) fn begun(rt: &HostRuntime, line: &Backup<'_>) -> Result<DatabaseCopy, Fault> {
+    fn begun(rt: &HostRuntime, line: &Backup<'_>) -> Result<DatabaseCopy, Fault> {
         let name = name_of(rt, line)?;
         let draft = draft_of(rt, &name)?;
         Ok(DatabaseCopy { name, draft })
     }
 
     /// Copies the files of a database. Nothing may change them meanwhile. The copy is then what a crash would leave.
-    pub(crate) fn write(&self, rt: &HostRuntime, database: &str) -> Result<(), Fault> {
+    fn write(&self, rt: &HostRuntime, database: &str) -> Result<(), Fault> {
         let real = fs::canonicalize(rt, database).map_err(|error| file_fault(&error))?;
         pour(rt, real.as_str(), &self.draft.file)?;
         let log = log_of(rt, real.as_str())?;
@@ -57,11 +100,7 @@ impl DatabaseCopy {
     }
 
     /// Gives the copy its name, after it was opened as a station opens it. If writing or opening it failed, it is removed.
-    pub(crate) fn finish(
-        self,
-        rt: &HostRuntime,
-        written: Result<(), Fault>,
-    ) -> Result<Outcome, Fault> {
+    fn finish(self, rt: &HostRuntime, written: Result<(), Fault>) -> Result<Outcome, Fault> {
         let DatabaseCopy { name, draft } = self;
         let united = unite(rt, &name, &draft, written);
         remove_log(rt, draft.path.as_str());
@@ -70,7 +109,7 @@ impl DatabaseCopy {
     }
 
     /// Removes the copy.
-    pub(crate) fn give_up(self, rt: &HostRuntime) {
+    fn give_up(self, rt: &HostRuntime) {
         let _ = self.finish(rt, Err(Fault::File));
     }
 }

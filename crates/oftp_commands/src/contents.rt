@@ -1,14 +1,14 @@
 //! When what a command line names is read: a regular file in its turn, and what isn't one, such as a pipe, before anything else. It may take as
 //! long as it likes, and the database must not be locked meanwhile.
 
-use oftp_command_line::{Line, Submit};
+use oftp_command_line::Submit;
 use oftp_files::read_content;
 use oftp_outcomes::Fault;
 use std::{fs, mem};
 
 /// The content of the file that is submitted.
 #[derive(Drop)]
-pub enum Content {
+pub(crate) enum Content {
     /// It isn't read yet.
     Unread,
     /// It was read, or couldn't be. That error is told in its turn.
@@ -17,12 +17,11 @@ pub enum Content {
 
 impl Content {
     /// The content that a command line names. It is read now if it isn't that of a regular file.
-    pub fn of(rt: &HostRuntime, line: &Line<'_>) -> Content {
-        match line {
-            Line::Submit(submit) if is_awaited(rt, submit.file) => {
-                Content::Read(read_content(rt, submit))
-            }
-            _ => Content::Unread,
+    pub(crate) fn of(rt: &HostRuntime, submit: &Submit<'_>) -> Content {
+        if is_awaited(rt, submit.file) {
+            Content::Read(read_content(rt, submit))
+        } else {
+            Content::Unread
         }
     }
 

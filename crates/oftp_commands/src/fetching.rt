@@ -1,82 +1,125 @@
 //! The command `fetch`, which writes an incoming file in its local form.
 
+use crate::backing::{Backing, outcome_in};
 use crate::contents::is_awaited;
+use oftp_channel::{Ending, Request};
 use oftp_command_line::Fetch;
-use oftp_contents::entry_to_fetch;
-use oftp_database as database;
-use oftp_engine::{Port, RunFault, write_content};
-use oftp_files::{Place, draft_of, file_fault, place_of, settle};
+use oftp_engine::RunFault;
+use oftp_files::{Draft, Name, Place, draft_of, file_fault, place_of, settle};
 use oftp_outcomes::{Fault, Outcome};
-use oftp_register::{IncomingEntry, Office};
-use std::alloc::Global;
+use oftp_requests::Backend;
 use std::fs::File;
-use std::io::Write;
+use std::io::{self, ErrorKind, Write};
+use std::mem;
 
 /// Writes a whole incoming file of a database to a file. What isn't a regular file, such as a pipe, is opened and written once the database is
 /// closed again, since its reader may take long.
 ///
 /// # Errors
-/// [`Fault::Store`] if the database can't be opened; [`Fault::Run`] if the office failed; [`Fault::File`] if the file can't be written;
-/// [`Fault::MEMORY`]. The file is as it was then.
-pub fn fetch(rt: &HostRuntime, line: &Fetch<'_>) -> Result<Outcome, Fault> {
-    let alloc = rt.alloc();
-    let mut life = database::live_shared(rt, line.database)?;
-    if !is_awaited(rt, line.file) {
-        return fetch_from(rt, line, &mut life);
-    }
-    let mut content = Vec::new(alloc);
-    let outcome = pour(alloc, &mut life, line.no, &mut content).map_err(content_fault)?;
-    drop(life);
-    if let Outcome::Fetched(_) = outcome {
-        make_file_of(rt, line, content.as_slice())?;
-    }
-    Ok(outcome)
+/// [`Fault::Store`] if the database can't be opened; [`Fault::Run`] if the office failed or the station is gone; [`Fault::File`] if the file
+/// can't be written; [`Fault::MEMORY`]. The file is as it was then.
+pub fn fetch<'a>(rt: &'a HostRuntime, line: &'a Fetch<'a>) -> Result<Outcome, Fault> {
+    let mut backing = Backing::opened(rt, line.database, None)?;
+    let mut file = FetchedFile::new(rt, line);
+    let asked = backing.ask(&Request::Fetch { no: line.no }, &mut file);
+    drop(backing);
+    file.settled(asked)
 }
 
-/// The error of content that is kept in memory, which fails as a file only where memory runs out.
-fn content_fault(fault: Fault) -> Fault {
-    match fault {
-        Fault::File => Fault::MEMORY,
-        other => other,
-    }
+/// Where a content goes that is being fetched.
+#[derive(Drop)]
+enum Target {
+    /// None of it came yet.
+    Unopened,
+    /// To a draft of the file with a name.
+    Draft(Name, Draft),
+    /// To memory, until the database is closed.
+    Memory(Vec<u8>),
+    /// The file can't be made.
+    Failed(Fault),
 }
 
-/// Writes the content of a whole incoming file to `out`.
-///
-/// # Errors
-/// [`Fault::Run`] if the office failed; [`Fault::File`] if `out` returned an error; [`Fault::MEMORY`].
-pub(crate) fn pour<O: Office>(
-    alloc: Global,
-    office: &mut O,
-    no: u64,
-    out: &mut impl Write,
-) -> Result<Outcome, Fault> {
-    match entry_to_fetch(office, no)? {
-        Ok(entry) => {
-            write_to(alloc, office, &entry, out)?;
-            Ok(Outcome::Fetched(entry.no))
+/// The file that a command line names for a content. It is opened with the first octets.
+#[derive(Drop)]
+struct FetchedFile<'a> {
+    rt: &'a HostRuntime,
+    line: &'a Fetch<'a>,
+    target: Target,
+}
+
+impl<'a> FetchedFile<'a> {
+    /// A file of which nothing came yet.
+    fn new(rt: &'a HostRuntime, line: &'a Fetch<'a>) -> FetchedFile<'a> {
+        FetchedFile {
+            rt,
+            line,
+            target: Target::Unopened,
         }
-        Err(refusal) => Ok(refusal),
+    }
+
+    /// Opens it, unless it is.
+    fn open(&mut self) {
+        if let Target::Unopened = &self.target {
+            self.target = match self.opened() {
+                Ok(target) => target,
+                Err(fault) => Target::Failed(fault),
+            };
+        }
+    }
+
+    /// The target of its octets.
+    fn opened(&self) -> Result<Target, Fault> {
+        if is_awaited(self.rt, self.line.file) {
+            return Ok(Target::Memory(Vec::new(self.rt.alloc())));
+        }
+        match place_of(self.rt, self.line.file, self.line.database)? {
+            Place::Device(_) => Ok(Target::Memory(Vec::new(self.rt.alloc()))),
+            Place::Name(name) => {
+                let draft = draft_of(self.rt, &name)?;
+                Ok(Target::Draft(name, draft))
+            }
+        }
+    }
+
+    /// Finishes the file if all of it came, and else removes its draft. Returns the outcome.
+    fn settled(mut self, asked: Result<Ending, Fault>) -> Result<Outcome, Fault> {
+        let outcome = outcome_in(asked);
+        if let Ok(Outcome::Done(_, _)) = &outcome {
+            self.open();
+        }
+        let target = mem::replace(&mut self.target, Target::Unopened);
+        finished(self.rt, self.line, target, outcome)
     }
 }
 
-/// Writes a whole incoming file of an office to a file.
-fn fetch_from<O: Office>(
+/// Finishes a file whose content came with this outcome.
+fn finished(
     rt: &HostRuntime,
     line: &Fetch<'_>,
-    office: &mut O,
+    target: Target,
+    outcome: Result<Outcome, Fault>,
 ) -> Result<Outcome, Fault> {
-    match entry_to_fetch(office, line.no)? {
-        Ok(entry) => {
-            make_file(rt, line, office, &entry)?;
-            Ok(Outcome::Fetched(entry.no))
+    match target {
+        Target::Unopened => outcome,
+        Target::Failed(fault) => Err(fault),
+        Target::Draft(name, draft) => {
+            let written = match &outcome {
+                Ok(_) => Ok(()),
+                Err(fault) => Err(written_fault(*fault)),
+            };
+            settle(rt, draft, &name, written)?;
+            outcome
         }
-        Err(refusal) => Ok(refusal),
+        Target::Memory(octets) => {
+            let outcome = outcome?;
+            write_device(rt, line, octets.as_slice())?;
+            Ok(outcome)
+        }
     }
 }
 
-/// Writes these octets to the file that a command line names.
-pub(crate) fn make_file_of(rt: &HostRuntime, line: &Fetch<'_>, octets: &[u8]) -> Result<(), Fault> {
+/// Writes what came to what isn't a regular file.
+fn write_device(rt: &HostRuntime, line: &Fetch<'_>, octets: &[u8]) -> Result<(), Fault> {
     match place_of(rt, line.file, line.database)? {
         Place::Device(mut device) => put(&mut device, octets),
         Place::Name(name) => {
@@ -92,32 +135,32 @@ fn put(file: &mut File, octets: &[u8]) -> Result<(), Fault> {
     file.write_all(octets).map_err(|error| file_fault(&error))
 }
 
-/// Writes the content of an incoming file to the file that a command line names.
-fn make_file<O: Office>(
-    rt: &HostRuntime,
-    line: &Fetch<'_>,
-    office: &mut O,
-    entry: &IncomingEntry,
-) -> Result<(), Fault> {
-    match place_of(rt, line.file, line.database)? {
-        Place::Device(mut device) => write_to(rt.alloc(), office, entry, &mut device),
-        Place::Name(name) => {
-            let mut draft = draft_of(rt, &name)?;
-            let written = write_to(rt.alloc(), office, entry, &mut draft.file);
-            settle(rt, draft, &name, written)
-        }
+/// The error for a content that didn't come whole. A failed write is an error of the file.
+fn written_fault(fault: Fault) -> Fault {
+    match fault {
+        Fault::Run(RunFault::Write) => Fault::File,
+        other => other,
     }
 }
 
-/// Writes the local form of an incoming file. A failed write is an error of the file.
-fn write_to<O: Office, W: Write>(
-    alloc: Global,
-    office: &mut O,
-    entry: &IncomingEntry,
-    out: &mut W,
-) -> Result<(), Fault> {
-    match write_content(alloc, office, entry, &mut Port::new(out, 0)) {
-        Err(RunFault::Write) => Err(Fault::File),
-        written => written.map_err(Fault::Run),
+impl Write for FetchedFile<'_> {
+    fn write(&mut self, octets: &[u8]) -> io::Result<usize> {
+        self.open();
+        let is_kept = match &mut self.target {
+            Target::Draft(_, draft) => return draft.file.write(octets),
+            Target::Memory(kept) => kept.extend_from_slice(octets).is_ok(),
+            Target::Unopened | Target::Failed(_) => {
+                return Err(io::Error::from(ErrorKind::Other));
+            }
+        };
+        if is_kept {
+            return Ok(octets.len());
+        }
+        self.target = Target::Failed(Fault::MEMORY);
+        Err(io::Error::from(ErrorKind::OutOfMemory))
+    }
+
+    fn flush(&mut self) -> io::Result<()> {
+        Ok(())
     }
 }

@@ -1,9 +1,9 @@
 //! The commands that one call of the program carries out: over a database that it opens itself, or by the station that has it locked.
 #![tactic(auto)]
 
-mod asking;
+mod backing;
 mod backups;
-mod clerks;
+mod beside;
 mod collecting;
 mod contents;
 mod fetching;
@@ -13,12 +13,10 @@ mod registers;
 mod services;
 mod sessions;
 
-pub use asking::{Asking, reached};
 pub use backups::back_up;
-pub use collecting::{collect, collect_beside};
-pub use contents::Content;
+pub use collecting::collect;
 pub use fetching::fetch;
-pub use offering::{offer, offer_beside};
+pub use offering::offer;
 pub use operators::{refuse, release, submit};
 pub use registers::{initiate, migrate, write_report};
 pub use services::{admission_of, call, http, listen, station_of, trace_of};

@@ -1,77 +1,50 @@
 //! The command `offer`, which submits the files of a folder, to be sent to a partner.
 
-use crate::clerks::{OwnClerk, StationClerk};
+use crate::backing::Backing;
 use oftp_command_line::Offer;
-use oftp_database as database;
-use oftp_files::{read_book, read_book_octets};
+use oftp_engine::Refusal;
+use oftp_files::read_book_octets;
 use oftp_folders::{self as folders, Folder};
-use oftp_outcomes::{FAILED, Fault, Outcome, status_where, tell, write_line};
+use oftp_outcomes::{Fault, Outcome, status_where, tell};
 use oftp_partners::Book;
 use std::io::Write;
 
-/// The line for a record length that the format doesn't allow.
-const NO_LENGTH: &str = "refused: 5 field";
-
-/// Offers files over the database, which is locked meanwhile. Returns the exit status.
+/// Offers files. Returns the exit status.
 ///
 /// # Errors
 /// [`Fault::Book`], [`Fault::File`] or [`Fault::Store`] if the book, the folder or the database can't be opened; those of
 /// [`folders::offer`].
 pub fn offer(rt: &HostRuntime, line: &Offer<'_>, out: &mut impl Write) -> Result<u8, Fault> {
-    let book = read_book(rt, line.files.book)?;
-    if let Some(status) = refused(&book, line, out)? {
-        return Ok(status);
-    }
-    let folder = Folder::held(rt, line.folder)?;
-    let outcome = offer_over(rt, line, &folder, &book, out);
-    folder.give_up(rt);
-    outcome
-}
-
-/// Offers files by the station that has the database locked. Returns the exit status.
-///
-/// # Errors
-/// [`Fault::Book`] or [`Fault::File`] if the book or the folder can't be opened; those of [`folders::offer`].
-pub fn offer_beside(rt: &HostRuntime, line: &Offer<'_>, out: &mut impl Write) -> Result<u8, Fault> {
     let (octets, book) = read_book_octets(rt, line.files.book)?;
-    if let Some(status) = refused(&book, line, out)? {
-        return Ok(status);
+    if let Some(refusal) = refusal_of(&book, line) {
+        return tell(Outcome::Refused(refusal), out);
     }
     let folder = Folder::held(rt, line.folder)?;
-    let clerk = StationClerk {
-        rt,
-        database: line.files.database,
-        book: octets.as_slice(),
-    };
-    let outcome = folders::offer(rt, line, &folder, clerk, out);
+    let outcome = offer_from(rt, line, &folder, octets.as_slice(), &book, out);
     folder.give_up(rt);
     Ok(status_where(outcome?))
 }
 
-/// Offers files over the database from a folder that is locked.
-fn offer_over(
-    rt: &HostRuntime,
-    line: &Offer<'_>,
+/// Offers the files of a folder that is locked. Returns whether none was refused.
+fn offer_from<'a>(
+    rt: &'a HostRuntime,
+    line: &Offer<'a>,
     folder: &Folder,
+    octets: &[u8],
     book: &Book,
     out: &mut impl Write,
-) -> Result<u8, Fault> {
-    let clerk = OwnClerk {
-        rt,
-        book,
-        life: database::live_shared(rt, line.files.database)?,
-    };
-    Ok(status_where(folders::offer(rt, line, folder, clerk, out)?))
+) -> Result<bool, Fault> {
+    let backing = Backing::opened(rt, line.files.database, Some(book))?;
+    folders::offer(rt, line, folder, octets, backing, out)
 }
 
-/// The exit status if no file at all can be offered with this command line. The refusal is printed then.
-fn refused(book: &Book, line: &Offer<'_>, out: &mut impl Write) -> Result<Option<u8>, Fault> {
+/// Why no file at all can be offered with this command line, if that is so.
+fn refusal_of(book: &Book, line: &Offer<'_>) -> Option<Refusal> {
     if book.partner(line.to.as_bytes()).is_none() {
-        return tell(Outcome::Unknown, out).map(Some);
+        Some(Refusal::Unknown)
+    } else if line.format.allows_longest(line.longest) {
+        None
+    } else {
+        Some(Refusal::Field)
     }
-    if !line.format.allows_longest(line.longest) {
-        write_line(out, &NO_LENGTH)?;
-        return Ok(Some(FAILED));
-    }
-    Ok(None)
 }

@@ -1,60 +1,26 @@
 //! The commands `submit`, `release` and `refuse`, which are operator's calls.
 
+use crate::backing::{Backing, outcome_in};
 use crate::contents::Content;
+use oftp_channel::Request;
 use oftp_command_line::{Files, Refuse, Release, Submit};
-use oftp_database::{self as database, DatabaseOffice};
-use oftp_engine::{Operator, Port, Submission, Told};
-use oftp_files::read_book;
-use oftp_life::Life;
-use oftp_outcomes::Fault;
-use oftp_partners::Book;
-use std::io::Write;
+use oftp_engine::{Operator, Submission};
+use oftp_files::read_book_octets;
+use oftp_outcomes::{Fault, Outcome};
+use oftp_requests::Backend;
+use std::io;
 
-/// Reads the book, opens the database, and begins a life with it.
-fn opened(rt: &HostRuntime, files: &Files<'_>) -> Result<(Book, Life<DatabaseOffice>), Fault> {
-    let book = read_book(rt, files.book)?;
-    let life = database::live_shared(rt, files.database)?;
-    Ok((book, life))
-}
-
-/// Carries out an operator's call, writes its line, and closes the database.
-fn call(
-    rt: &HostRuntime,
-    mut life: Life<DatabaseOffice>,
-    book: &Book,
-    operator: &Operator<'_>,
-    out: &mut impl Write,
-) -> Result<Told, Fault> {
-    let mut port = Port::new(out, 0);
-    life.order(rt.alloc(), book, operator, &mut port)
-        .map_err(Fault::Run)
-}
-
-/// Does an operator's job with the database that a command line names.
-fn operate(
-    rt: &HostRuntime,
-    files: &Files<'_>,
-    operator: &Operator<'_>,
-    out: &mut impl Write,
-) -> Result<Told, Fault> {
-    let (book, life) = opened(rt, files)?;
-    call(rt, life, &book, operator, out)
-}
-
-/// Registers a file with this content to be sent to a partner, and writes the line that says so.
+/// Submits a file. What is read of a pipe is read before the database is opened.
 ///
 /// # Errors
-/// [`Fault::Book`], [`Fault::File`] or [`Fault::Store`] if the book, the file or the database can't be opened; those of
-/// [`Life::order`].
-pub fn submit(
-    rt: &HostRuntime,
-    submit: &Submit<'_>,
-    content: &mut Content,
-    out: &mut impl Write,
-) -> Result<Told, Fault> {
-    let (book, life) = opened(rt, &submit.files)?;
+/// [`Fault::Book`], [`Fault::Store`] or [`Fault::File`] if the book, the database or the file can't be read; [`Fault::Run`] if the office
+/// failed or the station is gone; [`Fault::MEMORY`].
+pub fn submit<'a>(rt: &'a HostRuntime, submit: &Submit<'a>) -> Result<Outcome, Fault> {
+    let mut content = Content::of(rt, submit);
+    let (octets, book) = read_book_octets(rt, submit.files.book)?;
+    let mut backing = Backing::opened(rt, submit.files.database, Some(&book))?;
     let content = content.take(rt, submit)?;
-    let operator = Operator::Submit(Submission {
+    let call = Operator::Submit(Submission {
         dataset: submit.dataset,
         date: submit.date,
         time: submit.time,
@@ -64,31 +30,48 @@ pub fn submit(
         description: submit.description,
         content: content.as_slice(),
     });
-    call(rt, life, &book, &operator, out)
+    carried_out(&mut backing, octets.as_slice(), call)
 }
 
-/// Issues the End-to-End Response of an incoming file, and writes the line that says so.
+/// Issues the End-to-End Response of an incoming file.
 ///
 /// # Errors
-/// [`Fault::Book`], [`Fault::File`] or [`Fault::Store`] if the book or the database can't be opened; those of [`Life::order`].
-pub fn release(
-    rt: &HostRuntime,
-    release: &Release<'_>,
-    out: &mut impl Write,
-) -> Result<Told, Fault> {
-    let operator = Operator::Release { no: release.no };
-    operate(rt, &release.files, &operator, out)
+/// Those of [`submit`] but for its file.
+pub fn release<'a>(rt: &'a HostRuntime, release: &Release<'a>) -> Result<Outcome, Fault> {
+    let call = Operator::Release { no: release.no };
+    respond(rt, &release.files, call)
 }
 
-/// Issues the Negative End Response of an incoming file, and writes the line that says so.
+/// Issues the Negative End Response of an incoming file.
 ///
 /// # Errors
 /// Those of [`release`].
-pub fn refuse(rt: &HostRuntime, refuse: &Refuse<'_>, out: &mut impl Write) -> Result<Told, Fault> {
-    let operator = Operator::Refuse {
+pub fn refuse<'a>(rt: &'a HostRuntime, refuse: &Refuse<'a>) -> Result<Outcome, Fault> {
+    let call = Operator::Refuse {
         no: refuse.no,
         reason: refuse.reason,
         text: refuse.text,
     };
-    operate(rt, &refuse.files, &operator, out)
+    respond(rt, &refuse.files, call)
+}
+
+/// Issues a response.
+fn respond<'a>(
+    rt: &'a HostRuntime,
+    files: &Files<'a>,
+    call: Operator<'_>,
+) -> Result<Outcome, Fault> {
+    let (octets, book) = read_book_octets(rt, files.book)?;
+    let mut backing = Backing::opened(rt, files.database, Some(&book))?;
+    carried_out(&mut backing, octets.as_slice(), call)
+}
+
+/// Has an operator's call carried out, by a book.
+fn carried_out(
+    backing: &mut Backing<'_, '_>,
+    book: &[u8],
+    call: Operator<'_>,
+) -> Result<Outcome, Fault> {
+    let asked = backing.ask(&Request::Operate { book, call }, &mut io::sink());
+    outcome_in(asked)
 }

@@ -1,19 +1,23 @@
 //! The commands `init`, `migrate` and `report`, which only need a database.
 
+use crate::backing::{Backing, outcome_in};
+use crate::beside::GONE;
+use oftp_channel::{Ending, Request};
 use oftp_command_line::Report;
 use oftp_database::{self as database, PATIENCE};
-use oftp_engine::Port;
-use oftp_listing::report;
+use oftp_engine::RunFault;
 use oftp_outcomes::{Fault, Outcome};
-use std::io::Write;
+use oftp_requests::Backend;
+use std::io::{self, Write};
 
 /// Opens a database and creates its tables, unless it has them.
 ///
 /// # Errors
-/// Those of [`database::open_shared`].
-pub fn initiate(rt: &HostRuntime, database: &str) -> Result<Outcome, Fault> {
-    database::open_shared(rt, database)?;
-    Ok(Outcome::Initiated)
+/// [`Fault::Store`] if it can't be opened; [`Fault::Run`] if the station is gone; [`Fault::MEMORY`].
+pub fn initiate<'a>(rt: &'a HostRuntime, database: &'a str) -> Result<Outcome, Fault> {
+    let mut backing = Backing::opened(rt, database, None)?;
+    let asked = backing.ask(&Request::Init, &mut io::sink());
+    outcome_in(asked)
 }
 
 /// Migrates a database of schema 1 to schema 2.
@@ -28,13 +32,19 @@ pub fn migrate(rt: &HostRuntime, database: &str) -> Result<Outcome, Fault> {
 /// Writes a report of a database.
 ///
 /// # Errors
-/// Those of [`database::live_shared`] and [`report`].
-pub fn write_report(
-    rt: &HostRuntime,
-    what: &Report<'_>,
+/// [`Fault::Store`] if it can't be opened; [`Fault::Run`] if the office failed, the station is gone or `out` returned an error;
+/// [`Fault::MEMORY`]. A beginning is written then.
+pub fn write_report<'a>(
+    rt: &'a HostRuntime,
+    what: &Report<'a>,
     out: &mut impl Write,
 ) -> Result<(), Fault> {
-    let mut life = database::live_shared(rt, what.database)?;
-    report(rt.alloc(), what.kind, &mut life, &mut Port::new(out, 0))?;
-    Ok(())
+    let mut backing = Backing::opened(rt, what.database, None)?;
+    let Ending::Listed = backing.ask(&Request::Report(what.kind), out)? else {
+        return Err(GONE);
+    };
+    match out.flush() {
+        Ok(()) => Ok(()),
+        Err(_) => Err(Fault::Run(RunFault::Write)),
+    }
 }

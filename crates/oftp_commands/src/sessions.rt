@@ -2,7 +2,7 @@
 
 use oftp_command_line::{Feed, Side};
 use oftp_database::{self as database, DatabaseOffice, PATIENCE};
-use oftp_engine::{End, Port, Role, serve_in_memory};
+use oftp_engine::{End, Port, Refusal, Role, serve_in_memory};
 use oftp_files::{
     LIMITS, Trace, Traced, are_of_one_file, file_fault, is_at, is_of_database, open_input,
     open_trace, read_book,
@@ -24,7 +24,7 @@ use std::rt::Files;
 pub fn feed(rt: &HostRuntime, line: &Feed<'_>) -> Result<Outcome, Fault> {
     let book = read_book(rt, line.book)?;
     let Some(role) = role_of(&book, line) else {
-        return Ok(Outcome::Unknown);
+        return Ok(Outcome::Refused(Refusal::Unknown));
     };
     match line.database {
         Some(path) => feed_durable(rt, line, &book, role, database::live(rt, path, PATIENCE)?),

@@ -1,6 +1,6 @@
 //! The calls of a life over a database.
 
-ghost use Rattle.std.specs.Prelude.{◌≡◌, ◌≢◌, ◌≤◌, ◌↔◌, ℕ, Bool, IfErr, IfOk, List, [], ◌∷◌, false};
+ghost use Rattle.std.specs.Prelude.{◌≡◌, ◌≢◌, ◌≤◌, ◌↔◌, ℕ, Bool, IfErr, IfOk, List, [], ◌∷◌, false, true};
 ghost use Rattle.sqlite.specs.Files.{HoldsDatabase, over_files};
 ghost use Rattle.sqlite.specs.State.{HasCleanDisk};
 ghost use Rattle.sqlite.specs.Tree.{Trees};
@@ -15,9 +15,11 @@ ghost use Rattle.oftp_store.specs.Opens.{Has, HoldsNoTable, HoldsTaken, IsOpenab
 ghost use Rattle.oftp_store.specs.Paths.{IsKept};
 ghost use Rattle.oftp_store.specs.Shown.{database_of, limits_of, shown};
 ghost use Rattle.oftp_engine.specs.Openings.{of_caller};
+ghost use Rattle.oftp_engine.specs.Operated.{Operates};
 ghost use Rattle.oftp_engine.specs.Served.{IsPrefix, setting_of};
+ghost use Rattle.oftp_engine.specs.Serving.{scene};
 ghost use Rattle.oftp_life.specs.Acts.{Act, Conversed};
-ghost use Rattle.oftp_life.specs.Lives.{HasLeft, Heard, answer_of, is_over_at};
+ghost use Rattle.oftp_life.specs.Lives.{HasLeft, Heard, answer_of, ends_life, is_over_at};
 ghost use Rattle.oftp_life.specs.Noted.{with_call};
 ghost use Rattle.oftp_life.specs.Outboxes.{octets_out};
 ghost use Rattle.oftp_durable.specs.LifeTables.{AllLeaves, HasDoneNothing, LifeBegins, StageLeaves};
@@ -220,7 +222,12 @@ pub fn order_durable<S: Alter, W: Write>(
     writer: &mut Port<W>,
 ) -> Result<Told, RunFault>
     ensures acts { life.old.over ≡ false → life.new.acts ≡ with_call book.now call.now life.old.acts result }
+    ensures over { life.old.over ≡ false → life.new.over ≡ ends_life result }
+    ensures idle { life.old.over ≡ true → (life.new ≡ life.old) × (result ≡ Err RunFault.Office) }
     ensures began { life.new.began ≡ life.old.began }
+    // The call does over this database what it does over any office.
+    ensures operates { life.old.over ≡ false → HasCleanDisk (database_of S.Store life.new.office) → (r : Register) → Has (limits_of life.old.office) r (database_of S.Store life.old.office)
+        → Operates book.now call.now (scene W.contents (shown S.Store life.old.office) writer.old) (scene W.contents (shown S.Store life.new.office) writer.new) result }
     // The headline.
     ensures leaves { HasCleanDisk (database_of S.Store life.new.office) → (r : Register) → Has (limits_of life.new.began) r (database_of S.Store life.new.began)
         → AllLeaves r life.new.acts life.new.over (limits_of life.new.office) (database_of S.Store life.new.office) }

@@ -1,29 +1,25 @@
 -- Among others the promise of two stations isn't kept of all files: a file of a third partner may be whole at the one.
-use Rattle.std.proofs.Common.{◌≡◌, ℕ, suc, ◌+◌, ◌<◌, ◌≤◌, Bool, true, false, cond, nat_le, List, [], ◌∷◌, ◌++◌, length, Option, None, Some, Result, Ok, Err, refl, ap, sym, ◌∙◌, subst, inl, inr, arith}
+use Rattle.std.proofs.Common.{◌≡◌, ℕ, suc, ◌≤◌, Bool, true, false, cond, nat_le, List, [], ◌∷◌, length, Option, None, Some, Result, Ok, Err, refl, ap, sym, ◌∙◌, subst, inl, inr, arith}
 use Rattle.std.proofs.lemmas.Bool.{cases_Bool, cond-true, cond-false}
 use Rattle.std.proofs.lemmas.Bool.Decides.{nat_tests}
 use Rattle.std.proofs.lemmas.List.Elements.{All-cons, All-nil}
 use Rattle.std.proofs.lemmas.Slice.Eq.{bytes_eq-Decides}
 use Rattle.std.specs.Str.{bytes_eq}
-use Rattle.oftp_partners.specs.Book.{BookData}
-use Rattle.oftp_partners.specs.declared.partner.Partner.{Partner}
 use Rattle.oftp_vfile.specs.declared.format.Format.TheVariants.{Unstructured}
-use Rattle.oftp_vfile.specs.declared.format.Limits.{Limits}
 use Rattle.oftp_register.specs.declared.change.Cause.{Cause}
-use Rattle.oftp_register.specs.declared.change.Cause.TheVariants.{State, Full}
-use Rattle.oftp_register.specs.declared.change.Change.{Change}
+use Rattle.oftp_register.specs.declared.change.Cause.TheVariants.{Full}
 use Rattle.oftp_register.specs.declared.change.Change.TheVariants as change
 use Rattle.oftp_register.specs.declared.entry.Identity.{Identity}
-use Rattle.oftp_register.specs.declared.entry.IncomingState.TheVariants.{Open, Whole}
+use Rattle.oftp_register.specs.declared.entry.IncomingState.TheVariants.{Whole}
 use Rattle.oftp_register.specs.Register.{Incoming, Register, empty, same_identity}
-use Rattle.oftp_register.specs.ByIdentity.{in_at, out_at}
-use Rattle.oftp_register.specs.Changes.{apply, begun, mapped, new_incoming, started_in}
+use Rattle.oftp_register.specs.ByIdentity.{in_at}
+use Rattle.oftp_register.specs.Changes.{apply, mapped, new_incoming, started_in}
 use Rattle.oftp_register.specs.Soundness.{IsSound, IsSoundIncoming}
 use Rattle.oftp_register.proofs.ByIdentityLemmas.{same_self}
 use Rattle.oftp_register.proofs.NameLemmas.{same_identity-true}
 use Rattle.oftp_engine.specs.Promise.{CodesAreNeeded, ContentIsKept, world_of}
 use Rattle.oftp_engine.specs.TwoStations.{IfAny}
-use Rattle.oftp_engine.specs.World.{Deals, Dealings, Event, LeavesFilesOf, World, after_events, without_session}
+use Rattle.oftp_engine.specs.World.{Deals, Dealings, LeavesFilesOf, World, after_events, without_session}
 use Rattle.oftp_engine.proofs.Apart.{apart_self}
 
 -- a file of a third partner, whose code is one octet longer than this one

@@ -16,7 +16,6 @@ use Rattle.oftp_register.specs.Offices.{Commits, Only, View, WithOrWithout, next
 use Rattle.oftp_register.specs.Soundness.{IsFit}
 use Rattle.oftp_session.specs.Calls.{Makes}
 use Rattle.oftp_engine.specs.declared.operating.Operator.{Operator}
-use Rattle.oftp_engine.specs.declared.operating.Outcome.{Outcome}
 use Rattle.oftp_engine.specs.declared.operating.Told.{Told}
 use Rattle.oftp_io.specs.declared.port.Port.{Port}
 use Rattle.oftp_engine.specs.declared.serving.RunFault.{RunFault}
@@ -24,7 +23,7 @@ use Rattle.oftp_engine.specs.declared.serving.RunFault.TheVariants as fault
 use Rattle.oftp_io.specs.Ports.{Sent}
 use Rattle.oftp_engine.specs.Serving.{Took, scene}
 use Rattle.oftp_engine.specs.Operating.{Deed, IsDeed, decided, makes, refused, released}
-use Rattle.oftp_engine.specs.InsideOperating.{verb_of, Attempts, AttemptsErr, MayFail, came_out, line_as, told_as}
+use Rattle.oftp_engine.specs.InsideOperating.{verb_of, Attempts, AttemptsErr, MayFail, came_out, line_as}
 use Rattle.oftp_engine.specs.Operated.{Operates, OperatesErr}
 use Rattle.oftp_io.proofs.Bytes.{appends_none}
 
@@ -82,7 +81,7 @@ module _ {T : Type 0} (verb : List ℕ) (n : ℕ) (change : Change) (old new : V
   decides (Err office.Memory) c clean stood fit = leaves_open verb n change old new (c.same clean stood) (c.left clean stood fit) c.counts
 
 -- what the office does with a response to the file with a number
-module _ (old new : View) (n reason : ℕ) (text : List ℕ) (result : Result Outcome RunFault) where
+module _ (old new : View) (n reason : ℕ) (text : List ℕ) (result : Result Told RunFault) where
   abbrev Issues : List ℕ → ResponseKind → ℕ → List ℕ → Type 0
   Issues verb kind reason text = Attempts verb (λ (deed : Deed). deed ≡ makes verb n (change.Issue n kind reason text) old.register) old new result
 
@@ -111,11 +110,11 @@ module _ (old new : View) (n reason : ℕ) (text : List ℕ) (result : Result Ou
 
 -- the line of the office's decision
 module _ {W : Type 0} (contents : W → Option (List ℕ)) (a d : Port W) (x y : View) (book : BookData) (call : Operator) where
-  pub operated : (outcome : Outcome) (result : Result Told RunFault) → (y.stands → Only y.register y)
-      → Attempts (verb_of call) (IsDeed book x.register call) x y (let r : Result Outcome RunFault = Ok outcome in r)
-      → Sent contents a d (line_as (verb_of call) outcome) (is_ok result) → IfOk result (λ t. t ≡ told_as outcome) → IfErr result (λ f. f ≡ fault.Write)
+  pub operated : (told' : Told) (result : Result Told RunFault) → (y.stands → Only y.register y)
+      → Attempts (verb_of call) (IsDeed book x.register call) x y (let r : Result Told RunFault = Ok told' in r)
+      → Sent contents a d (line_as (verb_of call) told') (is_ok result) → IfOk result (λ t. t ≡ told') → IfErr result (λ f. f ≡ fault.Write)
       → Operates book call (scene contents x a) (scene contents y d) result
-  operated outcome (Ok told) alone decided sent is err = (
+  operated told' (Ok told) alone decided sent is err = (
     decided.0,
     decided.1,
     record {
@@ -128,7 +127,7 @@ module _ {W : Type 0} (contents : W → Option (List ℕ)) (a d : Port W) (x y :
       unfailed = sent.faults;
     },
   )
-  operated outcome (Err f) alone decided sent is err = subst (OperatesErr book call (scene contents x a) (scene contents y d)) (sym err) (
+  operated told' (Err f) alone decided sent is err = subst (OperatesErr book call (scene contents x a) (scene contents y d)) (sym err) (
     decided.0,
     decided.1,
     record {

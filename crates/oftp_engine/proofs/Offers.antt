@@ -28,10 +28,10 @@ use Rattle.oftp_register.specs.Soundness.{IsFile, IsFit}
 use Rattle.oftp_register.proofs.AdditionLemmas.{submitted_ok}
 use Rattle.oftp_register.proofs.ByIdentityLemmas.{same_self}
 use Rattle.oftp_session.specs.Calls.{Makes}
-use Rattle.oftp_engine.specs.declared.operating.Outcome.{Outcome}
-use Rattle.oftp_engine.specs.declared.operating.Outcome.TheVariants as outcome
 use Rattle.oftp_engine.specs.declared.operating.Refusal.{Refusal}
 use Rattle.oftp_engine.specs.declared.operating.Refusal.TheVariants as refusal
+use Rattle.oftp_engine.specs.declared.operating.Told.{Told}
+use Rattle.oftp_engine.specs.declared.operating.Told.TheVariants as told
 use Rattle.oftp_engine.specs.declared.serving.RunFault.{RunFault}
 use Rattle.oftp_engine.specs.declared.serving.RunFault.TheVariants as fault
 use Rattle.oftp_engine.specs.declared.submitting.Fields.{Fields}
@@ -112,7 +112,7 @@ module _ (identity : Identity) (s : Submission) (rows : List (List ℕ)) where
       (finds_new identity 1 r.outgoing file added.0 (same_self identity))
 
 -- a call that does something of one kind does something of a wider kind
-pub attempts_as : (verb : List ℕ) (P Q : Deed → Type 0) (old new : View) (result : Result Outcome RunFault) → ((deed : Deed) → P deed → Q deed)
+pub attempts_as : (verb : List ℕ) (P Q : Deed → Type 0) (old new : View) (result : Result Told RunFault) → ((deed : Deed) → P deed → Q deed)
     → Attempts verb P old new result → Attempts verb Q old new result
 attempts_as verb P Q old new (Ok out) f a = (a.0, f a.0 a.1, a.2)
 attempts_as verb P Q old new (Err fault.Read) f a = a
@@ -121,12 +121,12 @@ attempts_as verb P Q old new (Err fault.Office) f a = (a.0, f a.0 a.1, a.2)
 attempts_as verb P Q old new (Err fault.Memory) f a = a
 
 -- a refusal before the office was called
-pub refuses_now : (verb : List ℕ) (P : Deed → Type 0) (now : View) (reason : Refusal) → now.stands → P (refuses reason) → Attempts verb P now now (Ok (outcome.Refused reason))
+pub refuses_now : (verb : List ℕ) (P : Deed → Type 0) (now : View) (reason : Refusal) → now.stands → P (refuses reason) → Attempts verb P now now (Ok (told.Refused reason))
 refuses_now verb P now reason stood is = (refuses reason, is, record { told = refl; line = refl; register = refl; stands = stood; faults = refl })
 
 -- the office returned an error in a call that changes nothing
 faults_unchanged : (verb : List ℕ) (deed : Deed) (old new : View) → deed.change ≡ None → (new.is_open → new.register ≡ old.register) → Only old.register new
-    → new.told ≡ next_count old.told → Attempts verb (λ (d : Deed). d ≡ deed) old new (let r : Result Outcome RunFault = Err fault.Office in r)
+    → new.told ≡ next_count old.told → Attempts verb (λ (d : Deed). d ≡ deed) old new (let r : Result Told RunFault = Err fault.Office in r)
 faults_unchanged verb deed old new none same left counts = (
   deed,
   refl,
@@ -181,7 +181,7 @@ module _ (identity : Identity) (s : Submission) (rows : List (List ℕ)) (old mi
 
   -- the office returned an error in the look-up
   faults_made : apply old.register change' ≡ Ok mid.register → (new.is_open → new.register ≡ mid.register) → Only mid.register new → new.told ≡ next_count old.told
-      → Attempts verb' (λ (deed : Deed). deed ≡ registered identity s rows old.register) old new (let r : Result Outcome RunFault = Err fault.Office in r)
+      → Attempts verb' (λ (deed : Deed). deed ≡ registered identity s rows old.register) old new (let r : Result Told RunFault = Err fault.Office in r)
   faults_made made same left counts =
       let is : registered identity s rows old.register ≡ decided verb' number change' (Ok mid.register) = ap (decided verb' number change') made in (
         registered identity s rows old.register,
@@ -213,7 +213,7 @@ module _ (identity : Identity) (s : Submission) (rows : List (List ℕ)) (old mi
         registered identity s rows old.register,
         refl,
         record {
-          told = sym (ap (λ (deed : Deed). deed.told) is);
+          told = ap (λ (e : OutgoingEntry). told.Done e.no) entry ∙ sym (ap (λ (deed : Deed). deed.told) is);
           line = ap (λ (e : OutgoingEntry). done_line verb' e.no) entry ∙ sym (ap (λ (deed : Deed). deed.line) is);
           register = subst (λ (deed : Deed). Makes deed.change old.register new.register) (sym is) (made ∙ ap Ok (sym (l.register clean stood (new.opens stands))));
           stands = stands;
@@ -353,7 +353,7 @@ arrived book s read offer p code identity is some value same named =
     record { offered = offered; found = ap is_some to.found; named = named ∙ to.named }
 
 -- such a file exceeds the limits and is refused, or it is registered
-module _ (book : BookData) (s : Submission) (offer : Offer) (identity : Identity) (it : IsArrived book s offer identity) (old new : View) (result : Result Outcome RunFault) where
+module _ (book : BookData) (s : Submission) (offer : Offer) (identity : Identity) (it : IsArrived book s offer identity) (old new : View) (result : Result Told RunFault) where
   pub attempts_big : is_too_big old.register.limits offer.rows ≡ true
       → Attempts (codes "done: submit ") (λ deed. deed ≡ cond (is_outgoing old.register identity) (refuses refusal.Duplicate) (refuses refusal.Limit)) old new result
       → Attempts (codes "done: submit ") (Submits book old.register s) old new result

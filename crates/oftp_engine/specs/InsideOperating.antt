@@ -6,8 +6,6 @@ use Rattle.oftp_register.specs.Offices.{View, next_count}
 use Rattle.oftp_session.specs.Calls.{IsBefore, Makes}
 use Rattle.oftp_engine.specs.declared.operating.Operator.{Operator}
 use Rattle.oftp_engine.specs.declared.operating.Told.{Told}
-use Rattle.oftp_engine.specs.declared.operating.Outcome.{Outcome}
-use Rattle.oftp_engine.specs.declared.operating.Outcome.TheVariants as outcome
 use Rattle.oftp_engine.specs.declared.operating.Told.TheVariants as told
 use Rattle.oftp_engine.specs.declared.serving.RunFault.{RunFault}
 use Rattle.oftp_engine.specs.declared.serving.RunFault.TheVariants as fault
@@ -21,19 +19,15 @@ verb_of (operator.Submit submission) = codes "done: submit "
 verb_of (operator.Release n) = codes "done: release "
 verb_of (operator.Refuse n reason text) = codes "done: refuse "
 
--- what is returned for a result, and its line
-abbrev pub told_as : Outcome → Told
-told_as (outcome.Done n) = told.Done
-told_as (outcome.Refused refusal) = told.Refused refusal
-
-abbrev pub line_as : List ℕ → Outcome → List ℕ
-line_as verb (outcome.Done n) = done_line verb n
-line_as verb (outcome.Refused refusal) = refusal_line refusal
+-- the line of a result
+abbrev pub line_as : List ℕ → Told → List ℕ
+line_as verb (told.Done n) = done_line verb n
+line_as verb (told.Refused refusal) = refusal_line refusal
 
 -- the office decided
-pub record IsDecided (verb : List ℕ) (deed : Deed) (old new : View) (outcome : Outcome) : Type 0 where
-  pub told : told_as outcome ≡ deed.told
-  pub line : line_as verb outcome ≡ deed.line
+pub record IsDecided (verb : List ℕ) (deed : Deed) (old new : View) (told' : Told) : Type 0 where
+  pub told : told' ≡ deed.told
+  pub line : line_as verb told' ≡ deed.line
   pub register : Makes deed.change old.register new.register
   pub stands : new.stands
   pub faults : new.told ≡ old.told
@@ -63,16 +57,16 @@ MayFail call fault.Office = ⊤
 MayFail call fault.Memory = NeedsMemory call
 
 -- the result of a commit of a change of the file with a number
-abbrev pub came_out_as : ℕ → OfficeFault → Result Outcome RunFault
+abbrev pub came_out_as : ℕ → OfficeFault → Result Told RunFault
 came_out_as n office.Store = Err fault.Office
 came_out_as n office.Memory = Err fault.Office
-came_out_as n (office.Refused cause) = Ok (outcome.Refused (refusal_of cause))
+came_out_as n (office.Refused cause) = Ok (told.Refused (refusal_of cause))
 
-abbrev pub came_out : {T : Type 0} → ℕ → Result T OfficeFault → Result Outcome RunFault
-came_out n (Ok x) = Ok (outcome.Done n)
+abbrev pub came_out : {T : Type 0} → ℕ → Result T OfficeFault → Result Told RunFault
+came_out n (Ok x) = Ok (told.Done n)
 came_out n (Err fault) = came_out_as n fault
 
 -- a call was tried that does a deed of this kind
-abbrev pub Attempts : List ℕ → (Deed → Type 0) → View → View → Result Outcome RunFault → Type 0
-Attempts verb IsIt old new (Ok outcome) = (deed : Deed) × IsIt deed × IsDecided verb deed old new outcome
+abbrev pub Attempts : List ℕ → (Deed → Type 0) → View → View → Result Told RunFault → Type 0
+Attempts verb IsIt old new (Ok told') = (deed : Deed) × IsIt deed × IsDecided verb deed old new told'
 Attempts verb IsIt old new (Err fault) = AttemptsErr IsIt old new fault

@@ -6,9 +6,9 @@ use Rattle.oftp_vfile.specs.LocalForm.{IsLocal}
 use Rattle.oftp_register.specs.declared.entries.OutgoingEntry.{OutgoingEntry}
 use Rattle.oftp_register.specs.declared.entry.Identity.{Identity}
 use Rattle.oftp_register.specs.declared.office.OfficeFault.{OfficeFault}
-use Rattle.oftp_engine.specs.declared.operating.Outcome.{Outcome}
-use Rattle.oftp_engine.specs.declared.operating.Outcome.TheVariants as outcome
 use Rattle.oftp_engine.specs.declared.operating.Refusal.TheVariants as refusal
+use Rattle.oftp_engine.specs.declared.operating.Told.{Told}
+use Rattle.oftp_engine.specs.declared.operating.Told.TheVariants as told
 use Rattle.oftp_engine.specs.declared.serving.RunFault.{RunFault}
 use Rattle.oftp_engine.specs.declared.serving.RunFault.TheVariants as fault
 use Rattle.oftp_engine.specs.declared.submitting.Fields.{Fields}
@@ -34,13 +34,13 @@ abbrev pub named_by : BookData → Partner → Fields → Identity
 named_by book partner fields = record { dataset = fields.dataset; date = fields.date; time = fields.time; originator = book.station.code; destination = partner.code }
 
 -- the result for a file that exceeds the limits, once its identity was looked up
-abbrev pub came_big : Result (Option OutgoingEntry) OfficeFault → Result Outcome RunFault
-came_big (Ok None) = Ok (outcome.Refused refusal.Limit)
-came_big (Ok (Some file)) = Ok (outcome.Refused refusal.Duplicate)
-came_big (Err told) = Err fault.Office
+abbrev pub came_big : Result (Option OutgoingEntry) OfficeFault → Result Told RunFault
+came_big (Ok None) = Ok (told.Refused refusal.Limit)
+came_big (Ok (Some file)) = Ok (told.Refused refusal.Duplicate)
+came_big (Err e) = Err fault.Office
 
 -- the result for a registered file, once its number was looked up; it is found, if the store reads what was written
-abbrev pub came_numbered : Result (Option OutgoingEntry) OfficeFault → Result Outcome RunFault
+abbrev pub came_numbered : Result (Option OutgoingEntry) OfficeFault → Result Told RunFault
 came_numbered (Ok None) = Err fault.Office
-came_numbered (Ok (Some file)) = Ok (outcome.Done file.no)
-came_numbered (Err told) = Err fault.Office
+came_numbered (Ok (Some file)) = Ok (told.Done file.no)
+came_numbered (Err e) = Err fault.Office

@@ -29,13 +29,17 @@ pub record Deed : Type 0 where
   pub told : Told
   pub line : List ℕ
 
+-- a refusal in words
+abbrev pub refusal_phrase : Refusal → List ℕ
+refusal_phrase refusal.Duplicate = codes "refused: 1 duplicate"
+refusal_phrase refusal.Unknown = codes "refused: 2 unknown"
+refusal_phrase refusal.State = codes "refused: 3 state"
+refusal_phrase refusal.Limit = codes "refused: 4 limit"
+refusal_phrase refusal.Field = codes "refused: 5 field"
+
 -- the line of a refusal
 abbrev pub refusal_line : Refusal → List ℕ
-refusal_line refusal.Duplicate = codes "refused: 1 duplicate\n"
-refusal_line refusal.Unknown = codes "refused: 2 unknown\n"
-refusal_line refusal.State = codes "refused: 3 state\n"
-refusal_line refusal.Limit = codes "refused: 4 limit\n"
-refusal_line refusal.Field = codes "refused: 5 field\n"
+refusal_line refusal = refusal_phrase refusal ++ codes "\n"
 
 abbrev pub refuses : Refusal → Deed
 refuses refusal = record { change = None; told = told.Refused refusal; line = refusal_line refusal }
@@ -51,9 +55,9 @@ refusal_of cause.Unknown = refusal.Unknown
 refusal_of cause.State = refusal.State
 refusal_of cause.Full = refusal.Limit
 
--- a change is made, or refused as the register refuses it
+-- a change of the file with a number is made, or refused as the register refuses it
 abbrev pub decided : List ℕ → ℕ → Change → Result Register Cause → Deed
-decided verb n change (Ok after) = record { change = Some change; told = told.Done; line = done_line verb n }
+decided verb n change (Ok after) = record { change = Some change; told = told.Done n; line = done_line verb n }
 decided verb n change (Err cause) = refuses (refusal_of cause)
 
 abbrev pub makes : List ℕ → ℕ → Change → Register → Deed

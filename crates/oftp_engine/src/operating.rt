@@ -1,12 +1,12 @@
 //! An operator's calls on a register, and the lines that report them.
 
-ghost use Rattle.std.specs.Prelude.{◌≡◌, ◌≤◌, ℕ, List, length, codes, IfOk, IfErr, is_ok};
+ghost use Rattle.std.specs.Prelude.{◌≡◌, ◌≤◌, ℕ, List, length, codes, IfOk, IfErr, Some, is_ok};
 ghost use Rattle.oftp_register.specs.Soundness.{IsFit};
 ghost use Rattle.oftp_io.specs.Ports.{Puts, Sent};
 ghost use Rattle.oftp_engine.specs.Served.{WriterTold};
 ghost use Rattle.oftp_engine.specs.Serving.{scene};
-ghost use Rattle.oftp_engine.specs.Operating.{IsDeed, done_line, makes, refusal_line, refusal_of, refused, released};
-ghost use Rattle.oftp_engine.specs.InsideOperating.{verb_of, Attempts, MayFail, came_out, line_as, told_as};
+ghost use Rattle.oftp_engine.specs.Operating.{IsDeed, done_line, makes, refusal_line, refusal_of, refusal_phrase, refused, released};
+ghost use Rattle.oftp_engine.specs.InsideOperating.{verb_of, Attempts, MayFail, came_out, line_as};
 ghost use Rattle.oftp_engine.specs.Operated.{Operates};
 
 use crate::serving::RunFault;
@@ -18,7 +18,11 @@ use oftp_partners::Book;
 use oftp_register::{Cause, Change, Office, OfficeFault, ResponseKind};
 use oftp_wire::{Count, Text};
 use std::alloc::Global;
+use std::fmt;
 use std::io::Write;
+
+// Room for each line that reports a call: a verb, a number and a line end.
+type CallLine = ArrayVec<u8, 48>;
 
 /// A call of an operator.
 #[derive(Clone, Copy, Drop)]
@@ -59,16 +63,9 @@ pub enum Refusal {
 /// The result of a call.
 #[derive(Clone, Copy, Debug, Drop, PartialEq, Eq)]
 pub enum Told {
-    /// The call was carried out.
-    Done,
-    /// The call was refused, and nothing was changed.
-    Refused(Refusal),
-}
-
-// The result of a call before its line is written. A call that was carried out has the number of its file.
-#[derive(Clone, Copy, Drop)]
-pub(crate) enum Outcome {
+    /// The call was carried out. Its file has this number: the new outgoing file of a submission, else the incoming file.
     Done(u64),
+    /// The call was refused, and nothing was changed.
     Refused(Refusal),
 }
 
@@ -86,17 +83,38 @@ impl From<Cause> for Refusal {
 }
 
 impl Refusal {
-    // The line that reports the refusal.
-    fn line(self) -> &'static [u8]
-        ensures { result.now ≡ refusal_line self }
+    // The line that reports the refusal, without its line end.
+    fn phrase(self) -> &'static str
+        ensures phrase { result.now ≡ refusal_phrase self }
+        ensures short { length result.now ≤ 20 }
     {
         match self {
-            Refusal::Duplicate => b"refused: 1 duplicate\n",
-            Refusal::Unknown => b"refused: 2 unknown\n",
-            Refusal::State => b"refused: 3 state\n",
-            Refusal::Limit => b"refused: 4 limit\n",
-            Refusal::Field => b"refused: 5 field\n",
+            Refusal::Duplicate => "refused: 1 duplicate",
+            Refusal::Unknown => "refused: 2 unknown",
+            Refusal::State => "refused: 3 state",
+            Refusal::Limit => "refused: 4 limit",
+            Refusal::Field => "refused: 5 field",
         }
+    }
+
+    // The line that reports the refusal. It allocates nothing.
+    fn line(self) -> CallLine
+        ensures { result.items ≡ refusal_line self }
+    {
+        let mut line = ArrayVec::new();
+        let phrase = self.phrase();
+        let _ = line.try_extend_from_slice(phrase.as_bytes());
+        let _ = line.try_extend_from_slice(b"\n");
+        line
+    }
+}
+
+/// Shows the line that reports the refusal, without its line end.
+impl fmt::Display for Refusal {
+    ghost output = { λ refusal. Some (refusal_phrase refusal) };
+
+    fn fmt<W: fmt::Write>(&self, f: &mut fmt::Formatter<W>) -> fmt::Result {
+        f.write_str(self.phrase())
     }
 }
 
@@ -115,7 +133,7 @@ impl<'a> Operator<'a> {
 }
 
 // The line of a call that was carried out. It allocates nothing.
-fn line_of(verb: &[u8], no: u64) -> ArrayVec<u8, 48>
+fn done_line(verb: &[u8], no: u64) -> CallLine
     requires { length verb.now ≤ 20 }
     ensures { result.items ≡ done_line verb.now no }
 {
@@ -127,62 +145,59 @@ fn line_of(verb: &[u8], no: u64) -> ArrayVec<u8, 48>
     line
 }
 
-// Writes a line.
+// The line that reports a result.
+fn line_of(verb: &[u8], told: Told) -> CallLine
+    requires { length verb.now ≤ 20 }
+    ensures { result.items ≡ line_as verb.now told }
+{
+    match told {
+        Told::Done(no) => done_line(verb, no),
+        Told::Refused(refusal) => refusal.line(),
+    }
+}
+
+// Writes the line that reports a result.
 #[tactic(auto, using(oftp_io::proofs::Puts::puts_none, oftp_io::proofs::Puts::puts_on, oftp_io::proofs::Puts::puts_sent))]
-fn say<W: Write>(writer: &mut Port<W>, line: &[u8], told: Told) -> Result<Told, RunFault>
-    ensures sent { Sent W.contents writer.old writer.new line.now (is_ok result) }
+fn tell<W: Write>(writer: &mut Port<W>, verb: &[u8], told: Told) -> Result<Told, RunFault>
+    requires { length verb.now ≤ 20 }
+    ensures sent { Sent W.contents writer.old writer.new (line_as verb.now told) (is_ok result) }
     ensures told { IfOk result (λ t. t ≡ told) }
     ensures err { IfErr result (λ f. f ≡ RunFault.Write) }
     ensures out { Puts W.contents writer.old writer.new }
     ensures writer_told { WriterTold writer.old writer.new result }
 {
-    if writer.send(line) {
+    let line = line_of(verb, told);
+    if writer.send(line.as_slice()) {
         Ok(told)
     } else {
         Err(RunFault::Write)
     }
 }
 
-// Writes the line that reports a result.
-#[tactic(auto, using(oftp_io::proofs::Puts::puts_none, oftp_io::proofs::Puts::puts_on, oftp_io::proofs::Puts::puts_sent))]
-fn tell<W: Write>(writer: &mut Port<W>, verb: &[u8], outcome: Outcome) -> Result<Told, RunFault>
-    requires { length verb.now ≤ 20 }
-    ensures sent { Sent W.contents writer.old writer.new (line_as verb.now outcome) (is_ok result) }
-    ensures told { IfOk result (λ t. t ≡ told_as outcome) }
-    ensures err { IfErr result (λ f. f ≡ RunFault.Write) }
-    ensures out { Puts W.contents writer.old writer.new }
-    ensures writer_told { WriterTold writer.old writer.new result }
-{
-    match outcome {
-        Outcome::Done(no) => say(writer, line_of(verb, no).as_slice(), Told::Done),
-        Outcome::Refused(refusal) => say(writer, refusal.line(), Told::Refused(refusal)),
-    }
-}
-
 // The result of a commit.
-pub(crate) fn outcome_of(made: Result<(), OfficeFault>, no: u64) -> Result<Outcome, RunFault>
+pub(crate) fn told_of(made: Result<(), OfficeFault>, no: u64) -> Result<Told, RunFault>
     ensures { result ≡ came_out no made }
 {
     match made {
-        Ok(()) => Ok(Outcome::Done(no)),
-        Err(OfficeFault::Refused(cause)) => Ok(Outcome::Refused(Refusal::from(cause))),
+        Ok(()) => Ok(Told::Done(no)),
+        Err(OfficeFault::Refused(cause)) => Ok(Told::Refused(Refusal::from(cause))),
         Err(OfficeFault::Store | OfficeFault::Memory) => Err(RunFault::Office),
     }
 }
 
 // Commits a change of the file with a number, and returns the office's verdict.
-fn decide<O: Office>(office: &mut O, change: Change<'_>, no: u64) -> Result<Outcome, RunFault>
+fn decide<O: Office>(office: &mut O, change: Change<'_>, no: u64) -> Result<Told, RunFault>
     ensures clean { (O.view office.new).clean → (O.view office.old).clean }
     ensures does { (O.view office.new).clean → (O.view office.old).stands → IsFit (O.view office.old).register change.entry → (verb : List ℕ)
         → Attempts verb (λ deed. deed ≡ makes verb no change.entry (O.view office.old).register) (O.view office.old) (O.view office.new) result }
     ensures err { IfErr result (λ f. f ≡ RunFault.Office) }
 {
     let made = office.commit(change);
-    outcome_of(made, no)
+    told_of(made, no)
 }
 
 // Issues the End-to-End Response of a file.
-fn release<O: Office>(office: &mut O, no: u64) -> Result<Outcome, RunFault>
+fn release<O: Office>(office: &mut O, no: u64) -> Result<Told, RunFault>
     ensures clean { (O.view office.new).clean → (O.view office.old).clean }
     ensures does { (O.view office.new).clean → (O.view office.old).stands
         → Attempts (codes "done: release ") (λ deed. deed ≡ released (O.view office.old).register no) (O.view office.old) (O.view office.new) result }
@@ -201,17 +216,17 @@ fn release<O: Office>(office: &mut O, no: u64) -> Result<Outcome, RunFault>
 }
 
 // Issues the Negative End Response of a file.
-fn refuse<O: Office>(office: &mut O, no: u64, reason: u64, text: &str) -> Result<Outcome, RunFault>
+fn refuse<O: Office>(office: &mut O, no: u64, reason: u64, text: &str) -> Result<Told, RunFault>
     ensures clean { (O.view office.new).clean → (O.view office.old).clean }
     ensures does { (O.view office.new).clean → (O.view office.old).stands
         → Attempts (codes "done: refuse ") (λ deed. deed ≡ refused (O.view office.old).register no reason text.now) (O.view office.old) (O.view office.new) result }
     ensures err { IfErr result (λ f. f ≡ RunFault.Office) }
 {
     let Some(text) = Text::new(text) else {
-        return Ok(Outcome::Refused(Refusal::Field));
+        return Ok(Told::Refused(Refusal::Field));
     };
     if reason > 99 {
-        return Ok(Outcome::Refused(Refusal::Field));
+        return Ok(Told::Refused(Refusal::Field));
     }
     let change = Change::Issue {
         no,
@@ -228,7 +243,7 @@ fn attempt<O: Office>(
     office: &mut O,
     book: &Book,
     call: &Operator<'_>,
-) -> Result<Outcome, RunFault>
+) -> Result<Told, RunFault>
     ensures clean { (O.view office.new).clean → (O.view office.old).clean }
     ensures does { (O.view office.new).clean → (O.view office.old).stands
         → Attempts (verb_of call.now) (IsDeed book.now (O.view office.old).register call.now) (O.view office.old) (O.view office.new) result }
@@ -265,6 +280,6 @@ pub fn operate<O: Office, W: Write>(
     ensures out { Puts W.contents writer.old writer.new }
     ensures writer_told { WriterTold writer.old writer.new result }
 {
-    let outcome = attempt(alloc, office, book, call)?;
-    tell(writer, call.verb(), outcome)
+    let told = attempt(alloc, office, book, call)?;
+    tell(writer, call.verb(), told)
 }

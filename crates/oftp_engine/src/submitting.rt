@@ -10,7 +10,7 @@ ghost use Rattle.oftp_engine.specs.Operating.{AreInRange, IsNoFile, Submits, is_
 ghost use Rattle.oftp_engine.specs.InsideOperating.{Attempts, MayFail};
 ghost use Rattle.oftp_engine.specs.InsideSubmitting.{AreFieldsOf, IsOffer, came_big, came_numbered, named_by};
 
-use crate::operating::{Outcome, Refusal, outcome_of};
+use crate::operating::{Refusal, Told, told_of};
 use crate::serving::RunFault;
 use oftp_partners::{Book, Partner};
 use oftp_register::{Change, DigitString, Identity, Name, Office, OfficeFault, OutgoingEntry};
@@ -148,18 +148,18 @@ fn are_too_many(limits: Limits, units: u64, rows: &Rows) -> bool
 }
 
 // The result for a file that exceeds the limits, once its identity was looked up.
-fn outcome_of_big(found: Result<Option<OutgoingEntry>, OfficeFault>) -> Result<Outcome, RunFault>
+fn told_of_big(found: Result<Option<OutgoingEntry>, OfficeFault>) -> Result<Told, RunFault>
     ensures { result ≡ came_big found }
 {
     match found {
-        Ok(Some(_)) => Ok(Outcome::Refused(Refusal::Duplicate)),
-        Ok(None) => Ok(Outcome::Refused(Refusal::Limit)),
+        Ok(Some(_)) => Ok(Told::Refused(Refusal::Duplicate)),
+        Ok(None) => Ok(Told::Refused(Refusal::Limit)),
         Err(_) => Err(RunFault::Office),
     }
 }
 
 // Refuses a file that exceeds the limits. It is a duplicate where its identity exists.
-fn refuse_big<O: Office>(office: &mut O, identity: &Identity) -> Result<Outcome, RunFault>
+fn refuse_big<O: Office>(office: &mut O, identity: &Identity) -> Result<Told, RunFault>
     ensures clean { (O.view office.new).clean → (O.view office.old).clean }
     ensures does { (O.view office.new).clean → (O.view office.old).stands → Attempts (codes "done: submit ")
         (λ deed. deed ≡ (if is_outgoing (O.view office.old).register identity.now then refuses Refusal.Duplicate else refuses Refusal.Limit))
@@ -167,15 +167,15 @@ fn refuse_big<O: Office>(office: &mut O, identity: &Identity) -> Result<Outcome,
     ensures err { IfErr result (λ f. f ≡ RunFault.Office) }
 {
     let found = office.look_out(identity);
-    outcome_of_big(found)
+    told_of_big(found)
 }
 
 // The result for a registered file, once its number was looked up.
-fn outcome_of_number(found: Result<Option<OutgoingEntry>, OfficeFault>) -> Result<Outcome, RunFault>
+fn told_of_number(found: Result<Option<OutgoingEntry>, OfficeFault>) -> Result<Told, RunFault>
     ensures { result ≡ came_numbered found }
 {
     match found {
-        Ok(Some(file)) => Ok(Outcome::Done(file.no)),
+        Ok(Some(file)) => Ok(Told::Done(file.no)),
         // A registered file is found, if the store reads what was written.
         Ok(None) | Err(_) => Err(RunFault::Office),
     }
@@ -188,7 +188,7 @@ fn register<O: Office>(
     submission: &Submission<'_>,
     description: Text<'_>,
     rows: Rows,
-) -> Result<Outcome, RunFault>
+) -> Result<Told, RunFault>
     ensures clean { (O.view office.new).clean → (O.view office.old).clean }
     ensures does { (O.view office.new).clean → (O.view office.old).stands → description.entry ≡ submission.now.description.now
         → IsFile submission.now.format submission.now.longest rows → Attempts (codes "done: submit ")
@@ -205,9 +205,9 @@ fn register<O: Office>(
     match office.commit(change) {
         Ok(()) => {
             let found = office.look_out(identity);
-            outcome_of_number(found)
+            told_of_number(found)
         }
-        Err(fault) => outcome_of(Err(fault), 0),
+        Err(fault) => told_of(Err(fault), 0),
     }
 }
 
@@ -217,17 +217,17 @@ pub(crate) fn submit<O: Office>(
     office: &mut O,
     book: &Book,
     submission: &Submission<'_>,
-) -> Result<Outcome, RunFault>
+) -> Result<Told, RunFault>
     ensures clean { (O.view office.new).clean → (O.view office.old).clean }
     ensures does { (O.view office.new).clean → (O.view office.old).stands → Attempts (codes "done: submit ")
         (Submits book.now (O.view office.old).register submission.now) (O.view office.old) (O.view office.new) result }
     ensures err { IfErr result (MayFail (Submit submission.now)) }
 {
     let Some(offer) = offer_of(alloc, submission)? else {
-        return Ok(Outcome::Refused(Refusal::Field));
+        return Ok(Told::Refused(Refusal::Field));
     };
     let Some(partner) = book.partner(submission.to.as_bytes()) else {
-        return Ok(Outcome::Refused(Refusal::Unknown));
+        return Ok(Told::Refused(Refusal::Unknown));
     };
     let identity = name_of(book, partner, &offer.fields);
     let units = units_of(

@@ -3,7 +3,6 @@
 
 mod access;
 mod book;
-mod comparing;
 mod content;
 mod drafts;
 mod files;
@@ -17,7 +16,6 @@ mod transcript;
 
 pub use access::{Access, make_private};
 pub use book::{book_of, read_book, read_book_octets};
-pub use comparing::Comparison;
 pub use content::{content_of, read_content, read_to_compare};
 pub use drafts::{Draft, bears, is_free, log_of, remove_log, sweep};
 pub use files::{

@@ -1,104 +1,96 @@
 //! The command `collect`: incoming files that are whole and have no response are written to a folder.
 
-use crate::clerk::{Clerk, Completion};
-use crate::entries::ListedFile;
-use crate::folders::{Folder, Room, has_something, name_of, numbered, path_in};
+use crate::endings::refusal_in;
+use crate::folders::{Folder, Room, Stamps, has_something, name_of, numbered, path_in};
 use crate::judging::{Collecting, Content, Named, collecting_of};
+use oftp_channel::{ListedFile, Request};
 use oftp_command_line::Collect;
+use oftp_engine::{Operator, Refusal, RunFault};
 use oftp_files::{
-    Comparison, discard, draft_in_swept, free_name, open_regular, read_to_compare, settle, sweep,
+    discard, draft_in_swept, free_name, open_regular, read_to_compare, settle, sweep,
 };
-use oftp_listing::ReportKind;
-use oftp_outcomes::{Carried, Fault, write_line};
-use std::io::Write;
-
-/// The line for a release if the file has a response already.
-const ANSWERED: &str = "refused: 3 state";
+use oftp_outcomes::{Carried, Fault, Why, write_line};
+use oftp_requests::{Backend, Comparison, FileList};
+use std::io::{self, Write};
 
 /// Writes each incoming file that is whole and has no response to a folder, unless it is there already. If the command line asks for it,
 /// its End-to-End Response is issued once the file is synced. Each gets a line in `out`, except one that is there already and isn't
 /// released. Returns whether none was refused.
 ///
 /// # Errors
-/// Those of the clerk; [`Fault::File`] if a file can't be created, something that isn't this file has its name, or the folder can't be
+/// Those of the backend; [`Fault::File`] if a file can't be created, something that isn't this file has its name, or the folder can't be
 /// synced; [`Fault::Run`] if `out` returned an error; [`Fault::MEMORY`]. What was written and released so far stays, and the next call
 /// continues there.
-pub fn collect<D: Clerk + Drop>(
+pub fn collect<B: Backend + Drop>(
     rt: &HostRuntime,
     line: &Collect<'_>,
     folder: &Folder,
-    clerk: D,
+    book: &[u8],
+    backend: B,
     out: &mut impl Write,
 ) -> Result<bool, Fault> {
-    let collection = Collection::new(rt, line, &folder.room, clerk);
-    collect_all(collection, out)
-}
-
-/// Collects all files. Returns whether none was refused.
-fn collect_all<D: Clerk + Drop>(
-    collection: Collection<'_, D>,
-    out: &mut impl Write,
-) -> Result<bool, Fault> {
-    let mut collection = collection;
-    let report = collection.clerk.report(ReportKind::Incoming)?;
-    let mut is_done = true;
-    for told in report.as_str().split('\n') {
-        if let Some(entry) = unanswered(told) {
-            if !collection.collect(&entry, out)? {
-                is_done = false;
-            }
-        }
-    }
-    Ok(is_done)
-}
-
-/// The file of a line of the report, if it is whole and has no response.
-fn unanswered<'a>(told: &'a str) -> Option<ListedFile<'a>> {
-    match ListedFile::of(told) {
-        Some(entry) if entry.is_unanswered() => Some(entry),
-        _ => None,
-    }
+    let mut collection = Collection::new(rt, line, &folder.room, book, backend);
+    collection.collect_all(out)
 }
 
 /// The collection of files to a folder.
 #[derive(Drop)]
-struct Collection<'a, D> {
+struct Collection<'a, B> {
     rt: &'a HostRuntime,
     line: &'a Collect<'a>,
     folder: &'a Room,
-    clerk: D,
+    book: &'a [u8],
+    backend: B,
     // Whether the drafts that killed processes left were removed.
     is_swept: bool,
 }
 
-impl<'a, D: Clerk> Collection<'a, D> {
+impl<'a, B: Backend> Collection<'a, B> {
     /// A collection that has written nothing yet.
     fn new(
         rt: &'a HostRuntime,
         line: &'a Collect<'a>,
         folder: &'a Room,
-        clerk: D,
-    ) -> Collection<'a, D> {
+        book: &'a [u8],
+        backend: B,
+    ) -> Collection<'a, B> {
         Collection {
             rt,
             line,
             folder,
-            clerk,
+            book,
+            backend,
             is_swept: false,
         }
     }
 
+    /// Collects all files. Returns whether none was refused.
+    fn collect_all(&mut self, out: &mut impl Write) -> Result<bool, Fault> {
+        let alloc = self.rt.alloc();
+        let mut list = FileList::asked(alloc, &mut self.backend, &Request::Unanswered)?;
+        let mut is_done = true;
+        for _ in 0..u64::MAX {
+            let Some(entry) = list.next_file()? else {
+                break;
+            };
+            if !self.collect(&entry.file()?, out)? {
+                is_done = false;
+            }
+        }
+        Ok(is_done)
+    }
+
     /// Collects a file. Returns whether it wasn't refused. A file that is in the folder isn't written again.
-    fn collect(&mut self, entry: &ListedFile<'_>, out: &mut impl Write) -> Result<bool, Fault> {
-        let name = name_in_folder(self.rt, entry)?;
+    fn collect(&mut self, file: &ListedFile<'_>, out: &mut impl Write) -> Result<bool, Fault> {
+        let name = name_in_folder(self.rt, file)?;
         let path = path_in(self.rt, self.folder.path(), name.as_str())?;
-        let refusal = match collecting_of(self.named(entry.no, path.as_str())?) {
-            Collecting::Write => self.write(entry.no, path.as_str())?,
-            Collecting::Leave if self.line.releases => self.answer(entry.no)?,
+        let refusal = match collecting_of(self.named(file.no, path.as_str())?) {
+            Collecting::Write => self.write(file.no, path.as_str())?,
+            Collecting::Leave if self.line.releases => self.answer(file.no)?,
             Collecting::Leave => return Ok(true),
             Collecting::Refuse => return Err(Fault::File),
         };
-        tell(refusal, entry.no, name.as_str(), out)
+        tell(refusal, file.no, name.as_str(), out)
     }
 
     /// What is at the path of a file in the folder.
@@ -111,16 +103,24 @@ impl<'a, D: Clerk> Collection<'a, D> {
         };
         let there = read_to_compare(self.rt, &file)?;
         let mut comparison = Comparison::with(there.as_slice());
-        self.clerk.fetch(no, &mut comparison)?;
-        Ok(Named::File(if comparison.is_equal() {
+        let refusal = self.fetch(no, &mut comparison)?;
+        Ok(Named::File(if refusal.is_none() && comparison.is_equal() {
             Content::Same
         } else {
             Content::Other
         }))
     }
 
-    /// Writes a file, and releases it if that is asked for. Returns the line of a refusal.
-    fn write(&mut self, no: u64, path: &str) -> Result<Option<String>, Fault> {
+    /// Writes the content of a file to `out`. Returns why not, if it is refused. A failed write is an error of the file.
+    fn fetch(&mut self, no: u64, out: &mut impl Write) -> Result<Option<Refusal>, Fault> {
+        match self.backend.ask(&Request::Fetch { no }, out) {
+            Ok(ending) => refusal_in(ending),
+            Err(fault) => Err(file_written(fault)),
+        }
+    }
+
+    /// Writes a file, and releases it if that is asked for. Returns why not, if it is refused.
+    fn write(&mut self, no: u64, path: &str) -> Result<Option<Refusal>, Fault> {
         if !self.is_swept {
             sweep(self.rt, self.folder.path());
             self.is_swept = true;
@@ -128,12 +128,12 @@ impl<'a, D: Clerk> Collection<'a, D> {
         let line = self.line;
         let name = free_name(self.rt, path, line.files.database)?;
         let mut draft = draft_in_swept(self.rt, &name)?;
-        let written = match self.clerk.fetch(no, &mut draft.file) {
-            Ok(Completion::Refused(why)) => {
+        let written = match self.fetch(no, &mut draft.file) {
+            Ok(Some(refusal)) => {
                 discard(self.rt, &draft);
-                return Ok(Some(why));
+                return Ok(Some(refusal));
             }
-            Ok(Completion::Done(_line)) => Ok(()),
+            Ok(None) => Ok(()),
             Err(fault) => Err(fault),
         };
         settle(self.rt, draft, &name, written)?;
@@ -144,38 +144,54 @@ impl<'a, D: Clerk> Collection<'a, D> {
         }
     }
 
-    /// Releases a file that an earlier call has written, once its name is synced. Returns the line of a refusal.
-    fn answer(&mut self, no: u64) -> Result<Option<String>, Fault> {
+    /// Releases a file that an earlier call has written, once its name is synced. Returns why not, if it is refused.
+    fn answer(&mut self, no: u64) -> Result<Option<Refusal>, Fault> {
         self.folder.keep()?;
         self.release(no)
     }
 
-    /// Releases a file whose name is synced. A file that got a response meanwhile isn't refused. Returns the line of a refusal.
-    fn release(&mut self, no: u64) -> Result<Option<String>, Fault> {
-        match self.clerk.release(no)? {
-            Completion::Refused(why) if why.as_str() == ANSWERED => Ok(None),
-            Completion::Refused(why) => Ok(Some(why)),
-            Completion::Done(_line) => Ok(None),
+    /// Releases a file whose name is synced. A file that got a response meanwhile isn't refused. Returns why not, if it is refused.
+    fn release(&mut self, no: u64) -> Result<Option<Refusal>, Fault> {
+        let request = Request::Operate {
+            book: self.book,
+            call: Operator::Release { no },
+        };
+        match refusal_in(self.backend.ask(&request, &mut io::sink())?)? {
+            Some(Refusal::State) => Ok(None),
+            refusal => Ok(refusal),
         }
     }
 }
 
+/// The error of a content that is written to a file: a failed write is one of the file.
+fn file_written(fault: Fault) -> Fault {
+    match fault {
+        Fault::Run(RunFault::Write) => Fault::File,
+        other => other,
+    }
+}
+
 /// The name of a file in the folder.
-fn name_in_folder(rt: &HostRuntime, entry: &ListedFile<'_>) -> Result<String, Fault> {
-    let name = name_of(rt.alloc(), entry.stamps, entry.code())?;
-    numbered(rt.alloc(), entry.no, name.as_str())
+fn name_in_folder(rt: &HostRuntime, file: &ListedFile<'_>) -> Result<String, Fault> {
+    let name = name_of(rt.alloc(), Stamps::of(file), file.code)?;
+    numbered(rt.alloc(), file.no, name.as_str())
 }
 
 /// Writes the line of a file. Returns whether it wasn't refused.
-fn tell(refusal: Option<String>, no: u64, name: &str, out: &mut impl Write) -> Result<bool, Fault> {
+fn tell(
+    refusal: Option<Refusal>,
+    no: u64,
+    name: &str,
+    out: &mut impl Write,
+) -> Result<bool, Fault> {
     match refusal {
         None => {
             write_line(out, &Carried::Collected { no, name })?;
             Ok(true)
         }
-        Some(why) => {
-            let why = why.as_str();
-            write_line(out, &Carried::Refused { why, name })?;
+        Some(refusal) => {
+            let why = Why::Refused(refusal);
+            write_line(out, &Carried::Left { why, name })?;
             Ok(false)
         }
     }

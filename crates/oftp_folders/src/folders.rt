@@ -1,6 +1,7 @@
 //! The folders that commands work on, and the names of the files in them.
 
 use crate::locking::FolderLock;
+use oftp_channel::ListedFile;
 use oftp_files::{are_of_one_file, file_fault, is_ours};
 use oftp_outcomes::Fault;
 use std::alloc::{AllocError, Global};
@@ -175,6 +176,17 @@ pub(super) struct Stamps<'a> {
     pub(super) dataset: &'a str,
     pub(super) date: &'a str,
     pub(super) time: &'a str,
+}
+
+impl<'a> Stamps<'a> {
+    /// Those of a file in a list.
+    pub(super) fn of(file: &ListedFile<'a>) -> Stamps<'a> {
+        Stamps {
+            dataset: file.dataset,
+            date: file.date,
+            time: file.time,
+        }
+    }
 }
 
 /// The name of a file that was received from the partner with a code, or sent to it.

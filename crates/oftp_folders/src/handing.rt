@@ -1,17 +1,17 @@
 //! Submits files that were taken from a folder, and moves them away.
 
-use crate::clerk::{Clerk, Completion};
-use crate::entries::ListedFile;
+use crate::endings::{GONE, number_in};
 use crate::folders::{
     Room, Stamps, claim_name, followed, has_something, name_of, numbered, path_in, stamps_in,
 };
 use crate::judging::{Concern, Content, Held, Step, TakenBy, concern_of, step_of};
 use crate::stamps::Moment;
+use oftp_channel::{Ending, ListedFile, Request};
 use oftp_command_line::{Offer, Submit};
-use oftp_engine::RunFault;
+use oftp_engine::{Operator, Refusal, Submission};
 use oftp_files::{content_of, file_fault, open_regular};
-use oftp_listing::ReportKind;
-use oftp_outcomes::{Carried, Fault, write_line};
+use oftp_outcomes::{Carried, Fault, Why, write_line};
+use oftp_requests::{Backend, FileList};
 use std::alloc::Global;
 use std::collections::BTreeMap;
 use std::fs::{self, File};
@@ -29,20 +29,14 @@ const REFUSED: &str = "refused";
 /// The ending of the file with the line of a refused file.
 const LINE: &str = ".line";
 
-/// The line for a file if the register has one with the same dataset name, date and time.
-const DUPLICATE: &str = "refused: 1 duplicate";
-
 /// How many times are tried for a file, each a tick after the last: more than a register has files.
 const MOST_MOMENTS: u32 = 1_000_001;
 
 /// How many names are tried for a file that is put away: one for each database that has had a file of its number, name, date and time.
 const MOST_NAMES: u32 = 10_000;
 
-/// The line for a file that can't be moved or read.
-const UNREAD: &str = "fault: 7 file";
-
-/// The error for a reply that no station gives.
-const GONE: Fault = Fault::Run(RunFault::Office);
+/// Why a file that can't be moved or read isn't handed in.
+const UNREAD: Why = Why::Failed(Fault::File);
 
 /// The subfolders.
 #[derive(Drop)]
@@ -70,8 +64,8 @@ impl Rooms {
 enum Handed {
     /// The register has the file under this number.
     Under(u64),
-    /// It was refused, with this line.
-    Refused(String),
+    /// It was refused.
+    Refused(Why),
 }
 
 /// The result of one try to submit a file.
@@ -79,19 +73,20 @@ enum Handed {
 enum Tried {
     /// The register has the file under this number now.
     Under(u64),
-    /// It was refused, with this line.
-    Refused(String),
+    /// It was refused.
+    Refused(Refusal),
     /// The register has another file with its name, date and time, or it has this one by a request of an earlier call.
     Duplicate,
 }
 
 /// The submission of a folder's files to a partner.
 #[derive(Drop)]
-pub(super) struct Handing<'a, D> {
+pub(super) struct Handing<'a, B> {
     rt: &'a HostRuntime,
     line: &'a Offer<'a>,
     pub(super) rooms: &'a Rooms,
-    clerk: D,
+    book: &'a [u8],
+    backend: B,
     // The dataset names of the files.
     wanted: BTreeMap<Vec<u8>, bool>,
     // The numbers of the files in the register to the partner with such dataset names, by the names that they would have in `taken`.
@@ -100,19 +95,21 @@ pub(super) struct Handing<'a, D> {
     given: BTreeMap<Vec<u8>, bool>,
 }
 
-impl<'a, D: Clerk> Handing<'a, D> {
+impl<'a, B: Backend> Handing<'a, B> {
     /// A submission that hasn't looked anything up.
     pub(super) fn new(
         rt: &'a HostRuntime,
         line: &'a Offer<'a>,
         rooms: &'a Rooms,
-        clerk: D,
-    ) -> Handing<'a, D> {
+        book: &'a [u8],
+        backend: B,
+    ) -> Handing<'a, B> {
         Handing {
             rt,
             line,
             rooms,
-            clerk,
+            book,
+            backend,
             wanted: BTreeMap::new(rt.alloc()),
             known: BTreeMap::new(rt.alloc()),
             given: BTreeMap::new(rt.alloc()),
@@ -149,24 +146,25 @@ impl<'a, D: Clerk> Handing<'a, D> {
 
     /// Looks up what the register has now.
     fn look_again(&mut self) -> Result<(), Fault> {
-        let report = self.clerk.report(ReportKind::Outgoing)?;
-        for told in report.as_str().split('\n') {
-            if let Some(entry) = ListedFile::of(told) {
-                self.note(&entry)?;
-            }
+        let request = Request::Outgoing { to: self.line.to };
+        let mut list = FileList::asked(self.rt.alloc(), &mut self.backend, &request)?;
+        for _ in 0..u64::MAX {
+            let Some(entry) = list.next_file()? else {
+                break;
+            };
+            self.note(&entry.file()?)?;
         }
         Ok(())
     }
 
-    /// Notes a file of the register, if it goes to the partner and has one of the names.
-    fn note(&mut self, entry: &ListedFile<'_>) -> Result<(), Fault> {
-        let dataset = entry.stamps.dataset.as_bytes();
-        if entry.code() != self.line.to || self.wanted.get(dataset).is_none() {
+    /// Notes a file that the register has to the partner, if it has one of the names.
+    fn note(&mut self, file: &ListedFile<'_>) -> Result<(), Fault> {
+        if self.wanted.get(file.dataset.as_bytes()).is_none() {
             return Ok(());
         }
-        let claim = claim_name(self.rt.alloc(), entry.stamps, self.line.to)?;
+        let claim = claim_name(self.rt.alloc(), Stamps::of(file), self.line.to)?;
         let claim = octets_of(self.rt.alloc(), claim.as_str())?;
-        match self.known.insert(claim, entry.no) {
+        match self.known.insert(claim, file.no) {
             Ok(_) => Ok(()),
             Err(_) => Err(Fault::MEMORY),
         }
@@ -269,8 +267,7 @@ impl<'a, D: Clerk> Handing<'a, D> {
                 Ok(true)
             }
             Ok(Handed::Refused(why)) => {
-                let why = why.as_str();
-                write_line(out, &Carried::Refused { why, name })?;
+                write_line(out, &Carried::Left { why, name })?;
                 Ok(false)
             }
             Err(fault) => {
@@ -285,15 +282,10 @@ impl<'a, D: Clerk> Handing<'a, D> {
         self.clear_line(claim.as_str())?;
         let (claim, handed) = match self.read(claim.as_str())? {
             Some(content) => self.settled(claim, content.as_slice())?,
-            None => (claim, Handed::Refused(self.unread()?)),
+            None => (claim, Handed::Refused(UNREAD)),
         };
         self.put_away(claim.as_str(), &handed)?;
         Ok(handed)
-    }
-
-    /// The line of what is no regular file.
-    fn unread(&self) -> Result<String, Fault> {
-        String::from_str(self.rt.alloc(), UNREAD).map_err(|_| Fault::MEMORY)
     }
 
     /// Reads a taken file. Whatever error its open or its reading has may pass, so the file isn't refused for it. Returns `None` if it is no
@@ -322,7 +314,9 @@ impl<'a, D: Clerk> Handing<'a, D> {
                 Step::TakeNextStamp => claim = self.moved_on(claim.as_str())?,
                 Step::HandIn => match self.submit(claim.as_str(), content)? {
                     Tried::Under(no) => return Ok((claim, Handed::Under(no))),
-                    Tried::Refused(why) => return Ok((claim, Handed::Refused(why))),
+                    Tried::Refused(refusal) => {
+                        return Ok((claim, Handed::Refused(Why::Refused(refusal))));
+                    }
                     Tried::Duplicate => self.look_again_for(claim.as_str())?,
                 },
             }
@@ -335,10 +329,13 @@ impl<'a, D: Clerk> Handing<'a, D> {
         let Some(no) = self.number_of(claim) else {
             return Ok(Held::Nothing);
         };
-        let content = if self.clerk.holds(no, content)? {
-            Content::Same
-        } else {
-            Content::Other
+        let content = match self
+            .backend
+            .ask(&Request::Holds { no, content }, &mut io::sink())?
+        {
+            Ending::Same => Content::Same,
+            Ending::Other => Content::Other,
+            _ => return Err(GONE),
         };
         Ok(Held::File(no, content))
     }
@@ -371,10 +368,24 @@ impl<'a, D: Clerk> Handing<'a, D> {
     /// Submits a file.
     fn submit(&mut self, claim: &str, content: &[u8]) -> Result<Tried, Fault> {
         let submit = submission_of(self.line, claim);
-        match self.clerk.submit(&submit, content)? {
-            Completion::Done(line) => Ok(Tried::Under(number_in(line.as_str())?)),
-            Completion::Refused(why) if why.as_str() == DUPLICATE => Ok(Tried::Duplicate),
-            Completion::Refused(why) => Ok(Tried::Refused(why)),
+        let call = Operator::Submit(Submission {
+            dataset: submit.dataset,
+            date: submit.date,
+            time: submit.time,
+            to: submit.to,
+            format: submit.format,
+            longest: submit.longest,
+            description: submit.description,
+            content,
+        });
+        let book = self.book;
+        let ending = self
+            .backend
+            .ask(&Request::Operate { book, call }, &mut io::sink())?;
+        match number_in(ending)? {
+            Ok(no) => Ok(Tried::Under(no)),
+            Err(Refusal::Duplicate) => Ok(Tried::Duplicate),
+            Err(refusal) => Ok(Tried::Refused(refusal)),
         }
     }
 
@@ -382,7 +393,7 @@ impl<'a, D: Clerk> Handing<'a, D> {
     fn put_away(&self, claim: &str, handed: &Handed) -> Result<(), Fault> {
         match handed {
             Handed::Under(no) => self.put_to_sent(claim, *no),
-            Handed::Refused(why) => self.put_to_refused(claim, why.as_str()),
+            Handed::Refused(why) => self.put_to_refused(claim, *why),
         }
     }
 
@@ -395,7 +406,7 @@ impl<'a, D: Clerk> Handing<'a, D> {
     }
 
     /// Moves a refused file to `refused`, after its line was written there. If the file can't be moved, its line is removed.
-    fn put_to_refused(&self, claim: &str, why: &str) -> Result<(), Fault> {
+    fn put_to_refused(&self, claim: &str, why: Why) -> Result<(), Fault> {
         let name = self.refused_name(claim)?;
         let path = path_in(self.rt, self.rooms.refused.path(), name.as_str())?;
         write_beside(self.rt, path.as_str(), why)?;
@@ -467,13 +478,13 @@ fn submission_of<'a>(line: &Offer<'a>, claim: &'a str) -> Submit<'a> {
 /// Writes the line of a file that stays where it is, if this error concerns no other one. Else returns the error.
 pub(super) fn tell_left(fault: Fault, name: &str, out: &mut impl Write) -> Result<(), Fault> {
     match concern_of(fault) {
-        Concern::File => write_line(out, &Carried::Refused { why: UNREAD, name }),
+        Concern::File => write_line(out, &Carried::Left { why: UNREAD, name }),
         Concern::Command(fault) => Err(fault),
     }
 }
 
 /// Writes the line of a refused file to a file beside it.
-fn write_beside(rt: &HostRuntime, path: &str, why: &str) -> Result<(), Fault> {
+fn write_beside(rt: &HostRuntime, path: &str, why: Why) -> Result<(), Fault> {
     let alloc = rt.alloc();
     let path = line_path(alloc, path)?;
     let line = format!(in alloc; "{why}\n").map_err(|_| Fault::MEMORY)?;
@@ -495,14 +506,6 @@ fn write_anew(rt: &HostRuntime, path: &str, octets: &[u8]) -> io::Result<()> {
     let mut file = File::create_new(rt, path)?;
     file.write_all(octets)?;
     file.sync_all()
-}
-
-/// The number at the end of the line for a submission.
-fn number_in(line: &str) -> Result<u64, Fault> {
-    match line.rsplit_once(' ') {
-        Some((_, number)) => number.parse::<u64>().map_err(|_| GONE),
-        None => Err(GONE),
-    }
 }
 
 /// The dataset name, date and time in the name of a file that is taken for the partner, which has them all.

@@ -1,10 +1,9 @@
-//! The commands over a folder of files: `collect` writes received files there, and `offer` submits files from there. The caller gives
-//! access to the register ([`Clerk`]).
+//! The commands over a folder of files: `collect` writes received files there, and `offer` submits files from there. The caller says who
+//! carries out their requests.
 #![tactic(auto)]
 
-mod clerk;
 mod collecting;
-mod entries;
+mod endings;
 mod folders;
 mod handing;
 mod judging;
@@ -12,7 +11,6 @@ mod locking;
 mod offering;
 mod stamps;
 
-pub use clerk::{Clerk, Completion};
 pub use collecting::collect;
 pub use folders::Folder;
 pub use offering::offer;

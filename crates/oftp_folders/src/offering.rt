@@ -3,13 +3,13 @@
 //! A file is taken first: it is moved to a subfolder, under a name with the date and time that it is given. So after a crash the next call
 //! knows under which name the register has it, if it does.
 
-use crate::clerk::Clerk;
 use crate::folders::{Folder, Room, claim_name, names_in, path_in, stamps_in};
 use crate::handing::{Handing, Rooms, TAKEN, tell_left};
 use crate::stamps::Moment;
 use oftp_command_line::Offer;
 use oftp_files::file_fault;
 use oftp_outcomes::Fault;
+use oftp_requests::Backend;
 use oftp_wire::X;
 use std::fs;
 use std::io::{ErrorKind, Write};
@@ -21,13 +21,14 @@ const MOST_NAME: usize = 26;
 /// moved or read, which stays where it is. Returns whether each was handed in.
 ///
 /// # Errors
-/// Those of the clerk; [`Fault::File`] if a folder can't be read or synced, or a subfolder is a link or another user's; [`Fault::Run`] if
+/// Those of the backend; [`Fault::File`] if a folder can't be read or synced, or a subfolder is a link or another user's; [`Fault::Run`] if
 /// `out` returned an error; [`Fault::MEMORY`]. Taken files stay taken, and the next call continues with them.
-pub fn offer<D: Clerk + Drop>(
+pub fn offer<B: Backend + Drop>(
     rt: &HostRuntime,
     line: &Offer<'_>,
     folder: &Folder,
-    clerk: D,
+    book: &[u8],
+    backend: B,
     out: &mut impl Write,
 ) -> Result<bool, Fault> {
     let files = offered(rt, &folder.room)?;
@@ -36,15 +37,15 @@ pub fn offer<D: Clerk + Drop>(
         return Ok(true);
     }
     let rooms = Rooms::made(rt, &folder.room)?;
-    let handing = Handing::new(rt, line, &rooms, clerk);
+    let handing = Handing::new(rt, line, &rooms, book, backend);
     take_and_hand_in(rt, &folder.room, handing, files.as_slice(), claims, out)
 }
 
 /// Takes these files, and submits all that are taken. Returns whether each was handed in.
-fn take_and_hand_in<D: Clerk + Drop>(
+fn take_and_hand_in<B: Backend + Drop>(
     rt: &HostRuntime,
     folder: &Room,
-    handing: Handing<'_, D>,
+    handing: Handing<'_, B>,
     files: &[String],
     claims: Vec<String>,
     out: &mut impl Write,
@@ -58,8 +59,8 @@ fn take_and_hand_in<D: Clerk + Drop>(
 }
 
 /// Submits the taken files. Returns whether each was handed in.
-fn hand_in<D: Clerk + Drop>(
-    handing: Handing<'_, D>,
+fn hand_in<B: Backend + Drop>(
+    handing: Handing<'_, B>,
     claims: Vec<String>,
     out: &mut impl Write,
 ) -> Result<bool, Fault> {
@@ -124,10 +125,10 @@ fn is_for(rt: &HostRuntime, code: &str, name: &str) -> Result<bool, Fault> {
 }
 
 /// Takes files, and syncs the folders. Writes the line of each that can't be moved. Returns whether there is none.
-fn take_all<D: Clerk>(
+fn take_all<B: Backend>(
     rt: &HostRuntime,
     folder: &Room,
-    handing: &mut Handing<'_, D>,
+    handing: &mut Handing<'_, B>,
     files: &[String],
     claims: &mut Vec<String>,
     out: &mut impl Write,
@@ -150,10 +151,10 @@ fn take_all<D: Clerk>(
 }
 
 /// Takes a file, unless it is gone.
-fn take<D: Clerk>(
+fn take<B: Backend>(
     rt: &HostRuntime,
     folder: &Room,
-    handing: &mut Handing<'_, D>,
+    handing: &mut Handing<'_, B>,
     name: &str,
 ) -> Result<Option<String>, Fault> {
     let path = path_in(rt, folder.path(), name)?;

@@ -4,3 +4,4 @@ mod Boxes
 mod Openings
 mod Looks
 mod LifeParts
+mod LifeEvents

@@ -6,3 +6,4 @@ pub mod Reaches
 pub mod Lives
 pub mod Looks
 pub mod LifeParts
+pub mod LifeEvents

@@ -6,6 +6,7 @@ ghost use Rattle.oftp_register.specs.ByIdentity.{in_at};
 ghost use Rattle.oftp_register.specs.Register.{Register};
 ghost use Rattle.oftp_engine.specs.Parts.{File, IsSoFar};
 ghost use Rattle.oftp_life.specs.Acts.{Act};
+ghost use Rattle.oftp_life.specs.LifeEvents.{ActsAreEvents};
 ghost use Rattle.oftp_life.specs.LifeParts.{BringAll};
 ghost use Rattle.oftp_life.specs.Lives.{LifeLeaves};
 
@@ -19,4 +20,11 @@ pub fn lives_make_the_file<O: Office>()
         → (h : LifeLeaves (O.view first).register acts (O.view now)) → IsSoFar file (in_at (O.view first).register identity)
         → BringAll file identity (O.view first).register acts h.changes h.least h.covers → (content : (O.view now).Content) → (O.view now).may_leave content
         → (r : Register) × (O.view now).holds content r × IsSoFar file (in_at r identity) }
+{}
+
+/// What a life leaves of its acts is what events of two stations leave. Of a session with a third partner, who may send any octets as long as
+/// the station accepts no SSID with the other station's code, it is any number of its changes: all, or those before a crash or an error of the
+/// office. Of an operator's call it is what the call does. The function does nothing; its contract is the theorem.
+pub fn acts_are_events()
+    ensures { ActsAreEvents }
 {}

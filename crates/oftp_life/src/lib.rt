@@ -13,7 +13,7 @@ mod stage;
 
 pub use all_heard::AllHeard;
 pub use history::History;
-pub use laws::lives_make_the_file;
+pub use laws::{acts_are_events, lives_make_the_file};
 pub use life::{Life, LifeSession};
 pub use opening::{Guest, Opening};
 pub use outbox::{Outbox, TakenOut};

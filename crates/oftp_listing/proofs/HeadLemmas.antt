@@ -10,7 +10,7 @@ use Rattle.oftp_listing.specs.Heads.{Heard, Unfinished, Refused, Whole, Hears, R
 use Rattle.oftp_listing.specs.declared.head.Head.TheVariants as head
 
 -- a head has no more fields than there was room for
-fields_fit : (buf : List ℕ) (spans : List HeaderSpan) (count : ℕ) (fields : List Field) → AreFieldsAt buf spans count fields → length fields ≤ length spans
+pub fields_fit : (buf : List ℕ) (spans : List HeaderSpan) (count : ℕ) (fields : List Field) → AreFieldsAt buf spans count fields → length fields ≤ length spans
 fields_fit buf spans count fields are =
     let same : length (take count spans) ≡ length fields = sym (length-map (take count spans) (header_bytes buf)) ∙ ap length are ∙ length-map fields name_and_value in
     omega (arith, same, length-take count spans)

@@ -3,9 +3,12 @@ pub mod Asking
 pub mod FinalRows
 pub mod HeadLemmas
 pub mod HidingLemmas
+pub mod HostLemmas
 pub mod ListedUnits
 pub mod Listings
 pub mod RowLemmas
 pub mod RememberingLemmas
 pub mod Reporting
 pub mod RouteLemmas
+pub mod SiteLemmas
+pub mod UnaskedLemmas

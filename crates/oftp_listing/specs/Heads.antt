@@ -1,5 +1,5 @@
 -- How the octets of a request are read, by the grammar of its head.
-use Rattle.std.specs.Prelude.{◌≡◌, ℕ, ◌<◌, ◌≤◌, ◌⊎◌, ◌++◌, List, [], length}
+use Rattle.std.specs.Prelude.{◌≡◌, ℕ, ◌<◌, ◌≤◌, ◌⊎◌, ◌++◌, Bool, true, false, List, [], length}
 use Rattle.httparse.specs.Grammar.{RequestHead, ReadsRequest, HasNoRequest, NeverHasRequest, EndsInTarget}
 use Rattle.oftp_listing.specs.declared.head.Head.{Head}
 use Rattle.oftp_listing.specs.declared.head.Head.TheVariants as head
@@ -46,6 +46,12 @@ abbrev pub Hears : List ℕ → Heard → Type 0
 Hears request Unfinished = IsUnfinished request
 Hears request Refused = IsRefused request
 Hears request (Whole method target) = IsWhole request method target
+
+-- there is a reply to these octets: nothing that comes after them is awaited
+abbrev pub is_whole : Heard → Bool
+is_whole Unfinished = false
+is_whole Refused = true
+is_whole (Whole method target) = true
 
 -- the code read this result
 abbrev pub Reads : Heard → Head → Type 0

@@ -4,6 +4,7 @@ pub mod Few
 pub mod Finding
 pub mod Heads
 pub mod Hiding
+pub mod Hosts
 pub mod InsideListed
 pub mod Names
 pub mod Objects
@@ -12,4 +13,6 @@ pub mod Replies
 pub mod Reports
 pub mod Routes
 pub mod Rows
+pub mod Sites
 pub mod Texts
+pub mod Unasked

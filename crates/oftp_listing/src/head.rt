@@ -1,6 +1,7 @@
 //! Reading the head of an HTTP request.
 
-ghost use Rattle.oftp_listing.specs.Heads.{Heard, Hears, Reads};
+ghost use Rattle.std.specs.Prelude.{◌≡◌};
+ghost use Rattle.oftp_listing.specs.Heads.{Heard, Hears, Reads, is_whole};
 
 use httparse::Status;
 use httparse::spans::{EMPTY_HEADER_SPAN, parse_request};
@@ -9,9 +10,10 @@ use httparse::spans::{EMPTY_HEADER_SPAN, parse_request};
 const MOST_OCTETS: usize = 8192;
 
 /// The most fields of a head.
-const MOST_FIELDS: usize = 64;
+pub(crate) const MOST_FIELDS: usize = 64;
 
 /// The result of reading a request.
+#[derive(Drop)]
 pub(crate) enum Head<'a> {
     /// The octets are the beginning of a head.
     Unfinished,
@@ -44,5 +46,16 @@ pub(crate) fn read_head(request: &[u8]) -> Head<'_>
         },
         Ok(Status::Partial) => Head::Unfinished,
         Err(_) => Head::Refused,
+    }
+}
+
+/// Whether there is a reply to the octets of a request: they are a whole head and perhaps more, or aren't accepted as the beginning of one.
+/// Else [`answer`](crate::answer) returns [`ListFault::Incomplete`](crate::ListFault::Incomplete).
+pub fn is_whole(request: &[u8]) -> bool
+    ensures { (heard : Heard) → Hears request.now heard → result ≡ is_whole heard }
+{
+    match read_head(request) {
+        Head::Unfinished => false,
+        Head::Refused | Head::Whole { .. } => true,
     }
 }

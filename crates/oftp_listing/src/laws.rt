@@ -6,6 +6,7 @@ ghost use Rattle.oftp_listing.specs.Hiding.{IsAlike};
 ghost use Rattle.oftp_listing.specs.Remembering.{CountsStay};
 ghost use Rattle.oftp_listing.specs.Reports.{report_of};
 ghost use Rattle.oftp_listing.specs.Texts.{text_of};
+ghost use Rattle.oftp_listing.specs.Unasked.{NobodyAsked, SameForEach};
 ghost use Rattle.oftp_listing.specs.declared.reports.ReportKind.{ReportKind};
 ghost use Rattle.oftp_listing.specs.declared.route.Route.{Route};
 
@@ -20,4 +21,12 @@ pub fn content_is_hidden()
 /// rows no change alters. The function does nothing; its contract is the theorem.
 pub fn counts_stay()
     ensures { CountsStay }
+{}
+
+/// The reply of [`reply_of_any`](crate::reply_of_any) is what [`answer`](crate::answer) gives over any office that is open and whose store
+/// reads what was written. It is that of the requests for which an office isn't asked, and of no others. The function does nothing; its
+/// contract is the theorem.
+pub fn same_for_each()
+    ensures same { SameForEach }
+    ensures unasked { NobodyAsked }
 {}

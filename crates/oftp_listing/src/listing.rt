@@ -8,6 +8,7 @@ ghost use Rattle.oftp_listing.specs.Finding.{Finds, IsDataBehind};
 ghost use Rattle.oftp_listing.specs.Heads.{Heard, Hears};
 ghost use Rattle.oftp_listing.specs.InsideListed.{object_in, objects_beside};
 ghost use Rattle.oftp_listing.specs.Texts.{Answers, Asks, Serves, TellsOffice, is_asked, list_of, shown, shown_responses};
+ghost use Rattle.oftp_listing.specs.Unasked.{IsSame, status_at, status_of_any};
 
 use crate::fault::ListFault;
 use crate::head::{Head, read_head};
@@ -176,6 +177,7 @@ fn serve<O: Office>(
     office: &mut O,
 ) -> Result<Reply, ListFault>
     ensures serves { Serves is_get route (O.view office.old) (O.view office.new) result }
+    ensures any { IsSame (status_at is_get route) (O.view office.old) (O.view office.new) result }
     ensures office { TellsOffice (O.view office.old) (O.view office.new) result }
     ensures asks { Asks (O.view office.old) (O.view office.new) }
 {
@@ -203,6 +205,8 @@ fn serve<O: Office>(
 /// - [`ListFault::Office`]: the office returned an error, and there is no memory for the reply that says so.
 pub fn answer<O: Office>(alloc: Global, request: &[u8], office: &mut O) -> Result<Reply, ListFault>
     ensures texts { (heard : Heard) → Hears request.now heard → Answers heard (O.view office.old) (O.view office.new) result }
+    // Where nobody is asked, the register doesn't matter.
+    ensures any { (heard : Heard) → Hears request.now heard → IsSame (status_of_any heard) (O.view office.old) (O.view office.new) result }
     // These hold of all octets.
     ensures asks { Asks (O.view office.old) (O.view office.new) }
     ensures office { TellsOffice (O.view office.old) (O.view office.new) result }

@@ -1,7 +1,7 @@
 //! The octets of an HTTP reply.
 
 ghost use Rattle.std.specs.Prelude.{◌≡◌, ◌++◌, IfErr, IfOk, decimal, length};
-ghost use Rattle.oftp_listing.specs.Replies.{Says, allow_of, error_text, head_text, phrase_of, reply_text};
+ghost use Rattle.oftp_listing.specs.Replies.{Says, allow_of, content_text, error_text, head_text, media_type, page_text, phrase_of, reply_text};
 ghost use Rattle.oftp_listing.specs.declared.state.OfficeState.TheVariants.{Failed, Working};
 
 use crate::fault::ListFault;
@@ -49,6 +49,26 @@ impl Reply {
     }
 }
 
+/// What the body of a reply is.
+#[derive(Clone, Copy, Debug, PartialEq, Eq)]
+enum Content {
+    /// JSON.
+    Json,
+    /// A page of HTML.
+    Html,
+}
+
+// The media type of a body.
+#[tactic(auto, unfolding(crate::specs::Replies::media_type))]
+fn media_type(content: Content) -> &'static str
+    ensures { result.now ≡ media_type content }
+{
+    match content {
+        Content::Json => "application/json",
+        Content::Html => "text/html; charset=utf-8",
+    }
+}
+
 // The reason phrase of a status.
 #[tactic(auto, unfolding(crate::specs::Replies::phrase_of))]
 fn phrase(status: StatusCode) -> &'static str
@@ -71,15 +91,21 @@ fn allow(status: StatusCode) -> &'static str
 
 // The head of a reply, with the length of its body in decimal digits.
 #[tactic(auto, unfolding(crate::specs::Replies::head_text))]
-fn head(alloc: Global, status: StatusCode, body_length: &str) -> Result<Vec<u8>, AllocError>
-    ensures { IfOk result (λ octets. octets.items ≡ head_text status body_length.now) }
+fn head(
+    alloc: Global,
+    status: StatusCode,
+    content: Content,
+    body_length: &str,
+) -> Result<Vec<u8>, AllocError>
+    ensures { IfOk result (λ octets. octets.items ≡ head_text status content body_length.now) }
 {
     let mut octets = Vec::new(alloc);
     octets.extend_from_slice(b"HTTP/1.1 ")?;
     octets.extend_from_slice(status.as_str().as_bytes())?;
     octets.extend_from_slice(b" ")?;
     octets.extend_from_slice(phrase(status).as_bytes())?;
-    octets.extend_from_slice(b"\r\nContent-Type: application/json")?;
+    octets.extend_from_slice(b"\r\nContent-Type: ")?;
+    octets.extend_from_slice(media_type(content).as_bytes())?;
     octets.extend_from_slice(b"\r\nContent-Length: ")?;
     octets.extend_from_slice(body_length.as_bytes())?;
     octets.extend_from_slice(b"\r\nConnection: close\r\n")?;
@@ -88,17 +114,13 @@ fn head(alloc: Global, status: StatusCode, body_length: &str) -> Result<Vec<u8>,
     Ok(octets)
 }
 
-/// The reply with this body. The head is inserted before the body, in the same vector.
-///
-/// # Errors
-///
-/// Out of memory.
-pub(crate) fn body_reply(alloc: Global, body: Vec<u8>) -> Result<Reply, AllocError>
-    ensures { IfOk result (Says (reply_text 200 body.items) Working) }
+// The reply with this body. The head is inserted before the body, in the same vector.
+fn content_reply(alloc: Global, content: Content, body: Vec<u8>) -> Result<Reply, AllocError>
+    ensures { IfOk result (Says (content_text 200 content body.items) Working) }
 {
     let length = body.len();
     let decimal = length.to_string(alloc)?;
-    let head = head(alloc, StatusCode::OK, decimal.as_str())?;
+    let head = head(alloc, StatusCode::OK, content, decimal.as_str())?;
     let mut octets = body;
     octets.extend_from_slice(head.as_slice())?;
     octets.rotate_left(length);
@@ -108,11 +130,34 @@ pub(crate) fn body_reply(alloc: Global, body: Vec<u8>) -> Result<Reply, AllocErr
     })
 }
 
+/// The reply with this body of JSON.
+///
+/// # Errors
+///
+/// Out of memory.
+pub(crate) fn body_reply(alloc: Global, body: Vec<u8>) -> Result<Reply, AllocError>
+    ensures { IfOk result (Says (reply_text 200 body.items) Working) }
+{
+    content_reply(alloc, Content::Json, body)
+}
+
+/// The reply that shows a page.
+///
+/// # Errors
+///
+/// Out of memory.
+pub(crate) fn page_reply(alloc: Global, page: &str) -> Result<Reply, AllocError>
+    ensures { IfOk result (Says (page_text page.now) Working) }
+{
+    let body = Vec::from_slice(alloc, page.as_bytes())?;
+    content_reply(alloc, Content::Html, body)
+}
+
 // The octets of a reply whose body names its status. Nothing else is allocated.
 fn error_octets(alloc: Global, status: StatusCode) -> Result<Vec<u8>, AllocError>
     ensures { IfOk result (λ octets. octets.items ≡ error_text status) }
 {
-    let mut octets = head(alloc, status, "13")?;
+    let mut octets = head(alloc, status, Content::Json, "13")?;
     octets.extend_from_slice(b"{\"error\":")?;
     octets.extend_from_slice(status.as_str().as_bytes())?;
     octets.extend_from_slice(b"}")?;
@@ -131,6 +176,17 @@ pub(crate) fn error_reply(alloc: Global, status: StatusCode) -> Result<Reply, Al
         octets: error_octets(alloc, status)?,
         office: OfficeState::Working,
     })
+}
+
+/// The reply 503 to a request that isn't answered, since the station ends.
+///
+/// # Errors
+///
+/// Out of memory.
+pub fn stopping_reply(alloc: Global) -> Result<Reply, AllocError>
+    ensures { IfOk result (Says (error_text 503) Working) }
+{
+    error_reply(alloc, StatusCode::SERVICE_UNAVAILABLE)
 }
 
 /// The reply with this status after an error of the office.

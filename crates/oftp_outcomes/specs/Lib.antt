@@ -1,2 +1,3 @@
 pub mod Printed
+pub mod Service
 pub mod Statuses

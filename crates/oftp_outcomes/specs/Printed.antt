@@ -5,16 +5,23 @@ use Rattle.std.specs.Io.KnownBytes.{Appends}
 use Rattle.oftp_wire.specs.Reasons.{session_number, two_digits}
 use Rattle.oftp_partners.specs.Faults.{number_of}
 use Rattle.oftp_tables.specs.declared.fault.StoreFault.TheVariants as store
+use Rattle.oftp_engine.specs.Operating.{refusal_phrase}
+use Rattle.oftp_engine.specs.declared.operating.Told.{Told}
+use Rattle.oftp_engine.specs.declared.operating.Told.TheVariants as told
 use Rattle.oftp_engine.specs.declared.serving.End.TheVariants.{Own, Partner, Input}
 use Rattle.oftp_engine.specs.declared.serving.RunFault.TheVariants.{Read, Write, Office, Memory}
 use Rattle.oftp_listing.specs.declared.fault.ListFault.{ListFault}
 use Rattle.oftp_listing.specs.declared.fault.ListFault.TheVariants as list
-use Rattle.oftp_outcomes.specs.declared.outcome.Carried.{Carried}
-use Rattle.oftp_outcomes.specs.declared.outcome.Carried.TheVariants.{Collected, Offered, Refused}
+use Rattle.oftp_outcomes.specs.declared.carried.Carried.{Carried}
+use Rattle.oftp_outcomes.specs.declared.carried.Carried.TheVariants.{Collected, Offered, Left}
+use Rattle.oftp_outcomes.specs.declared.carried.Why.{Why}
+use Rattle.oftp_outcomes.specs.declared.carried.Why.TheVariants as whys
 use Rattle.oftp_outcomes.specs.declared.outcome.Fault.{Fault}
 use Rattle.oftp_outcomes.specs.declared.outcome.Fault.TheVariants.{Run, Book, Store, File, Socket}
 use Rattle.oftp_outcomes.specs.declared.outcome.Outcome.{Outcome}
-use Rattle.oftp_outcomes.specs.declared.outcome.Outcome.TheVariants.{Initiated, Migrated, Checked, Ended, Fetched, BackedUp, Unknown, WrongState}
+use Rattle.oftp_outcomes.specs.declared.outcome.Outcome.TheVariants.{Initiated, Migrated, Checked, Ended, Done, BackedUp, Refused}
+use Rattle.oftp_outcomes.specs.declared.outcome.Verb.{Verb}
+use Rattle.oftp_outcomes.specs.declared.outcome.Verb.TheVariants.{Submit, Release, Refuse, Fetch}
 
 -- the line on standard error
 abbrev pub fault_line : Fault → List ℕ
@@ -51,6 +58,13 @@ fault_of_report list.Memory = Run Memory
 fault_of_report list.Office = Run Office
 fault_of_report list.Write = write_fault
 
+-- what a command does with one file
+abbrev pub verb_text : Verb → List ℕ
+verb_text Submit = codes "submit"
+verb_text Release = codes "release"
+verb_text Refuse = codes "refuse"
+verb_text Fetch = codes "fetch"
+
 -- the line on standard output
 abbrev pub outcome_line : Outcome → List ℕ
 outcome_line Initiated = codes "done: init"
@@ -59,16 +73,25 @@ outcome_line (Checked count) = codes "ok: " ++ (decimal count ++ codes " partner
 outcome_line (Ended (Own reason)) = codes "end: own " ++ two_digits (session_number reason)
 outcome_line (Ended (Partner number)) = codes "end: partner " ++ two_digits number
 outcome_line (Ended Input) = codes "end: input"
-outcome_line (Fetched number) = codes "done: fetch " ++ decimal number
+outcome_line (Done verb number) = codes "done: " ++ (verb_text verb ++ (codes " " ++ decimal number))
 outcome_line BackedUp = codes "done: backup"
-outcome_line Unknown = codes "refused: 2 unknown"
-outcome_line WrongState = codes "refused: 3 state"
+outcome_line (Refused why) = refusal_phrase why
+
+-- the outcome of an operator's call on one file
+abbrev pub outcome_of : Verb → Told → Outcome
+outcome_of verb (told.Done number) = Done verb number
+outcome_of verb (told.Refused why) = Refused why
+
+-- why a file of a folder isn't carried
+abbrev pub why_line : Why → List ℕ
+why_line (whys.Refused refusal) = refusal_phrase refusal
+why_line (whys.Failed fault) = fault_line fault
 
 -- the line on standard output for a file of a folder
 abbrev pub carried_line : Carried → List ℕ
 carried_line (Collected number name) = codes "done: collect " ++ (decimal number ++ (codes " " ++ name.now))
 carried_line (Offered number name) = codes "done: offer " ++ (decimal number ++ (codes " " ++ name.now))
-carried_line (Refused why name) = why.now ++ (codes " " ++ name.now)
+carried_line (Left why name) = why_line why ++ (codes " " ++ name.now)
 
 -- an output took this text and a line end, where the text is known, and what the output has
 abbrev pub TakesLine : Option (List ℕ) → Option (List ℕ) → Option (List ℕ) → Type 0
@@ -80,7 +103,6 @@ is_refusal Initiated = false
 is_refusal Migrated = false
 is_refusal (Checked count) = false
 is_refusal (Ended how) = false
-is_refusal (Fetched number) = false
+is_refusal (Done verb number) = false
 is_refusal BackedUp = false
-is_refusal Unknown = true
-is_refusal WrongState = true
+is_refusal (Refused why) = true

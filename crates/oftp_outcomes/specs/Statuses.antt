@@ -18,7 +18,7 @@ status_if false = DONE
 
 -- that of an operator's call
 abbrev pub status_of : Told → ℕ
-status_of Done = DONE
+status_of (Done n) = DONE
 status_of (Refused why) = FAILED
 
 -- whether somebody reads an output after an error of this kind

@@ -1,10 +1,14 @@
-//! How a command ended, and the line that it prints for that.
+//! How a command ended, what became of a file or a session, and the lines that are printed for that.
 #![tactic(auto)]
 
+mod carried;
 mod outcome;
 mod output;
+mod service;
 mod statuses;
 
-pub use outcome::{Carried, Fault, Outcome, write_line};
+pub use carried::{Carried, Why};
+pub use outcome::{Fault, Outcome, Verb, outcome_of, write_line};
 pub use output::{Output, Reader};
+pub use service::{ServiceLine, Trouble, Way, last_fault, plain};
 pub use statuses::{DONE, FAILED, is_told, status_of, status_where, tell};

@@ -1,9 +1,9 @@
 //! The results of commands, as they are printed.
 
 ghost use Rattle.std.specs.Prelude.{◌≡◌, IfErr, OnOk, Some};
-ghost use Rattle.oftp_outcomes.specs.Printed.{TakesLine, carried_line, fault_in_memory, fault_line, fault_of_report, is_refusal, outcome_line, write_fault};
+ghost use Rattle.oftp_outcomes.specs.Printed.{TakesLine, fault_in_memory, fault_line, fault_of_report, is_refusal, outcome_line, outcome_of, verb_text, write_fault};
 
-use oftp_engine::{End, RunFault};
+use oftp_engine::{End, Refusal, RunFault, Told};
 use oftp_listing::ListFault;
 use oftp_partners::BookFault;
 use oftp_tables::StoreFault;
@@ -11,7 +11,7 @@ use std::fmt;
 use std::io::{self, Write};
 
 /// Why a command failed: the line on standard error.
-#[derive(Clone, Copy, Drop)]
+#[derive(Clone, Copy, Debug, PartialEq, Eq, Drop)]
 pub enum Fault {
     /// A session failed.
     Run(RunFault),
@@ -72,8 +72,34 @@ impl fmt::Display for Fault {
     }
 }
 
+/// What a command does with one file.
+#[derive(Clone, Copy, Debug, PartialEq, Eq, Drop)]
+pub enum Verb {
+    /// Submits it.
+    Submit,
+    /// Issues its End-to-End Response.
+    Release,
+    /// Issues its Negative End Response.
+    Refuse,
+    /// Writes its content.
+    Fetch,
+}
+
+impl fmt::Display for Verb {
+    ghost output = { λ verb. Some (verb_text verb) };
+
+    fn fmt<W: fmt::Write>(&self, f: &mut fmt::Formatter<W>) -> fmt::Result {
+        match self {
+            Verb::Submit => f.write_str("submit"),
+            Verb::Release => f.write_str("release"),
+            Verb::Refuse => f.write_str("refuse"),
+            Verb::Fetch => f.write_str("fetch"),
+        }
+    }
+}
+
 /// What a command did: the line on standard output.
-#[derive(Clone, Copy, Drop)]
+#[derive(Clone, Copy, Debug, PartialEq, Eq, Drop)]
 pub enum Outcome {
     /// The database was opened, and has its tables.
     Initiated,
@@ -83,25 +109,23 @@ pub enum Outcome {
     Checked(usize),
     /// A session was served, with this end.
     Ended(End),
-    /// The incoming file with this number was written.
-    Fetched(u64),
+    /// This was done with the file with this number.
+    Done(Verb, u64),
     /// The database was copied.
     BackedUp,
-    /// What the command line names doesn't exist.
-    Unknown,
-    /// The file isn't in the state that the command requires.
-    WrongState,
+    /// The command was refused, and nothing was changed.
+    Refused(Refusal),
 }
 
 impl Outcome {
-    /// Whether the command was refused: [`Outcome::Unknown`] or [`Outcome::WrongState`].
+    /// Whether the command was refused.
     pub fn is_refusal(&self) -> bool
         ensures { result ≡ is_refusal self.now }
     {
         match self {
             Outcome::Initiated | Outcome::Migrated | Outcome::BackedUp => false,
-            Outcome::Checked(_) | Outcome::Ended(_) | Outcome::Fetched(_) => false,
-            Outcome::Unknown | Outcome::WrongState => true,
+            Outcome::Checked(_) | Outcome::Ended(_) | Outcome::Done(..) => false,
+            Outcome::Refused(_) => true,
         }
     }
 }
@@ -123,49 +147,20 @@ impl fmt::Display for Outcome {
                 write!(f, "end: partner {}{}", number / 10, number % 10)
             }
             Outcome::Ended(End::Input) => f.write_str("end: input"),
-            Outcome::Fetched(no) => write!(f, "done: fetch {no}"),
+            Outcome::Done(verb, no) => write!(f, "done: {verb} {no}"),
             Outcome::BackedUp => f.write_str("done: backup"),
-            Outcome::Unknown => f.write_str("refused: 2 unknown"),
-            Outcome::WrongState => f.write_str("refused: 3 state"),
+            Outcome::Refused(why) => write!(f, "{why}"),
         }
     }
 }
 
-/// The result for a file of a folder: the line on standard output.
-#[derive(Clone, Copy, Drop)]
-pub enum Carried<'a> {
-    /// An incoming file is in the folder, and was released if that was asked for.
-    Collected {
-        /// Its number.
-        no: u64,
-        /// Its name in the folder.
-        name: &'a str,
-    },
-    /// A file of the folder was submitted.
-    Offered {
-        /// Its number as an outgoing file.
-        no: u64,
-        /// Its name in the folder, which is its dataset name.
-        name: &'a str,
-    },
-    /// A file is refused, and nothing is changed.
-    Refused {
-        /// The reason: the line that `submit`, `fetch` or `release` prints for it.
-        why: &'a str,
-        /// Its name in the folder, or the name that it would have there.
-        name: &'a str,
-    },
-}
-
-impl fmt::Display for Carried<'_> {
-    ghost output = { λ carried. Some (carried_line carried) };
-
-    fn fmt<W: fmt::Write>(&self, f: &mut fmt::Formatter<W>) -> fmt::Result {
-        match self {
-            Carried::Collected { no, name } => write!(f, "done: collect {no} {name}"),
-            Carried::Offered { no, name } => write!(f, "done: offer {no} {name}"),
-            Carried::Refused { why, name } => write!(f, "{why} {name}"),
-        }
+/// The outcome of an operator's call on one file.
+pub fn outcome_of(verb: Verb, told: Told) -> Outcome
+    ensures { result ≡ outcome_of verb told }
+{
+    match told {
+        Told::Done(no) => Outcome::Done(verb, no),
+        Told::Refused(why) => Outcome::Refused(why),
     }
 }
 

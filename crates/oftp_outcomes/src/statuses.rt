@@ -33,7 +33,7 @@ pub fn status_of(told: Told) -> u8
     ensures { result ≡ status_of told }
 {
     match told {
-        Told::Done => DONE,
+        Told::Done(_) => DONE,
         Told::Refused(_) => FAILED,
     }
 }

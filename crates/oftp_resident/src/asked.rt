@@ -1,29 +1,27 @@
-//! The requests of commands, and how they are carried out with the office.
+//! The requests of commands, and what is told and answered of each.
 
-use crate::answers::Answer;
+use crate::answers::answer_of;
+use crate::judging::{Asking, asking_of};
 use crate::limits::{millis, patience_in_millis, pause_of};
-use oftp_channel::{Outlet, read_request};
-use oftp_command_line::{Call, Line, Submit, line_of};
-use oftp_contents::{asked_to_hold, entry_to_fetch, write_outgoing};
-use oftp_engine::{Operator, Port, RunFault, Submission, write_content};
-use oftp_files::{Comparison, book_of};
+use oftp_channel::{Ending, Request, Tracing, read_request};
+use oftp_engine::{Port, RunFault};
+use oftp_files::book_of;
 use oftp_life::Life;
-use oftp_listing::{self as listing, OfficeState, ReportKind};
-use oftp_outcomes::{DONE, Fault, Outcome, status_of, status_where, tell};
+use oftp_listing::OfficeState;
+use oftp_outcomes::Fault;
 use oftp_partners::Book;
 use oftp_register::Office;
-use oftp_schedule::connection::{Partner, Request, Signal};
+use oftp_requests::{look_up, operate};
+use oftp_schedule::connection::{self as schedule, Partner, Signal};
 use std::alloc::Global;
 
 /// The number of a partner whom a command calls. No partner that the clock calls has it.
 const OF_NO_CLOCK: u32 = u32::MAX;
 
-/// The request of a command: its words, and the contents of the files that it read.
+/// The request of a command, as its words.
 #[derive(Drop)]
 pub(crate) struct Asked {
-    book: Vec<u8>,
-    content: Vec<u8>,
-    words: Vec<String>,
+    words: Vec<Vec<u8>>,
 }
 
 /// The answer to a request, and whether the office failed while it was made.
@@ -50,254 +48,152 @@ pub(crate) struct Wanted {
     pub(crate) partner: Partner,
     pub(crate) code: String,
     pub(crate) address: String,
-    /// Whether the command wants a trace of it.
-    pub(crate) is_traced: bool,
+    pub(crate) tracing: Tracing,
 }
 
 impl Asked {
-    /// Parses a request: the book, the content, and then the words. `None` if the octets aren't exactly one, or memory runs out.
+    /// Reads a request. `None` if the octets aren't exactly one, or memory runs out.
     pub(crate) fn of(alloc: Global, octets: &[u8]) -> Option<Asked> {
         let mut reader = Port::new(octets, octets.len() as u64);
-        let request = read_request(alloc, &mut reader).ok()?;
-        if !reader.inner().is_empty() {
-            return None;
+        let words = read_request(alloc, &mut reader).ok()?;
+        if reader.inner().is_empty() && Request::of(words.as_slice()).is_some() {
+            Some(Asked { words })
+        } else {
+            None
         }
-        let mut parts = request.into_iter();
-        let book = parts.next()?;
-        let content = parts.next()?;
-        let mut words = Vec::new(alloc);
-        for part in parts {
-            let word = String::from_utf8(part).ok()?;
-            words.push(word).ok()?;
-        }
-        Some(Asked {
-            book,
-            content,
-            words,
-        })
+    }
+
+    /// The request.
+    fn request(&self) -> Option<Request<'_>> {
+        Request::of(self.words.as_slice())
     }
 
     /// What is told of it. A call that can't be made is a look-up, whose answer says why.
     pub(crate) fn signal(&self, alloc: Global) -> Signal {
-        match line_of(alloc, self.words.as_slice()) {
-            Ok(Line::Call(call)) => match self.call(alloc, &call) {
+        let Some(request) = self.request() else {
+            return Signal::Rejected;
+        };
+        match asking_of(&request) {
+            Asking::For(kind) => Signal::Asked(kind),
+            Asking::Call => match self.wanted(alloc) {
                 Ok(wanted) => Signal::Wants(wanted.partner),
-                Err(_) => Signal::Asked(Request::Query),
+                Err(_) => Signal::Asked(schedule::Request::Query),
             },
-            Ok(Line::Backup(_)) => Signal::Asked(Request::Backup),
-            Ok(Line::Submit(_) | Line::Release(_) | Line::Refuse(_)) => {
-                Signal::Asked(Request::Update)
-            }
-            Ok(Line::Report(_) | Line::Fetch(_) | Line::Init { .. }) => {
-                Signal::Asked(Request::Query)
-            }
-            Ok(_) => Signal::Rejected,
-            Err(_) if asked_to_hold(self.words.as_slice()).is_some() => {
-                Signal::Asked(Request::Query)
-            }
-            Err(_) => Signal::Rejected,
         }
     }
 
-    /// The call that it asks for. `None` if it asks for none that can be made.
-    pub(crate) fn wanted(&self, alloc: Global) -> Option<Wanted> {
-        match line_of(alloc, self.words.as_slice()) {
-            Ok(Line::Call(call)) => self.call(alloc, &call).ok(),
-            _ => None,
-        }
-    }
-
-    /// Its book.
+    /// The call that it asks for.
     ///
     /// # Errors
-    /// [`Fault::Book`]; [`Fault::MEMORY`].
+    /// [`Fault::Book`]; [`Fault::Socket`] if it asks for none, or its book has no such partner; [`Fault::MEMORY`].
+    pub(crate) fn wanted(&self, alloc: Global) -> Result<Wanted, Fault> {
+        match self.request() {
+            Some(Request::Call {
+                book,
+                partner,
+                patience,
+                longest,
+                tracing,
+            }) => {
+                let book = book_of(alloc, book)?;
+                let wanted = partner_of(&book, partner, patience, longest)?;
+                call_of(alloc, &book, partner, wanted, tracing)
+            }
+            _ => Err(Fault::Socket),
+        }
+    }
+
+    /// The book of the call that it asks for.
+    ///
+    /// # Errors
+    /// [`Fault::Book`]; [`Fault::Socket`] if it asks for none; [`Fault::MEMORY`].
     pub(crate) fn book(&self, alloc: Global) -> Result<Book, Fault> {
-        book_of(alloc, self.book.as_slice())
+        match self.request() {
+            Some(Request::Call { book, .. }) => book_of(alloc, book),
+            _ => Err(Fault::Socket),
+        }
     }
 
     /// Looks up what it asks for.
-    pub(crate) fn look(&self, alloc: Global, office: &mut impl Office) -> Made {
-        match line_of(alloc, self.words.as_slice()) {
-            Ok(line) => self.look_up_line(alloc, office, &line),
-            Err(_) => self.compare(alloc, office),
-        }
+    pub(crate) fn look<O: Office>(&self, alloc: Global, office: &mut O) -> Made {
+        let mut out = Port::new(Vec::new(alloc), 0);
+        let ending = match self.request() {
+            Some(Request::Call { .. }) => self.no_call(alloc),
+            Some(request) => look_up(alloc, office, &request, &mut out),
+            None => Err(Fault::MEMORY),
+        };
+        made_of(alloc, out.into_inner().as_slice(), ending)
+    }
+
+    /// Why a call isn't made.
+    fn no_call(&self, alloc: Global) -> Result<Ending, Fault> {
+        self.wanted(alloc)?;
+        Err(Fault::Socket)
     }
 
     /// Makes the change that it asks for.
     pub(crate) fn change<O: Office>(&self, alloc: Global, life: &mut Life<O>) -> Made {
-        let Ok(line) = line_of(alloc, self.words.as_slice()) else {
-            return failed(alloc, Fault::MEMORY);
-        };
-        match self.operator(&line) {
-            Some(operator) => self.order(alloc, life, &operator),
-            None => failed(alloc, Fault::MEMORY),
-        }
+        made_of(alloc, &[], self.operated(alloc, life))
     }
 
-    /// Compares the content with that of an outgoing file, if that is asked for. The exit status is that of a refusal if they differ, or there
-    /// is no such file.
-    fn compare(&self, alloc: Global, office: &mut impl Office) -> Made {
-        let Some(no) = asked_to_hold(self.words.as_slice()) else {
-            return failed(alloc, Fault::MEMORY);
-        };
-        let mut comparison = Comparison::with(self.content.as_slice());
-        let outcome = write_outgoing(alloc, office, no, &mut comparison);
-        let outcome = outcome.map(|is_there| status_where(is_there && comparison.is_equal()));
-        answer_of(alloc, Answer::new(alloc), outcome)
-    }
-
-    /// The call of this command line.
-    ///
-    /// # Errors
-    /// [`Fault::Book`]; [`Fault::Socket`] if the book has no such partner; [`Fault::MEMORY`].
-    fn call(&self, alloc: Global, call: &Call<'_>) -> Result<Wanted, Fault> {
-        let book = self.book(alloc)?;
-        let Some(partner) = book.partner(call.partner.as_bytes()) else {
-            return Err(Fault::Socket);
-        };
-        let code = String::from_str(alloc, call.partner).map_err(|_| Fault::MEMORY)?;
-        let address = String::from_str(alloc, partner.address.as_str()).map_err(|_| Fault::MEMORY)?;
-        Ok(Wanted {
-            partner: Partner {
-                number: OF_NO_CLOCK,
-                pause: pause_of(&book, partner),
-                patience: patience_in_millis(call.terms.patience),
-                longest: millis(call.terms.longest),
-            },
-            code,
-            address,
-            is_traced: call.terms.trace.is_some(),
-        })
-    }
-
-    /// The operator's call that a command line asks for. `None` if it asks for none.
-    fn operator<'a>(&'a self, line: &Line<'a>) -> Option<Operator<'a>> {
-        match line {
-            Line::Submit(submit) => Some(Operator::Submit(self.submission(submit))),
-            Line::Release(release) => Some(Operator::Release { no: release.no }),
-            Line::Refuse(refuse) => Some(Operator::Refuse {
-                no: refuse.no,
-                reason: refuse.reason,
-                text: refuse.text,
-            }),
-            _ => None,
-        }
-    }
-
-    /// Carries out an operator's call.
-    fn order<O: Office>(&self, alloc: Global, life: &mut Life<O>, operator: &Operator<'_>) -> Made {
-        let mut answer = Answer::new(alloc);
-        let outcome = self.order_with(alloc, life, operator, &mut answer);
-        answer_of(alloc, answer, outcome)
-    }
-
-    /// Carries out an operator's call, and adds its line to the answer. Returns the exit status.
-    fn order_with<O: Office>(
-        &self,
-        alloc: Global,
-        life: &mut Life<O>,
-        operator: &Operator<'_>,
-        answer: &mut Answer,
-    ) -> Result<u8, Fault> {
-        let book = book_of(alloc, self.book.as_slice())?;
-        let mut port = Port::new(Vec::new(alloc), 0);
-        let told = match life.order(alloc, &book, operator, &mut port) {
-            Ok(told) => told,
-            Err(fault) => return Err(Fault::Run(fault).in_memory()),
-        };
-        answer.add(Outlet::Output, port.into_inner().as_slice())?;
-        Ok(status_of(told))
-    }
-
-    /// Carries out a command line that only looks something up.
-    fn look_up_line(&self, alloc: Global, office: &mut impl Office, line: &Line<'_>) -> Made {
-        let mut answer = Answer::new(alloc);
-        let outcome = match line {
-            Line::Report(what) => report(alloc, office, what.kind, &mut answer),
-            Line::Fetch(fetch) => send_file(alloc, office, fetch.no, &mut answer),
-            Line::Init { .. } => tell_in(alloc, Outcome::Initiated, &mut answer),
-            Line::Call(call) => match self.call(alloc, call) {
-                Ok(_) => Err(Fault::Socket),
-                Err(fault) => Err(fault),
-            },
-            _ => Err(Fault::MEMORY),
-        };
-        answer_of(alloc, answer, outcome)
-    }
-
-    /// The file that is submitted.
-    fn submission<'a>(&'a self, submit: &Submit<'a>) -> Submission<'a> {
-        Submission {
-            dataset: submit.dataset,
-            date: submit.date,
-            time: submit.time,
-            to: submit.to,
-            format: submit.format,
-            longest: submit.longest,
-            description: submit.description,
-            content: self.content.as_slice(),
+    /// Carries out the operator's call that it asks for.
+    fn operated<O: Office>(&self, alloc: Global, life: &mut Life<O>) -> Result<Ending, Fault> {
+        match self.request() {
+            Some(Request::Operate { book, call }) => {
+                let book = book_of(alloc, book)?;
+                let outcome = operate(alloc, life, &book, &call)?;
+                Ok(Ending::Outcome(outcome))
+            }
+            _ => Err(Fault::Socket),
         }
     }
 }
 
-/// The answer with this end.
-fn answer_of(alloc: Global, answer: Answer, outcome: Result<u8, Fault>) -> Made {
-    let office = match outcome {
-        Err(Fault::Run(RunFault::Office)) => OfficeState::Failed,
-        _ => OfficeState::Working,
+/// What the schedule is told of a partner with a code, who is to be called with this patience and for no longer, in seconds.
+fn partner_of(book: &Book, code: &str, patience: u64, longest: u64) -> Result<Partner, Fault> {
+    match book.partner(code.as_bytes()) {
+        Some(partner) => Ok(Partner {
+            number: OF_NO_CLOCK,
+            pause: pause_of(book, partner),
+            patience: patience_in_millis(patience),
+            longest: millis(longest),
+        }),
+        None => Err(Fault::Socket),
+    }
+}
+
+/// A call of a partner of this book.
+fn call_of(
+    alloc: Global,
+    book: &Book,
+    code: &str,
+    wanted: Partner,
+    tracing: Tracing,
+) -> Result<Wanted, Fault> {
+    let Some(partner) = book.partner(code.as_bytes()) else {
+        return Err(Fault::Socket);
+    };
+    let address = String::from_str(alloc, partner.address.as_str()).map_err(|_| Fault::MEMORY)?;
+    let code = String::from_str(alloc, code).map_err(|_| Fault::MEMORY)?;
+    Ok(Wanted {
+        partner: wanted,
+        code,
+        address,
+        tracing,
+    })
+}
+
+/// The answer with this content and this end. What was written to memory fails only where memory runs out.
+fn made_of(alloc: Global, content: &[u8], ending: Result<Ending, Fault>) -> Made {
+    let ending = match ending {
+        Ok(ending) => ending,
+        Err(fault) => Ending::Failed(fault.in_memory()),
     };
     Made {
-        octets: answer.ended(outcome).unwrap_or(Vec::new(alloc)),
-        office,
+        octets: answer_of(alloc, content, ending).unwrap_or(Vec::new(alloc)),
+        office: match ending {
+            Ending::Failed(Fault::Run(RunFault::Office)) => OfficeState::Failed,
+            _ => OfficeState::Working,
+        },
     }
-}
-
-/// The answer of nothing but an error.
-fn failed(alloc: Global, fault: Fault) -> Made {
-    answer_of(alloc, Answer::new(alloc), Err(fault))
-}
-
-/// Adds a report to an answer.
-fn report(
-    alloc: Global,
-    office: &mut impl Office,
-    kind: ReportKind,
-    answer: &mut Answer,
-) -> Result<u8, Fault> {
-    let mut port = Port::new(Vec::new(alloc), 0);
-    let reported = listing::report(alloc, kind, office, &mut port);
-    answer.add(Outlet::Output, port.into_inner().as_slice())?;
-    match reported {
-        Ok(()) => Ok(DONE),
-        Err(fault) => Err(Fault::from(fault).in_memory()),
-    }
-}
-
-/// Adds a whole incoming file to an answer, and its line.
-fn send_file(
-    alloc: Global,
-    office: &mut impl Office,
-    no: u64,
-    answer: &mut Answer,
-) -> Result<u8, Fault> {
-    let mut port = Port::new(Vec::new(alloc), 0);
-    let outcome = match entry_to_fetch(office, no)? {
-        Ok(entry) => {
-            write_content(alloc, office, &entry, &mut port).map_err(|fault| Fault::Run(
-                fault,
-            ).in_memory())?;
-            Outcome::Fetched(entry.no)
-        }
-        Err(refusal) => refusal,
-    };
-    answer.add(Outlet::Content, port.into_inner().as_slice())?;
-    tell_in(alloc, outcome, answer)
-}
-
-/// Adds the line of an outcome to an answer. Returns the exit status.
-fn tell_in(alloc: Global, outcome: Outcome, answer: &mut Answer) -> Result<u8, Fault> {
-    let mut line = Vec::new(alloc);
-    let status = tell(outcome, &mut line).map_err(|fault| fault.in_memory())?;
-    answer.add(Outlet::Output, line.as_slice())?;
-    Ok(status)
 }

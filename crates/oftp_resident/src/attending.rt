@@ -2,16 +2,19 @@
 
 use crate::asked::Asked;
 use crate::dialing::is_connected;
-use crate::heads::{MOST_REQUEST_OCTETS, is_whole};
 use crate::peer::{Came, PIECE, Peer, Reading, Task};
 use crate::service::Shell;
 use crate::stream::Stream;
 use oftp_engine::{Admission, End, RunFault};
-use oftp_outcomes::Fault;
+use oftp_listing::is_whole;
+use oftp_outcomes::{Fault, Trouble};
 use oftp_schedule::connection::{Request, Signal};
-use oftp_sockets::{Trouble, socket_fault};
+use oftp_sockets::socket_fault;
 use std::alloc::Global;
 use std::{mem, net};
+
+/// How many octets of a request over HTTP are read: one more than a head may have.
+const MOST_REQUEST_OCTETS: usize = 8_193;
 
 impl Shell<'_> {
     /// Reads and sends what can be read and sent without a wait.
@@ -101,7 +104,7 @@ impl Peer<'_> {
             Reading::Opening => self.hear_opening(alloc),
             Reading::Session => self.hear_session(),
             Reading::Command => self.hear_command(alloc),
-            Reading::Request => self.hear_request(alloc),
+            Reading::Request => self.hear_request(),
             Reading::Copy | Reading::Rest => self.hear_end(),
         }
     }
@@ -204,7 +207,7 @@ impl Peer<'_> {
     }
 
     /// Reads a request over HTTP, up to the greatest length.
-    fn hear_request(&mut self, alloc: Global) -> Option<Signal> {
+    fn hear_request(&mut self) -> Option<Signal> {
         // All that is there counts, so the whole of the longest head is read at once.
         let mut piece = [0; MOST_REQUEST_OCTETS];
         match self.hear_more(&mut piece) {
@@ -214,18 +217,11 @@ impl Peer<'_> {
             Came::Lost => return Some(Signal::Lost),
         }
         self.heard.truncate(MOST_REQUEST_OCTETS);
-        let is_long = self.heard.len() >= MOST_REQUEST_OCTETS;
-        match is_whole(alloc, self.heard.as_slice()) {
-            Ok(is_whole) if is_whole || is_long => {
-                self.reading = Reading::Nothing;
-                Some(Signal::Asked(Request::Query))
-            }
-            Ok(_) => None,
-            Err(fault) => {
-                self.note(Err(Trouble::OfService(fault)));
-                Some(Signal::Lost)
-            }
+        if !is_whole(self.heard.as_slice()) {
+            return None;
         }
+        self.reading = Reading::Nothing;
+        Some(Signal::Asked(Request::Query))
     }
 
     /// Reads a piece of a request after those that it has.

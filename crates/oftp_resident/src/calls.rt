@@ -2,20 +2,21 @@
 
 use crate::asked::Wanted;
 use crate::dialing::Outgoing;
-use crate::due::is_due;
 use crate::home::Home;
 use crate::limits::partner_of;
 use crate::peer::{Peer, Reading, Task};
 use crate::service::{Books, Shell, peer_in};
 use crate::stream::Stream;
+use oftp_channel::Tracing;
 use oftp_engine::{End, RunFault};
 use oftp_files::{Lines, SessionTrace, Trace};
 use oftp_life::Life;
-use oftp_outcomes::Fault;
+use oftp_outcomes::{Fault, Trouble};
 use oftp_partners::Book;
 use oftp_register::Office;
+use oftp_requests::is_due;
 use oftp_schedule::connection::{Asker, Event, Signal};
-use oftp_sockets::{Keeper, Trouble};
+use oftp_sockets::Keeper;
 use std::alloc::Global;
 
 impl<'a> Shell<'a> {
@@ -59,7 +60,7 @@ impl<'a> Shell<'a> {
     }
 
     /// Tells the partner at a place of the list, if something waits for it. Returns `None` if the office failed.
-    fn review_at(&mut self, place: usize, office: &mut impl Office) -> Result<Option<()>, Fault> {
+    fn review_at<O: Office>(&mut self, place: usize, office: &mut O) -> Result<Option<()>, Fault> {
         let Some(code) = self.bench.codes.get(place) else {
             return Ok(Some(()));
         };
@@ -108,7 +109,7 @@ impl<'a> Shell<'a> {
         let partner = self.station.book.partner(code.as_bytes())?;
         let address = String::from_str(alloc, partner.address.as_str()).ok()?;
         let code = String::from_str(alloc, code.as_str()).ok()?;
-        let outgoing = Outgoing::new(self.rt, None, false, address);
+        let outgoing = Outgoing::new(self.rt, None, Tracing::None, address);
         Some(called(alloc, id, code, outgoing))
     }
 
@@ -119,9 +120,9 @@ impl<'a> Shell<'a> {
             partner: _,
             code,
             address,
-            is_traced,
-        } = self.asked_by(command)?.wanted(alloc)?;
-        let outgoing = Outgoing::new(self.rt, Some(command), is_traced, address);
+            tracing,
+        } = self.asked_by(command)?.wanted(alloc).ok()?;
+        let outgoing = Outgoing::new(self.rt, Some(command), tracing, address);
         Some(called(alloc, id, code, outgoing))
     }
 
@@ -139,10 +140,9 @@ impl<'a> Shell<'a> {
         let alloc = rt.alloc();
         let shared = self.station.trace;
         if let Some(peer) = peer_in(&mut self.peers, id) {
-            peer.trace = if peer.is_traced() {
-                Some(SessionTrace::new(alloc, Lines::Own(Trace::kept(rt))))
-            } else {
-                shared_trace(alloc, shared)
+            peer.trace = match peer.tracing() {
+                Tracing::Kept => Some(SessionTrace::new(alloc, Lines::Own(Trace::kept(rt)))),
+                Tracing::None => shared_trace(alloc, shared),
             };
         }
         self.connect(rt, id, Fault::Socket)
@@ -210,11 +210,11 @@ impl<'a> Shell<'a> {
 }
 
 impl Peer<'_> {
-    /// Whether it is a call whose command wants a trace.
-    fn is_traced(&self) -> bool {
+    /// Whether the command that wants this call wants its trace.
+    fn tracing(&self) -> Tracing {
         match &self.task {
-            Task::Call(call) => call.is_traced,
-            _ => false,
+            Task::Call(call) => call.tracing,
+            _ => Tracing::None,
         }
     }
 

@@ -2,6 +2,7 @@
 
 use crate::watch::Watch;
 use mio::net::TcpStream;
+use oftp_channel::Tracing;
 use oftp_outcomes::Fault;
 use oftp_sockets::socket_fault;
 use std::io;
@@ -16,8 +17,8 @@ const MOST_ADDRESSES: usize = 64;
 pub(crate) struct Outgoing {
     /// The number of the command that wants it; `None` for the clock.
     pub(crate) asker: Option<u64>,
-    /// Whether that command wants a trace.
-    pub(crate) is_traced: bool,
+    /// Whether that command wants its trace.
+    pub(crate) tracing: Tracing,
     /// The partner's host and port.
     pub(crate) address: String,
     // Their addresses once they are looked up, and how many of these were tried.
@@ -30,12 +31,12 @@ impl Outgoing {
     pub(crate) fn new(
         rt: &HostRuntime,
         asker: Option<u64>,
-        is_traced: bool,
+        tracing: Tracing,
         address: String,
     ) -> Outgoing {
         Outgoing {
             asker,
-            is_traced,
+            tracing,
             address,
             addresses: Vec::new(rt.alloc()),
             tried: 0,

@@ -6,9 +6,9 @@ use crate::service::Shell;
 use crate::stream::Stream;
 use oftp_channel::READY;
 use oftp_life::Opening;
-use oftp_outcomes::Fault;
+use oftp_outcomes::{Fault, Trouble};
 use oftp_schedule::connection::{Arrival, Door, Event, Signal};
-use oftp_sockets::{Trouble, is_short, passes};
+use oftp_sockets::{is_short, passes};
 use std::io::{self, ErrorKind};
 use std::net::TcpListener;
 

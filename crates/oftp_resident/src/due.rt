@@ -1,38 +1,7 @@
-//! The partners that the station calls by the clock.
+//! The partners that the clock may call.
 
-use oftp_engine::RunFault;
 use oftp_outcomes::Fault;
-use oftp_partners::{Book, Partner};
-use oftp_register::{Cursor, Name, Office};
-use oftp_wire::Mode;
 use std::alloc::Global;
-
-/// Whether something waits for the partner with this code. A partner with mode `Receive` never counts, nor one that the book hasn't.
-///
-/// # Errors
-/// The office failed.
-pub(crate) fn is_due(book: &Book, code: &str, office: &mut impl Office) -> Result<bool, Fault> {
-    match book.partner(code.as_bytes()) {
-        Some(partner) if partner.mode != Mode::Receive => has_item(office, partner),
-        _ => Ok(false),
-    }
-}
-
-/// Whether something is to be sent to a partner.
-///
-/// # Errors
-/// The office failed.
-fn has_item(office: &mut impl Office, partner: &Partner) -> Result<bool, Fault> {
-    let code = Name::of(&partner.code.field());
-    let first = Cursor {
-        response: 0,
-        file: 0,
-    };
-    match office.next_item(&code, first, true) {
-        Ok(item) => Ok(item.is_some()),
-        Err(_) => Err(Fault::Run(RunFault::Office)),
-    }
-}
 
 /// The codes of the partners of a book, in the order of its text. A text without partners, or one that isn't UTF-8, has none. A partner
 /// without a code is left out.

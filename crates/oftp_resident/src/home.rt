@@ -2,9 +2,10 @@
 
 use oftp_engine::Role;
 use oftp_life::{Guest, Life, LifeSession};
+use oftp_outcomes::Trouble;
 use oftp_partners::Book;
 use oftp_register::Office;
-use oftp_sockets::{Keeper, Trouble};
+use oftp_sockets::Keeper;
 use std::alloc::Global;
 use std::mem;
 

@@ -1,20 +1,20 @@
 //! The requests of commands and over HTTP, and their answers.
 
-use crate::answers::Answer;
+use crate::answers::answer_of;
 use crate::asked::{Asked, Made};
-use crate::heads::reply_of_any;
 use crate::home::Home;
+use crate::judging::declined;
+use crate::page::PAGE;
 use crate::peer::{Peer, Reading, Task};
-use crate::replies::{Answered, STOPPING, reply_to};
-use crate::service::{Shell, Site, peer_in};
-use oftp_channel::{LONGEST_PIECE, Outlet, write_piece};
+use crate::service::{Shell, peer_in};
+use oftp_channel::{Ending, LONGEST_PIECE, Outlet, write_piece};
 use oftp_engine::{Port, RunFault};
 use oftp_life::Life;
-use oftp_listing::{ListFault, OfficeState};
-use oftp_outcomes::{DONE, Fault};
+use oftp_listing::{ListFault, OfficeState, Reply, Site, reply_at, reply_of_any, stopping_reply};
+use oftp_outcomes::{Fault, Outcome, Trouble};
 use oftp_register::Office;
 use oftp_schedule::connection::{Reason, Signal};
-use oftp_sockets::{Keeper, Term, Trouble};
+use oftp_sockets::{Keeper, Term};
 use std::alloc::Global;
 use std::net::IpAddr;
 
@@ -94,7 +94,7 @@ impl Shell<'_> {
         };
         let answer = match peer.answer.take() {
             Some(answer) => answer,
-            None => ended(alloc, peer.outcome()),
+            None => ended(alloc, peer.ending()),
         };
         self.send_answer(id, answer)
     }
@@ -106,9 +106,8 @@ impl Shell<'_> {
             return Ok(());
         };
         let answer = match (&peer.task, reason) {
-            (Task::Visitor, _) => Vec::from_slice(alloc, STOPPING).unwrap_or(Vec::new(alloc)),
-            (_, Reason::TimedOut) => ended(alloc, Err(Fault::File)),
-            _ => ended(alloc, Err(Fault::Socket)),
+            (Task::Visitor, _) => stopping(alloc),
+            (_, reason) => ended(alloc, Ending::Failed(declined(reason))),
         };
         self.send_answer(id, answer)
     }
@@ -195,9 +194,13 @@ impl Peer<'_> {
     }
 
     /// The answer with a reply. The error of one that couldn't be made is noted.
-    fn take_reply(&mut self, alloc: Global, reply: Result<Answered, ListFault>) -> Made {
+    fn take_reply(&mut self, alloc: Global, reply: Result<Reply, ListFault>) -> Made {
         match reply {
-            Ok(Answered { octets, office }) => Made { octets, office },
+            Ok(reply) => {
+                let office = reply.office();
+                let octets = reply.into_octets();
+                Made { octets, office }
+            }
             Err(ListFault::Office) => {
                 self.note(Err(Trouble::OfService(Fault::Run(RunFault::Office))));
                 Made {
@@ -220,11 +223,11 @@ impl Peer<'_> {
         }
     }
 
-    /// The outcome of what needed no answer of the office: a copy that is done, or a call that was never made.
-    fn outcome(&self) -> Result<u8, Fault> {
+    /// The end of what needed no answer of the office: a copy that is done, or a call that was never made.
+    fn ending(&self) -> Ending {
         match self.reading {
-            Reading::Copy => Ok(DONE),
-            _ => Err(Fault::Socket),
+            Reading::Copy => Ending::Outcome(Outcome::BackedUp),
+            _ => Ending::Failed(Fault::Socket),
         }
     }
 }
@@ -245,10 +248,10 @@ fn reply_in<O: Office + Drop>(
     address: Option<IpAddr>,
     request: &[u8],
     home: &mut Home<'_, O>,
-) -> Result<Answered, ListFault> {
+) -> Result<Reply, ListFault> {
     match home {
-        Home::Idle(life) => reply_to(alloc, life, site, address, request),
-        Home::Talking(session) => reply_to(alloc, session, site, address, request),
+        Home::Idle(life) => reply_at(alloc, site, PAGE, address, request, life),
+        Home::Talking(session) => reply_at(alloc, site, PAGE, address, request, session),
         Home::Away => Err(ListFault::Memory),
     }
 }
@@ -262,8 +265,16 @@ fn within(term: Term, made: Made) -> Made {
 }
 
 /// The octets of an answer of nothing but its end; none if there is no memory for them.
-fn ended(alloc: Global, outcome: Result<u8, Fault>) -> Vec<u8> {
-    Answer::new(alloc).ended(outcome).unwrap_or(Vec::new(alloc))
+fn ended(alloc: Global, ending: Ending) -> Vec<u8> {
+    answer_of(alloc, &[], ending).unwrap_or(Vec::new(alloc))
+}
+
+/// The octets of the reply to a request that isn't answered, since the station ends; none if there is no memory for them.
+fn stopping(alloc: Global) -> Vec<u8> {
+    match stopping_reply(alloc) {
+        Ok(reply) => reply.into_octets(),
+        Err(_) => Vec::new(alloc),
+    }
 }
 
 /// No answer: the connection is closed.

@@ -1,17 +1,18 @@
 //! A service: one loop over a schedule. Each turn tells it the time and what the sockets have, and carries out one action.
 
 use crate::home::Home;
+use crate::judging::{Closing, closing_of, result_at};
 use crate::limits::limits_of;
 use crate::peer::Peer;
 use crate::watch::{Source, Watch, source_of};
-use oftp_engine::RunFault;
 use oftp_life::Life;
+use oftp_listing::Site;
 use oftp_outcomes::Fault;
 use oftp_partners::Book;
 use oftp_register::Office;
 use oftp_schedule::connection::{Action, Counted, Door, Event, Signal, Status};
 use oftp_schedule::schedule::Schedule;
-use oftp_sockets::{Keeper, Reporter, Station, Term, Trouble, socket_fault};
+use oftp_sockets::{Keeper, Reporter, Station, Term, socket_fault};
 use std::io;
 use std::net::TcpListener;
 use std::os::unix::net::UnixListener;
@@ -30,15 +31,6 @@ pub enum Start {
     Waiting,
     /// It calls each partner of the list of codes.
     Calling,
-}
-
-/// What requests over HTTP are answered.
-#[derive(Clone, Copy)]
-pub enum Site<'a> {
-    /// The register, for whatever host.
-    Register,
-    /// The register and the page, for this machine and for another host name if there is one.
-    Page(Option<&'a String>),
 }
 
 /// The listeners and settings of a service. [`serve`] makes its listeners non-blocking.
@@ -203,13 +195,9 @@ impl<'a> Shell<'a> {
 
     /// The result of a service that ended like this.
     fn result_of(&self, status: Status) -> Result<(), Fault> {
-        if let Some(fault) = self.fault {
-            return Err(fault);
-        }
-        match status {
-            Status::Stopped => Ok(()),
-            Status::DoorFailed => Err(Fault::Socket),
-            Status::OfficeFailed => Err(Fault::Run(RunFault::Office)),
+        match result_at(self.fault, status) {
+            Some(fault) => Err(fault),
+            None => Ok(()),
         }
     }
 
@@ -324,16 +312,13 @@ impl<'a> Shell<'a> {
             None => None,
         };
         self.peers.retain(|peer| peer.id != id);
-        match trouble {
-            Some(Trouble::OfJob(fault)) => {
+        match closing_of(trouble, term) {
+            Closing::Nothing => Ok(()),
+            Closing::Tell(fault) => {
                 reporter.refuse(fault);
                 Ok(())
             }
-            Some(Trouble::OfService(fault)) => match term {
-                Term::OfJob => self.fail(fault),
-                Term::OfService => Ok(()),
-            },
-            None => Ok(()),
+            Closing::Fail(fault) => self.fail(fault),
         }
     }
 

@@ -1,49 +1,12 @@
 //! The lines that the resident station prints for its sessions.
 
-use oftp_engine::{End, RunFault};
-use oftp_outcomes::{Fault, Outcome, write_line};
-use oftp_sockets::{Reporter, Trouble, Way};
-use std::fmt;
+use oftp_engine::End;
+use oftp_outcomes::{Fault, ServiceLine, Trouble, Way, last_fault, plain, write_line};
+use oftp_sockets::Reporter;
 use std::io::Write;
 
-/// The line of a session: the partner's code, the side that called, and the end of the session.
-#[derive(Clone, Copy)]
-struct SessionLine<'a> {
-    code: &'a str,
-    way: Way,
-    ended: Result<End, Fault>,
-}
-
-impl fmt::Display for SessionLine<'_> {
-    fn fmt<W: fmt::Write>(&self, f: &mut fmt::Formatter<W>) -> fmt::Result {
-        let way = match self.way {
-            Way::In => "in",
-            Way::Out => "out",
-        };
-        write!(f, "session {} {way}: ", self.code)?;
-        match self.ended {
-            Ok(end) => write!(f, "{}", Outcome::Ended(end)),
-            Err(fault) => write!(f, "{fault}"),
-        }
-    }
-}
-
-/// How a session ended, whoever else its error concerns.
-pub(crate) fn plain(ended: &Result<End, Trouble>) -> Result<End, Fault> {
-    match ended {
-        Ok(end) => Ok(*end),
-        Err(trouble) => Err(trouble.fault()),
-    }
-}
-
-/// The error of a session that ends the station: each of the service but out of memory, which ends the session alone.
-fn last_fault(ended: &Result<End, Trouble>) -> Option<Fault> {
-    match ended {
-        Err(Trouble::OfService(Fault::Run(RunFault::Memory))) => None,
-        Err(Trouble::OfService(fault)) => Some(*fault),
-        _ => None,
-    }
-}
+/// The code in the line of a caller who wasn't let in.
+const NOBODY: &str = "-";
 
 /// Prints a line for each session, and `ready` before the first.
 #[derive(Drop)]
@@ -60,7 +23,7 @@ impl<'w, W: Write> SessionLines<'w, W> {
 
 impl<W: Write> Reporter for SessionLines<'_, W> {
     fn begin(&mut self) -> Result<(), Fault> {
-        write_line(self.out, &"ready")
+        write_line(self.out, &ServiceLine::Ready)
     }
 
     // Out of memory ends the session alone.
@@ -70,9 +33,8 @@ impl<W: Write> Reporter for SessionLines<'_, W> {
         way: Way,
         ended: Result<End, Trouble>,
     ) -> Result<(), Fault> {
-        let code = code.unwrap_or("-");
-        let line = SessionLine {
-            code,
+        let line = ServiceLine::Session {
+            code: code.unwrap_or(NOBODY),
             way,
             ended: plain(&ended),
         };

@@ -2,17 +2,16 @@
 
 use crate::answers::answer_of_call;
 use crate::home::Home;
+use crate::judging::{ended_for, farewell_of, result_of, trouble_of};
 use crate::peer::{Came, PIECE, Peer, Reading, Task};
 use crate::service::{Books, Shell, peer_in};
-use crate::session_lines::plain;
 use oftp_engine::{End, Role, RunFault};
 use oftp_life::{Life, Stage};
-use oftp_outcomes::Fault;
+use oftp_outcomes::{Fault, Trouble, Way, plain};
 use oftp_partners::Book;
 use oftp_register::Office;
 use oftp_schedule::connection::{self as schedule, Input, Reason, Signal, Step};
-use oftp_session::Ending;
-use oftp_sockets::{Keeper, Reporter, Trouble, Way};
+use oftp_sockets::{Keeper, Reporter};
 use std::alloc::Global;
 
 impl<'a> Shell<'a> {
@@ -80,9 +79,9 @@ impl<'a> Shell<'a> {
             let step = peer.step(heard);
             return self.tell(id, Signal::Waits(step));
         }
-        peer.note(result_of(&stage));
+        peer.note(result_of(stage));
         home.end();
-        self.tell(id, Signal::Ended(end_of(&stage)))
+        self.tell(id, Signal::Ended(farewell_of(stage)))
     }
 
     /// Reports the end of a session that is over for this reason, unless it ended by itself.
@@ -255,51 +254,7 @@ impl<'a> Peer<'a> {
     }
 }
 
-/// An error of a session: of that session alone, or of the service.
-fn trouble_of(fault: RunFault) -> Trouble {
-    match fault {
-        RunFault::Read | RunFault::Write => Trouble::OfJob(Fault::Run(fault)),
-        RunFault::Office | RunFault::Memory => Trouble::OfService(Fault::Run(fault)),
-    }
-}
-
-/// How a session ended that stands like this.
-fn result_of(stage: &Option<Stage>) -> Result<End, Trouble> {
-    match stage {
-        Some(Stage::Ended(ending)) => Ok(End::from(*ending)),
-        // What a session says is kept in memory.
-        Some(Stage::Failed(RunFault::Write)) => Err(trouble_of(RunFault::Memory)),
-        Some(Stage::Failed(fault)) => Err(trouble_of(*fault)),
-        Some(Stage::Waits) | None => Err(trouble_of(RunFault::Write)),
-        Some(Stage::Lost) => Err(trouble_of(RunFault::Office)),
-    }
-}
-
 /// Whether a session waits for its partner.
 fn is_waiting(stage: &Option<Stage>) -> bool {
     matches!(stage, Some(Stage::Waits))
-}
-
-/// Whether its last words are still to go out.
-fn end_of(stage: &Option<Stage>) -> schedule::End {
-    match stage {
-        Some(Stage::Ended(Ending::Own(_)) | Stage::Failed(RunFault::Office) | Stage::Lost) => {
-            schedule::End::Own
-        }
-        _ => schedule::End::Other,
-    }
-}
-
-/// How a session ended that was cut off for this reason, or was never begun.
-fn ended_for(reason: Reason) -> Result<End, Trouble> {
-    match reason {
-        Reason::Quit | Reason::Finished => Ok(End::Input),
-        Reason::Stalled => Err(trouble_of(RunFault::Write)),
-        Reason::Unreached | Reason::Orphaned => Err(Trouble::OfJob(Fault::Socket)),
-        // A session that goes on is cut off only by a failing office.
-        Reason::Stopping => Err(trouble_of(RunFault::Office)),
-        Reason::Evicted | Reason::Invalid | Reason::TimedOut | Reason::Vanished => {
-            Err(trouble_of(RunFault::Read))
-        }
-    }
 }

@@ -2,7 +2,7 @@
 
 use oftp_engine::End;
 use oftp_files::Trace;
-use oftp_outcomes::Fault;
+use oftp_outcomes::{Fault, Trouble, Way};
 use oftp_partners::Book;
 use std::time::Duration;
 
@@ -24,24 +24,6 @@ pub fn patience_of(seconds: u64) -> Option<Duration> {
     match seconds {
         0 => None,
         _ => Some(Duration::from_secs(seconds)),
-    }
-}
-
-/// Why a job or a session failed.
-#[derive(Clone, Copy, Drop)]
-pub enum Trouble {
-    /// An error of this job alone. The service goes on.
-    OfJob(Fault),
-    /// An error that ends the service.
-    OfService(Fault),
-}
-
-impl Trouble {
-    /// The error of either kind.
-    pub fn fault(self) -> Fault {
-        match self {
-            Trouble::OfJob(fault) | Trouble::OfService(fault) => fault,
-        }
     }
 }
 
@@ -67,15 +49,6 @@ pub trait Keeper<L> {
 
     /// How long each life lasts.
     fn term(&self) -> Term;
-}
-
-/// Which side called.
-#[derive(Clone, Copy)]
-pub enum Way {
-    /// The partner called.
-    In,
-    /// The station called.
-    Out,
 }
 
 /// Who is told what becomes of a service.

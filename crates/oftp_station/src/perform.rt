@@ -3,14 +3,12 @@
 mod residence;
 
 use oftp_command_line::{Line, LineFault, VERSION, help, line_of};
-use oftp_commands::{self as commands, Asking, Content, reached};
+use oftp_commands as commands;
 use oftp_files::{read_book, show};
 use oftp_outcomes::{
-    DONE, FAILED, Fault, Outcome, Output, Reader, is_told, status_of, tell, write_line,
+    DONE, FAILED, Fault, Outcome, Output, Reader, is_told, status_where, tell, write_line,
 };
-use oftp_store::StoreFault;
 use std::io::{self, ErrorKind, Write};
-use std::os::unix::net::UnixStream;
 
 /// The exit status for a bad command line.
 const BAD_LINE: u8 = 2;
@@ -24,7 +22,7 @@ pub fn perform(
     err: &mut impl Write,
 ) -> u8 {
     match line_of(rt.alloc(), words) {
-        Ok(line) => match carry_out(rt, words, &line, out, err) {
+        Ok(line) => match carry_out(rt, &line, out, err) {
             Ok(status) => status,
             Err(fault) => tell_fault(fault, reader_of(&line, out), err),
         },
@@ -66,128 +64,41 @@ pub fn tell_unread(error: &io::Error, err: &mut impl Write) -> u8 {
     BAD_LINE
 }
 
-/// The database of a command that a station over it can carry out.
-fn shared_database<'a>(line: &Line<'a>) -> Option<&'a str> {
-    match line {
-        Line::Submit(submit) => Some(submit.files.database),
-        Line::Offer(offer) => Some(offer.files.database),
-        Line::Release(release) => Some(release.files.database),
-        Line::Refuse(refuse) => Some(refuse.files.database),
-        Line::Call(call) => Some(call.files.database),
-        Line::Fetch(fetch) => Some(fetch.database),
-        Line::Collect(collect) => Some(collect.files.database),
-        Line::Report(report) => Some(report.database),
-        Line::Backup(backup) => Some(backup.database),
-        Line::Init { database } => Some(*database),
-        _ => None,
-    }
-}
-
-/// Carries out a command: by the station that runs over its database, or else with the database itself. After an error of the store, such
-/// as a locked database, a station that has started meanwhile is asked. What is read of a pipe is read once, before that.
+/// Carries out a command and writes its line. Returns the exit status. Reports, services and commands over a folder write their lines
+/// themselves.
 fn carry_out(
     rt: &HostRuntime,
-    words: &[String],
     line: &Line<'_>,
-    out: &mut impl Write,
-    err: &mut impl Write,
-) -> Result<u8, Fault> {
-    let mut content = Content::of(rt, line);
-    let Some(database) = shared_database(line) else {
-        return carry_out_alone(rt, line, &mut content, out, err);
-    };
-    if let Some(stream) = &reached(rt, database) {
-        return carry_out_beside(rt, words, stream, line, &mut content, out, err);
-    }
-    let done = carry_out_alone(rt, line, &mut content, out, err);
-    if !matches!(&done, Err(Fault::Store(StoreFault::Store))) {
-        return done;
-    }
-    match &reached(rt, database) {
-        Some(stream) => carry_out_beside(rt, words, stream, line, &mut content, out, err),
-        None => done,
-    }
-}
-
-/// Carries out a command by the station that is connected over a stream. A command over many files connects to it many times.
-fn carry_out_beside(
-    rt: &HostRuntime,
-    words: &[String],
-    stream: &UnixStream,
-    line: &Line<'_>,
-    content: &mut Content,
-    out: &mut impl Write,
-    err: &mut impl Write,
-) -> Result<u8, Fault> {
-    match line {
-        Line::Collect(collect) => commands::collect_beside(rt, collect, out),
-        Line::Offer(offer) => commands::offer_beside(rt, offer, out),
-        _ => ask(Asking::new(rt, words, stream), line, content, out, err),
-    }
-}
-
-/// Asks a station to carry out a command.
-fn ask(
-    asking: Asking<'_>,
-    line: &Line<'_>,
-    content: &mut Content,
-    out: &mut impl Write,
-    err: &mut impl Write,
-) -> Result<u8, Fault> {
-    match line {
-        Line::Submit(submit) => asking.submit(submit, content, out, err),
-        Line::Release(release) => asking.respond(&release.files, out, err),
-        Line::Refuse(refuse) => asking.respond(&refuse.files, out, err),
-        Line::Fetch(fetch) => asking.fetch(fetch, out, err),
-        Line::Report(_) => asking.report(out, err),
-        Line::Backup(backup) => asking.back_up(backup, out, err),
-        Line::Call(call) => asking.call(call, out, err),
-        _ => asking.ask_alone(out, err),
-    }
-}
-
-/// Carries out a command and writes its line. Returns the exit status. Operator's calls, reports, services and commands over a folder write
-/// their lines themselves.
-fn carry_out_alone(
-    rt: &HostRuntime,
-    line: &Line<'_>,
-    content: &mut Content,
     out: &mut impl Write,
     err: &mut impl Write,
 ) -> Result<u8, Fault> {
     match line {
         Line::Help => print_help(rt, out),
         Line::Version => print(VERSION, out),
-        Line::Submit(submit) => Ok(status_of(commands::submit(rt, submit, content, out)?)),
+        Line::Submit(submit) => tell(commands::submit(rt, submit)?, out),
         Line::Offer(offer) => commands::offer(rt, offer, out),
         Line::Collect(collect) => commands::collect(rt, collect, out),
-        Line::Release(release) => Ok(status_of(commands::release(rt, release, out)?)),
-        Line::Refuse(refuse) => Ok(status_of(commands::refuse(rt, refuse, out)?)),
-        Line::Report(what) => {
-            commands::write_report(rt, what, out)?;
-            Ok(DONE)
-        }
+        Line::Release(release) => tell(commands::release(rt, release)?, out),
+        Line::Refuse(refuse) => tell(commands::refuse(rt, refuse)?, out),
+        Line::Report(what) => done(commands::write_report(rt, what, out)),
         Line::Init { database } => tell(commands::initiate(rt, database)?, out),
         Line::Migrate { database } => tell(commands::migrate(rt, database)?, out),
         Line::Check { book } => tell(check(rt, book)?, out),
         Line::Fetch(fetch) => tell(commands::fetch(rt, fetch)?, out),
         Line::Backup(backup) => tell(commands::back_up(rt, backup)?, out),
         Line::Feed(feed) => tell(commands::feed(rt, feed)?, out),
-        Line::Show { input } => Ok(if show(rt, input, out)? { DONE } else { FAILED }),
+        Line::Show { input } => Ok(status_where(show(rt, input, out)?)),
         Line::Call(call) => tell(commands::call(rt, call)?, out),
-        Line::Run(run) => {
-            residence::run(rt, run, out)?;
-            Ok(DONE)
-        }
-        Line::Listen(listen) => {
-            commands::listen(rt, listen, out, err)?;
-            Ok(DONE)
-        }
-        Line::Http(http) => {
-            commands::http(rt, http, out, err)?;
-            Ok(DONE)
-        }
+        Line::Run(run) => done(residence::run(rt, run, out)),
+        Line::Listen(listen) => done(commands::listen(rt, listen, out, err)),
+        Line::Http(http) => done(commands::http(rt, http, out, err)),
     }
+}
+
+/// The exit status of a command that has written its lines.
+fn done(ended: Result<(), Fault>) -> Result<u8, Fault> {
+    ended?;
+    Ok(DONE)
 }
 
 /// Prints what each command takes and does.

@@ -315,13 +315,18 @@ needs_fit told fits edits n change is = record {
   unfit = λ r file sound here unfit. let m = is.known r file sound here in m.is ∙ ap (λ b. cond b (Ok m.now) (Err Unfit)) unfit;
 }
 
+-- a file that fits is changed by these edits
+pub made_fit : {A : Type 0} {told : Register → ℕ → Option A → Type 0} {fits : A → Bool} {edits : A → List Edit} {n : ℕ} {change : Change} {r : Register} {file : A}
+    → IsOfFile told fits edits n change → told r n (Some file) → fits file ≡ true → IsSound r → IsMadeBy (edits file) r change
+made_fit {r = r} {file = file} is here fit sound =
+    let m = is.known r file sound here in
+    record { now = m.now; is = m.is ∙ ap (λ b. cond b (Ok m.now) (Err Unfit)) fit; limits = m.limits; edited = m.edited fit }
+
 pub commits_fit : {S A : Type 0} (g : Ghosts S) (told : Register → ℕ → Option A → Type 0) (fits : A → Bool) (edits : A → List Edit) (n : ℕ) (limits : Limits) (change : Change)
     (old mid new : Held S) (file : A) (result : Result (Unit {0}) OfficeFault) → IsOfFile told fits edits n change → Finds told n (state g old) (state g mid) file → fits file ≡ true
     → MakesEdits (edits file) g mid new result → CommitsOn limits change (state g old) (state g new) result
 commits_fit g told fits edits n limits change old mid new file result is finds fit makes =
-    commits_by g (edits file) limits change old mid new (Some file) result finds.looks (λ k stands.
-    let m = is.known _ file stands.holds.sound (finds.answer k limits stands) in
-    record { now = m.now; is = m.is ∙ ap (λ b. cond b (Ok m.now) (Err Unfit)) fit; limits = m.limits; edited = m.edited fit }) makes
+    commits_by g (edits file) limits change old mid new (Some file) result finds.looks (λ k stands. made_fit is (finds.answer k limits stands) fit stands.holds.sound) makes
 
 -- How such a change ends: with an error of the look-up, or because there is no such file; the same for look-up and test together; with the
 -- refusal of a file that doesn't fit; or with its edits.

@@ -32,3 +32,5 @@ mod SubmissionLemmas
 mod BeginningLemmas
 mod FilingLemmas
 mod AnsweredLemmas
+mod CauseLemmas
+mod MisreadLemmas

@@ -1,14 +1,16 @@
 -- What a change needs to know of a file, from its header, its rows and its response.
-use Rattle.std.proofs.Common.{◌≡◌, ◌==◌, ℕ, List, [], ◌∷◌, length, map, find, Option, Some, None, unwrap_or, refl, sym, ap, ◌∙◌, arith}
+use Rattle.std.proofs.Common.{◌≡◌, ◌==◌, ◌≤◌, ℕ, All, List, [], ◌∷◌, length, map, find, Option, Some, None, unwrap_or, refl, sym, ap, subst, ◌∙◌, arith}
 use Rattle.std.specs.Option.{option_map}
 use Rattle.std.proofs.lemmas.List.{map-append, length-map}
 use Rattle.oftp_register.specs.declared.entries.IssuedResponse.{IssuedResponse}
 use Rattle.oftp_register.specs.declared.entries.Side.TheVariants as side
 use Rattle.oftp_register.specs.Register.{Register, Incoming, Issued}
+use Rattle.oftp_register.specs.Soundness.{IsSound, IsSoundOutgoing}
 use Rattle.oftp_register.specs.LookUps.{entry_at, file_rows, in_by_no, incoming_entry, issued_response, numbered, out_by_no, outgoing_entry}
 use Rattle.oftp_register.specs.declared.entries.IncomingEntry.{IncomingEntry}
 use Rattle.oftp_register.specs.declared.entries.OutgoingEntry.{OutgoingEntry}
 use Rattle.oftp_tables.specs.Tables.{rows_in, rows_out}
+use Rattle.oftp_tables.proofs.BackLemmas.{all_at_place}
 use Rattle.oftp_store.specs.Reads.{IsPlaced, IsResponseTo, IsToldOf, incoming_entry_of, incoming_header_of, outgoing_entry_of, outgoing_header_of}
 use Rattle.oftp_store.specs.FileProgress.{response_progress_of, dispatch_of, incoming_progress_of, outgoing_progress_of}
 use Rattle.oftp_store.specs.declared.queries.header.IncomingHeader.{IncomingHeader}
@@ -59,6 +61,14 @@ response_progress_told r k h found (before, f, after, placed, is) response = (
     twice : (o : Option Issued) → option_map (λ (i : IssuedResponse). i.dispatch) (option_map issued_response o) ≡ option_map dispatch_of o
     twice None = refl
     twice (Some x) = refl
+
+-- the mark of a file doesn't exceed its rows
+pub mark_within : (r : Register) (k count : ℕ) (h : OutgoingHeader) → IsSound r → IsToldOf outgoing_header_of r.outgoing k (Some h) → count ≡ length (file_rows r side.Outgoing k) → h.mark ≤ count
+mark_within r k count h sound (before, f, after, placed, is) counted =
+    let mark : h.mark ≡ f.mark = ap (λ (h : OutgoingHeader). h.mark) is in
+    let rows : count ≡ length f.rows = counted ∙ ap (λ o. length (unwrap_or o [])) (mapped_placed rows_out k r.outgoing before f after placed) in
+    let file = all_at_place IsSoundOutgoing before f after (subst (All IsSoundOutgoing) placed.here sound.outgoing) in
+    omega (arith, mark, rows, file.marked)
 
 -- ---- entries
 

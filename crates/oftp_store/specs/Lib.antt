@@ -11,3 +11,4 @@ pub mod Opens
 pub mod Allocations
 pub mod ResponseMatches
 pub mod Shown
+pub mod Causes

@@ -3,14 +3,11 @@
 use crate::line::Line;
 use crate::octets::{print_line, print_whole};
 use oftp_channel::{
-    AnswerPart, HearFault, Outlet, PieceWriter, fits, lacking, read_part, read_ready, read_request,
-    write_end, write_ready, write_request,
+    AnswerPart, Ending, HearFault, Outlet, PieceWriter, Word, lacking, read_part, read_ready,
+    read_request, words_fit, write_end, write_ready, write_words,
 };
 use oftp_io::Port;
 use std::io::{self, Write};
-
-/// The exit status at the end of answers.
-const STATUS: u8 = 7;
 
 /// The message that octets are read as.
 #[derive(Clone, Copy, Drop)]
@@ -66,10 +63,10 @@ fn print_cuts(rt: &HostRuntime, heard: Heard, octets: &[u8]) -> io::Result<()> {
 fn ask(rt: &HostRuntime, words: &[Vec<u8>]) -> io::Result<()> {
     let mut lent = Vec::new(rt.alloc());
     for word in words {
-        lent.push(word.as_slice())?;
+        lent.push(Word::Octets(word))?;
     }
     let mut port = Port::new(Vec::new(rt.alloc()), 0);
-    if fits(&lent) && write_request(&mut port, &lent) {
+    if words_fit(&lent) && write_words(&mut port, &lent) {
         print_line(rt, "  ", port.inner())
     } else {
         println!(rt; "  no request")
@@ -115,16 +112,24 @@ fn tell(rt: &HostRuntime, pieces: &[Vec<u8>]) -> io::Result<()> {
     for (place, octets) in pieces.iter().enumerate() {
         let outlet = match place {
             0 => Outlet::Output,
-            1 => Outlet::Errors,
             _ => Outlet::Content,
         };
         PieceWriter::new(Port::new(&mut answer, 0), outlet).write_all(octets)?;
     }
     let mut port = Port::new(&mut answer, 0);
-    if write_end(&mut port, STATUS) {
+    if write_end(&mut port, Ending::Listed) {
         print_line(rt, "  ", &answer)
     } else {
         println!(rt; "  no answer")
+    }
+}
+
+/// Prints how a request ended.
+fn print_ending(rt: &HostRuntime, ending: Ending) -> io::Result<()> {
+    match ending {
+        Ending::Outcome(outcome) => println!(rt; "  End {outcome}"),
+        Ending::Failed(fault) => println!(rt; "  End {fault}"),
+        Ending::Listed | Ending::Same | Ending::Other => println!(rt; "  End {ending:?}"),
     }
 }
 
@@ -137,8 +142,8 @@ fn print_part(rt: &HostRuntime, part: Result<AnswerPart, HearFault>) -> io::Resu
             println!(rt)?;
             Ok(true)
         }
-        Ok(AnswerPart::End(status)) => {
-            println!(rt; "  End {status}")?;
+        Ok(AnswerPart::End(ending)) => {
+            print_ending(rt, ending)?;
             Ok(false)
         }
         Err(fault) => {
@@ -159,6 +164,28 @@ fn told(rt: &HostRuntime, octets: &[u8]) -> io::Result<()> {
     println!(rt; "  {} octets left", port.inner().len())
 }
 
+/// Prints the octets that are written for an ending.
+fn print_written(rt: &HostRuntime, ending: Ending) -> io::Result<()> {
+    let mut port = Port::new(Vec::new(rt.alloc()), 0);
+    if write_end(&mut port, ending) {
+        print_line(rt, "  ", port.inner())
+    } else {
+        println!(rt; "  no end")
+    }
+}
+
+/// Prints the end of an answer at the front of the octets, and the octets that are written for it.
+fn ended(rt: &HostRuntime, octets: &[u8]) -> io::Result<()> {
+    match read_part(rt.alloc(), &mut port_of(octets)) {
+        Ok(AnswerPart::End(ending)) => {
+            print_ending(rt, ending)?;
+            print_written(rt, ending)
+        }
+        Ok(AnswerPart::Piece(outlet, _)) => println!(rt; "  {outlet:?}"),
+        Err(fault) => println!(rt; "  {fault:?}"),
+    }
+}
+
 /// Prints the octets of the ready message.
 fn ready(rt: &HostRuntime) -> io::Result<()> {
     let mut port = Port::new(Vec::new(rt.alloc()), 0);
@@ -174,6 +201,7 @@ pub fn answer(rt: &HostRuntime, line: &mut Line) -> io::Result<()> {
         "lacking" => print_lacking(rt, &line.octets(rt.alloc())?),
         "tell" => tell(rt, &line.words(rt.alloc())?),
         "told" => told(rt, &line.octets(rt.alloc())?),
+        "ended" => ended(rt, &line.octets(rt.alloc())?),
         "part" => print_cuts(rt, Heard::Part, &line.octets(rt.alloc())?),
         "hear" => print_cuts(rt, Heard::Ready, &line.octets(rt.alloc())?),
         _ => ready(rt),

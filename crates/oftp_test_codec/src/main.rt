@@ -6,6 +6,7 @@ mod commands;
 mod files;
 mod line;
 mod octets;
+mod requests;
 mod streams;
 mod takers;
 mod values;
@@ -40,6 +41,7 @@ fn answer(rt: &HostRuntime, line: &mut Line) -> io::Result<()> {
         "whole" => files::whole(rt, line),
         "take" => takers::take(rt, line),
         "channel" => channel::answer(rt, line),
+        "typed" => requests::answer(rt, line),
         call => answer_of_wire(rt, call, line),
     }
 }

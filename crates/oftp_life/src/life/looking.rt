@@ -1,6 +1,6 @@
 //! A life as an office that can only be looked at: it refuses each change.
 
-ghost use Rattle.std.specs.Prelude.{◌≡◌, ◌≤◌, IfOk, IfSome};
+ghost use Rattle.std.specs.Prelude.{◌≡◌, ◌≤◌, IfOk, IfSome, true};
 ghost use Rattle.oftp_register.specs.Register.{has_received};
 ghost use Rattle.oftp_register.specs.LookUps.{AreRowsWithin, IsIncomingWithin, IsItemWithin, IsOutgoingWithin, files_full, in_by_no, list_answered, list_in, list_issued, list_out, list_received, look_in, look_out, next_item, out_by_no, rows_of, units_of};
 ghost use Rattle.oftp_register.specs.Offices.{Commits, LooksUp};
@@ -28,6 +28,7 @@ impl<O: Office> Office for Life<O> {
     fn look_in(&mut self, identity: &Identity) -> Result<Option<IncomingEntry>, OfficeFault>
         ensures looks { LooksUp (λ r found. found ≡ look_in r identity.now) (life_seen O.view self.old) (life_seen O.view self.new) result }
         ensures within { IfOk result (λ found. IfSome found IsIncomingWithin) }
+        ensures idle { self.old.over ≡ true → result ≡ Err OfficeFault.Store }
         ensures same { IsSameLife self.old self.new }
     {
         if self.is_over {
@@ -42,6 +43,7 @@ impl<O: Office> Office for Life<O> {
     fn look_out(&mut self, identity: &Identity) -> Result<Option<OutgoingEntry>, OfficeFault>
         ensures looks { LooksUp (λ r found. found ≡ look_out r identity.now) (life_seen O.view self.old) (life_seen O.view self.new) result }
         ensures within { IfOk result (λ found. IfSome found IsOutgoingWithin) }
+        ensures idle { self.old.over ≡ true → result ≡ Err OfficeFault.Store }
         ensures same { IsSameLife self.old self.new }
     {
         if self.is_over {
@@ -56,6 +58,7 @@ impl<O: Office> Office for Life<O> {
     fn in_by_no(&mut self, no: u64) -> Result<Option<IncomingEntry>, OfficeFault>
         ensures looks { LooksUp (λ r found. found ≡ in_by_no r no) (life_seen O.view self.old) (life_seen O.view self.new) result }
         ensures within { IfOk result (λ found. IfSome found IsIncomingWithin) }
+        ensures idle { self.old.over ≡ true → result ≡ Err OfficeFault.Store }
         ensures same { IsSameLife self.old self.new }
     {
         if self.is_over {
@@ -70,6 +73,7 @@ impl<O: Office> Office for Life<O> {
     fn out_by_no(&mut self, no: u64) -> Result<Option<OutgoingEntry>, OfficeFault>
         ensures looks { LooksUp (λ r found. found ≡ out_by_no r no) (life_seen O.view self.old) (life_seen O.view self.new) result }
         ensures within { IfOk result (λ found. IfSome found IsOutgoingWithin) }
+        ensures idle { self.old.over ≡ true → result ≡ Err OfficeFault.Store }
         ensures same { IsSameLife self.old self.new }
     {
         if self.is_over {
@@ -83,6 +87,7 @@ impl<O: Office> Office for Life<O> {
 
     fn files_full(&mut self, side: Side) -> Result<bool, OfficeFault>
         ensures looks { LooksUp (λ r full. full ≡ files_full r side) (life_seen O.view self.old) (life_seen O.view self.new) result }
+        ensures idle { self.old.over ≡ true → result ≡ Err OfficeFault.Store }
         ensures same { IsSameLife self.old self.new }
     {
         if self.is_over {
@@ -96,6 +101,7 @@ impl<O: Office> Office for Life<O> {
 
     fn has_received(&mut self, kind: ResponseKind, identity: &Identity) -> Result<bool, OfficeFault>
         ensures looks { LooksUp (λ r there. there ≡ has_received r kind identity.now) (life_seen O.view self.old) (life_seen O.view self.new) result }
+        ensures idle { self.old.over ≡ true → result ≡ Err OfficeFault.Store }
         ensures same { IsSameLife self.old self.new }
     {
         if self.is_over {
@@ -115,6 +121,7 @@ impl<O: Office> Office for Life<O> {
     ) -> Result<Option<Item>, OfficeFault>
         ensures looks { LooksUp (λ r item. item ≡ next_item r partner.now cursor files) (life_seen O.view self.old) (life_seen O.view self.new) result }
         ensures within { IfOk result (λ found. IfSome found IsItemWithin) }
+        ensures idle { self.old.over ≡ true → result ≡ Err OfficeFault.Store }
         ensures same { IsSameLife self.old self.new }
     {
         if self.is_over {
@@ -129,6 +136,7 @@ impl<O: Office> Office for Life<O> {
     fn rows_of(&mut self, side: Side, no: u64, from: u64, most: u64) -> Result<Rows, OfficeFault>
         ensures looks { LooksUp (λ r rows. rows ≡ rows_of r side no from most) (life_seen O.view self.old) (life_seen O.view self.new) result }
         ensures within { IfOk result (AreRowsWithin from most) }
+        ensures idle { self.old.over ≡ true → result ≡ Err OfficeFault.Store }
         ensures same { IsSameLife self.old self.new }
     {
         if self.is_over {
@@ -143,6 +151,7 @@ impl<O: Office> Office for Life<O> {
     fn units_of(&mut self, side: Side, no: u64) -> Result<u64, OfficeFault>
         ensures looks { LooksUp (λ r units. units ≡ units_of r side no) (life_seen O.view self.old) (life_seen O.view self.new) result }
         ensures within { IfOk result (λ units. units ≤ MOST_UNITS) }
+        ensures idle { self.old.over ≡ true → result ≡ Err OfficeFault.Store }
         ensures same { IsSameLife self.old self.new }
     {
         if self.is_over {
@@ -156,6 +165,7 @@ impl<O: Office> Office for Life<O> {
 
     fn list_in(&mut self) -> Result<Vec<IncomingEntry>, OfficeFault>
         ensures looks { LooksUp (λ r entries. entries.items ≡ list_in r) (life_seen O.view self.old) (life_seen O.view self.new) result }
+        ensures idle { self.old.over ≡ true → result ≡ Err OfficeFault.Store }
         ensures same { IsSameLife self.old self.new }
     {
         if self.is_over {
@@ -169,6 +179,7 @@ impl<O: Office> Office for Life<O> {
 
     fn list_out(&mut self) -> Result<Vec<OutgoingEntry>, OfficeFault>
         ensures looks { LooksUp (λ r entries. entries.items ≡ list_out r) (life_seen O.view self.old) (life_seen O.view self.new) result }
+        ensures idle { self.old.over ≡ true → result ≡ Err OfficeFault.Store }
         ensures same { IsSameLife self.old self.new }
     {
         if self.is_over {
@@ -182,6 +193,7 @@ impl<O: Office> Office for Life<O> {
 
     fn list_issued(&mut self) -> Result<Vec<IssuedEntry>, OfficeFault>
         ensures looks { LooksUp (λ r entries. entries.items ≡ list_issued r) (life_seen O.view self.old) (life_seen O.view self.new) result }
+        ensures idle { self.old.over ≡ true → result ≡ Err OfficeFault.Store }
         ensures same { IsSameLife self.old self.new }
     {
         if self.is_over {
@@ -195,6 +207,7 @@ impl<O: Office> Office for Life<O> {
 
     fn list_received(&mut self) -> Result<Vec<ReceivedEntry>, OfficeFault>
         ensures looks { LooksUp (λ r entries. entries.items ≡ list_received r) (life_seen O.view self.old) (life_seen O.view self.new) result }
+        ensures idle { self.old.over ≡ true → result ≡ Err OfficeFault.Store }
         ensures same { IsSameLife self.old self.new }
     {
         if self.is_over {
@@ -208,6 +221,7 @@ impl<O: Office> Office for Life<O> {
 
     fn list_answered(&mut self) -> Result<Vec<AnsweredEntry>, OfficeFault>
         ensures looks { LooksUp (λ r entries. entries.items ≡ list_answered r) (life_seen O.view self.old) (life_seen O.view self.new) result }
+        ensures idle { self.old.over ≡ true → result ≡ Err OfficeFault.Store }
         ensures same { IsSameLife self.old self.new }
     {
         if self.is_over {
@@ -221,6 +235,7 @@ impl<O: Office> Office for Life<O> {
 
     fn commit(&mut self, _change: Change<'_>) -> Result<(), OfficeFault>
         ensures commits { Commits _change.entry (life_seen O.view self.old) (life_seen O.view self.new) result }
+        ensures refuses { result ≡ Err OfficeFault.Store }
         ensures same { IsSameLife self.old self.new }
     {
         Err(lost(&mut self.faults))

@@ -5,8 +5,9 @@ use oftp_commands::{admission_of, station_of, trace_of};
 use oftp_database::{self as database, DatabaseOffice, PATIENCE};
 use oftp_files::read_book_octets;
 use oftp_life::Life;
+use oftp_listing::Site;
 use oftp_outcomes::Fault;
-use oftp_resident::{Bench, Kept, SessionLines, Site, Start, codes_of, serve};
+use oftp_resident::{Bench, Kept, SessionLines, Start, codes_of, serve};
 use oftp_schedule::connection::Counted;
 use oftp_sockets::{SocketPlace, Station, bound, socket_fault};
 use std::alloc::Global;
@@ -36,6 +37,14 @@ fn name_of(alloc: Global, name: Option<&str>) -> Result<Option<String>, Fault> {
     }
 }
 
+/// A name as text, if there is one.
+fn text_of(name: &Option<String>) -> Option<&str> {
+    match name {
+        Some(name) => Some(name.as_str()),
+        None => None,
+    }
+}
+
 /// Serves them in a life over the database. `octets` are the book's.
 fn run_over(
     rt: &HostRuntime,
@@ -55,7 +64,7 @@ fn run_over(
     let place = SocketPlace::beside(rt, line.files.database).map_err(|error| socket_fault(&error))?;
     let commands = place.listen(rt).map_err(|error| socket_fault(&error))?;
     let requests = requests.as_ref();
-    let host = host.as_ref();
+    let host = text_of(&host);
     let bench = Bench {
         partners: Some(&partners),
         commands: Some(&commands),

@@ -1,8 +1,9 @@
 //! The commit of any change of the register to the database.
 
-ghost use Rattle.std.specs.Prelude.{◌≡◌, false};
+ghost use Rattle.std.specs.Prelude.{◌≡◌, false, IfErr};
 ghost use Rattle.sqlite.specs.Held.{state};
 ghost use Rattle.oftp_store.specs.Commits.{CommitsOn};
+ghost use Rattle.oftp_store.specs.Causes.{HasCommitCause};
 
 use super::incoming::{close, give_up, keep, start};
 use super::means::Means;
@@ -26,7 +27,8 @@ pub(crate) fn commit_change<S: Alter>(
     change: Change<'_>,
 ) -> Result<(), OfficeFault>
     requires { conn.old.in_transaction ≡ false }
-    ensures { CommitsOn means.limits change.entry (state S.Store conn.old) (state S.Store conn.new) result }
+    ensures commits { CommitsOn means.limits change.entry (state S.Store conn.old) (state S.Store conn.new) result }
+    ensures told { IfErr result (HasCommitCause S.Store means.limits change.entry conn.old conn.new) }
 {
     match &change {
         Change::Submit {

@@ -7,6 +7,7 @@ ghost use Rattle.oftp_store.specs.Commits.{CommitsOn, EndsCommit, Finds, NeedsFi
 ghost use Rattle.oftp_store.specs.Edits.{more};
 ghost use Rattle.oftp_store.specs.FileProgress.{incoming_told, is_open, is_open_file};
 ghost use Rattle.oftp_store.specs.Allocations.{goes_on};
+ghost use Rattle.oftp_store.specs.Causes.{HasCause, HasCommitCause};
 
 use super::edit::{Deed, Edit};
 use super::known::{allowed, known};
@@ -40,7 +41,8 @@ pub(crate) fn start<S: Alter>(
     count: u64,
 ) -> Result<(), OfficeFault>
     requires { conn.old.in_transaction ≡ false }
-    ensures { CommitsOn means.limits (Start identity.now format longest description.now count) (state S.Store conn.old) (state S.Store conn.new) result }
+    ensures commits { CommitsOn means.limits (Start identity.now format longest description.now count) (state S.Store conn.old) (state S.Store conn.new) result }
+    ensures told { IfErr result (HasCommitCause S.Store means.limits (Start identity.now format longest description.now count) conn.old conn.new) }
 {
     match find_incoming_allocation(means.alloc, conn, means.limits, identity)? {
         IncomingAllocation::Full => {
@@ -99,6 +101,7 @@ fn open_file<S: Alter>(
     ensures autocommit { conn.new.in_transaction ≡ false }
     ensures found { IfOk result (Finds incoming_told no (state S.Store conn.old) (state S.Store conn.new)) }
     ensures open { IfOk result (λ file. is_open_file file ≡ true) }
+    ensures told { IfErr result (HasCause S.Store conn.old conn.new) }
     ensures ends { IfErr result (EndsCommit means.limits (NeedsFit incoming_told is_open_file no) (state S.Store conn.old) (state S.Store conn.new)) }
 {
     let file = known::<IncomingProgress, S>(means, conn, no)?;
@@ -126,7 +129,8 @@ pub(crate) fn keep<S: Alter>(
     rows: &Rows,
 ) -> Result<(), OfficeFault>
     requires { conn.old.in_transaction ≡ false }
-    ensures { CommitsOn means.limits (Keep no rows.now) (state S.Store conn.old) (state S.Store conn.new) result }
+    ensures commits { CommitsOn means.limits (Keep no rows.now) (state S.Store conn.old) (state S.Store conn.new) result }
+    ensures told { IfErr result (HasCommitCause S.Store means.limits (Keep no rows.now) conn.old conn.new) }
 {
     let file = open_file(means, conn, no)?;
     make_edits(conn, &[more(no, &file, rows)])
@@ -140,7 +144,8 @@ pub(crate) fn close<S: Alter>(
     rows: &Rows,
 ) -> Result<(), OfficeFault>
     requires { conn.old.in_transaction ≡ false }
-    ensures { CommitsOn means.limits (Close no rows.now) (state S.Store conn.old) (state S.Store conn.new) result }
+    ensures commits { CommitsOn means.limits (Close no rows.now) (state S.Store conn.old) (state S.Store conn.new) result }
+    ensures told { IfErr result (HasCommitCause S.Store means.limits (Close no rows.now) conn.old conn.new) }
 {
     let file = open_file(means, conn, no)?;
     let whole = Deed::SetWhole;
@@ -154,7 +159,8 @@ pub(crate) fn give_up<S: Alter>(
     no: u64,
 ) -> Result<(), OfficeFault>
     requires { conn.old.in_transaction ≡ false }
-    ensures { CommitsOn means.limits (GiveUp no) (state S.Store conn.old) (state S.Store conn.new) result }
+    ensures commits { CommitsOn means.limits (GiveUp no) (state S.Store conn.old) (state S.Store conn.new) result }
+    ensures told { IfErr result (HasCommitCause S.Store means.limits (GiveUp no) conn.old conn.new) }
 {
     open_file(means, conn, no)?;
     let none = Deed::CutRows { count: 0 };

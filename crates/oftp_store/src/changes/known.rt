@@ -3,6 +3,7 @@
 ghost use Rattle.std.specs.Prelude.{◌≡◌, IfErr, IfOk, OnOk, false, true};
 ghost use Rattle.sqlite.specs.Held.{state};
 ghost use Rattle.oftp_store.specs.Commits.{EndsCommit, Finds, NeedsFile};
+ghost use Rattle.oftp_store.specs.Causes.{HasCause};
 
 use super::means::Means;
 use crate::numbers::FIRST_FAR;
@@ -19,6 +20,7 @@ pub(crate) fn known<P: Progress, S: Alter>(
     requires { conn.old.in_transaction ≡ false }
     ensures autocommit { conn.new.in_transaction ≡ false }
     ensures found { IfOk result (Finds P.told no (state S.Store conn.old) (state S.Store conn.new)) }
+    ensures told { IfErr result (HasCause S.Store conn.old conn.new) }
     ensures ends { IfErr result (EndsCommit means.limits (NeedsFile P.told no) (state S.Store conn.old) (state S.Store conn.new)) }
 {
     if no >= FIRST_FAR {

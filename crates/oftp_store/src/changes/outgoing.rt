@@ -1,11 +1,12 @@
 //! The changes of an outgoing file: `Submit`, `Mark`, `BeginClosing`, `HandOver`, `Refuse` and `Reopen`.
 
-ghost use Rattle.std.specs.Prelude.{◌≡◌, ◌&&◌, ◌||◌, false, nat_le};
+ghost use Rattle.std.specs.Prelude.{◌≡◌, ◌&&◌, ◌||◌, false, nat_le, IfErr};
 ghost use Rattle.sqlite.specs.Held.{state};
 ghost use Rattle.oftp_register.specs.declared.change.Change.TheVariants.{BeginClosing, HandOver, Mark, Refuse, Reopen, Submit};
 ghost use Rattle.oftp_register.specs.Changes.{is_closing, is_waiting};
 ghost use Rattle.oftp_store.specs.Commits.{CommitsOn};
 ghost use Rattle.oftp_store.specs.Edits.{outgoing_edit};
+ghost use Rattle.oftp_store.specs.Causes.{HasCommitCause};
 
 use super::edit::{Deed, Edit};
 use super::known::{allowed, known};
@@ -29,7 +30,8 @@ pub(crate) fn submit<S: Alter>(
     rows: &Rows,
 ) -> Result<(), OfficeFault>
     requires { conn.old.in_transaction ≡ false }
-    ensures { CommitsOn means.limits (Submit identity.now format longest description.now rows.now) (state S.Store conn.old) (state S.Store conn.new) result }
+    ensures commits { CommitsOn means.limits (Submit identity.now format longest description.now rows.now) (state S.Store conn.old) (state S.Store conn.new) result }
+    ensures told { IfErr result (HasCommitCause S.Store means.limits (Submit identity.now format longest description.now rows.now) conn.old conn.new) }
 {
     match find_allocation(conn, means.limits, Side::Outgoing, identity)? {
         Allocation::Existing(_) => Err(OfficeFault::Refused(Cause::Duplicate)),
@@ -102,7 +104,8 @@ pub(crate) fn mark<S: Alter>(
     rows: u64,
 ) -> Result<(), OfficeFault>
     requires { conn.old.in_transaction ≡ false }
-    ensures { CommitsOn means.limits (Mark no rows) (state S.Store conn.old) (state S.Store conn.new) result }
+    ensures commits { CommitsOn means.limits (Mark no rows) (state S.Store conn.old) (state S.Store conn.new) result }
+    ensures told { IfErr result (HasCommitCause S.Store means.limits (Mark no rows) conn.old conn.new) }
 {
     let file = known::<OutgoingProgress, S>(means, conn, no)?;
     allowed(may_be_covered(&file, rows))?;
@@ -117,7 +120,8 @@ pub(crate) fn begin_closing<S: Alter>(
     no: u64,
 ) -> Result<(), OfficeFault>
     requires { conn.old.in_transaction ≡ false }
-    ensures { CommitsOn means.limits (BeginClosing no) (state S.Store conn.old) (state S.Store conn.new) result }
+    ensures commits { CommitsOn means.limits (BeginClosing no) (state S.Store conn.old) (state S.Store conn.new) result }
+    ensures told { IfErr result (HasCommitCause S.Store means.limits (BeginClosing no) conn.old conn.new) }
 {
     let file = known::<OutgoingProgress, S>(means, conn, no)?;
     allowed(is_waiting(&file.state))?;
@@ -132,7 +136,8 @@ pub(crate) fn hand_over<S: Alter>(
     no: u64,
 ) -> Result<(), OfficeFault>
     requires { conn.old.in_transaction ≡ false }
-    ensures { CommitsOn means.limits (HandOver no) (state S.Store conn.old) (state S.Store conn.new) result }
+    ensures commits { CommitsOn means.limits (HandOver no) (state S.Store conn.old) (state S.Store conn.new) result }
+    ensures told { IfErr result (HasCommitCause S.Store means.limits (HandOver no) conn.old conn.new) }
 {
     let file = known::<OutgoingProgress, S>(means, conn, no)?;
     allowed(is_closing(&file.state))?;
@@ -148,7 +153,8 @@ pub(crate) fn refuse<S: Alter>(
     reason: Count<2>,
 ) -> Result<(), OfficeFault>
     requires { conn.old.in_transaction ≡ false }
-    ensures { CommitsOn means.limits (Refuse no reason) (state S.Store conn.old) (state S.Store conn.new) result }
+    ensures commits { CommitsOn means.limits (Refuse no reason) (state S.Store conn.old) (state S.Store conn.new) result }
+    ensures told { IfErr result (HasCommitCause S.Store means.limits (Refuse no reason) conn.old conn.new) }
 {
     let file = known::<OutgoingProgress, S>(means, conn, no)?;
     allowed(is_on_its_way(&file.state))?;
@@ -163,7 +169,8 @@ pub(crate) fn reopen<S: Alter>(
     no: u64,
 ) -> Result<(), OfficeFault>
     requires { conn.old.in_transaction ≡ false }
-    ensures { CommitsOn means.limits (Reopen no) (state S.Store conn.old) (state S.Store conn.new) result }
+    ensures commits { CommitsOn means.limits (Reopen no) (state S.Store conn.old) (state S.Store conn.new) result }
+    ensures told { IfErr result (HasCommitCause S.Store means.limits (Reopen no) conn.old conn.new) }
 {
     let state = known::<OutgoingProgress, S>(means, conn, no)?.state;
     allowed(is_closing(&state))?;

@@ -1,11 +1,12 @@
 //! The changes of responses: `File`, `Issue` and `Send`.
 
-ghost use Rattle.std.specs.Prelude.{◌≡◌, false};
+ghost use Rattle.std.specs.Prelude.{◌≡◌, false, IfErr};
 ghost use Rattle.sqlite.specs.Held.{state};
 ghost use Rattle.oftp_register.specs.declared.change.Change.TheVariants.{File, Issue, Send};
 ghost use Rattle.oftp_register.specs.Changes.{answered_as};
 ghost use Rattle.oftp_store.specs.Commits.{CommitsOn};
 ghost use Rattle.oftp_store.specs.FileProgress.{is_answerable, is_sendable};
+ghost use Rattle.oftp_store.specs.Causes.{HasCommitCause};
 
 use super::edit::{Deed, Edit};
 use super::known::{allowed, known};
@@ -40,7 +41,8 @@ pub(crate) fn file<'x, S: Alter>(
     text: &'x Text<'x>,
 ) -> Result<(), OfficeFault>
     requires { conn.old.in_transaction ≡ false }
-    ensures { CommitsOn means.limits (File kind identity.now reason creator.now text.now) (state S.Store conn.old) (state S.Store conn.new) result }
+    ensures commits { CommitsOn means.limits (File kind identity.now reason creator.now text.now) (state S.Store conn.old) (state S.Store conn.new) result }
+    ensures told { IfErr result (HasCommitCause S.Store means.limits (File kind identity.now reason creator.now text.now) conn.old conn.new) }
 {
     match find_response_match(means.alloc, conn, kind, identity)? {
         ResponseMatch::Duplicate => Err(OfficeFault::Refused(Cause::Duplicate)),
@@ -105,7 +107,8 @@ pub(crate) fn issue<S: Alter>(
     text: &Text<'_>,
 ) -> Result<(), OfficeFault>
     requires { conn.old.in_transaction ≡ false }
-    ensures { CommitsOn means.limits (Issue no kind reason text.now) (state S.Store conn.old) (state S.Store conn.new) result }
+    ensures commits { CommitsOn means.limits (Issue no kind reason text.now) (state S.Store conn.old) (state S.Store conn.new) result }
+    ensures told { IfErr result (HasCommitCause S.Store means.limits (Issue no kind reason text.now) conn.old conn.new) }
 {
     let progress = known::<ResponseProgress, S>(means, conn, no)?;
     allowed(is_answerable(&progress))?;
@@ -120,7 +123,8 @@ pub(crate) fn send<S: Alter>(
     no: u64,
 ) -> Result<(), OfficeFault>
     requires { conn.old.in_transaction ≡ false }
-    ensures { CommitsOn means.limits (Send no) (state S.Store conn.old) (state S.Store conn.new) result }
+    ensures commits { CommitsOn means.limits (Send no) (state S.Store conn.old) (state S.Store conn.new) result }
+    ensures told { IfErr result (HasCommitCause S.Store means.limits (Send no) conn.old conn.new) }
 {
     let progress = known::<ResponseProgress, S>(means, conn, no)?;
     allowed(is_sendable(&progress))?;

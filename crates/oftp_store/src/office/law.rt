@@ -1,10 +1,14 @@
 //! The implementation of `Office` for [`SqlOffice`].
 
-ghost use Rattle.std.specs.Prelude.{◌≡◌, ◌||◌, ◌^◌, nat_le, nat_lt};
+ghost use Rattle.std.specs.Prelude.{◌≡◌, ◌||◌, ◌^◌, nat_le, nat_lt, IfErr, IfOk, IfSome};
 ghost use Rattle.sqlite.specs.Held.{state};
 ghost use Rattle.oftp_vfile.specs.declared.format.TheConstants.{MOST_ROWS};
-ghost use Rattle.oftp_register.specs.Offices.{Counts};
+ghost use Rattle.oftp_register.specs.Offices.{Counts, Commits, LooksUp};
 ghost use Rattle.oftp_store.specs.Views.{content_alone, view_of};
+ghost use Rattle.oftp_store.specs.Causes.{HasCommitCause, HasCause};
+ghost use Rattle.oftp_store.specs.Shown.{shown};
+ghost use Rattle.oftp_register.specs.Register.{has_received};
+ghost use Rattle.oftp_register.specs.LookUps.{IsIncomingWithin, IsOutgoingWithin, files_full, in_by_no, look_in, look_out, out_by_no};
 
 use super::SqlOffice;
 use crate::changes::commit::commit_change;
@@ -54,17 +58,29 @@ impl<S: Alter> Office for SqlOffice<S> {
         self.limits
     }
 
-    fn look_in(&mut self, identity: &Identity) -> Result<Option<IncomingEntry>, OfficeFault> {
+    fn look_in(&mut self, identity: &Identity) -> Result<Option<IncomingEntry>, OfficeFault>
+        ensures looks { LooksUp (λ r found. found ≡ look_in r identity.now) (shown S.Store self.old) (shown S.Store self.new) result }
+        ensures within { IfOk result (λ found. IfSome found IsIncomingWithin) }
+        ensures told { IfErr result (HasCause S.Store self.old.conn self.new.conn) }
+    {
         let found = file_by_identity::look_in(self.alloc, &mut self.conn, identity);
         counted(&mut self.faults, found)
     }
 
-    fn look_out(&mut self, identity: &Identity) -> Result<Option<OutgoingEntry>, OfficeFault> {
+    fn look_out(&mut self, identity: &Identity) -> Result<Option<OutgoingEntry>, OfficeFault>
+        ensures looks { LooksUp (λ r found. found ≡ look_out r identity.now) (shown S.Store self.old) (shown S.Store self.new) result }
+        ensures within { IfOk result (λ found. IfSome found IsOutgoingWithin) }
+        ensures told { IfErr result (HasCause S.Store self.old.conn self.new.conn) }
+    {
         let found = file_by_identity::look_out(self.alloc, &mut self.conn, identity);
         counted(&mut self.faults, found)
     }
 
-    fn in_by_no(&mut self, no: u64) -> Result<Option<IncomingEntry>, OfficeFault> {
+    fn in_by_no(&mut self, no: u64) -> Result<Option<IncomingEntry>, OfficeFault>
+        ensures looks { LooksUp (λ r found. found ≡ in_by_no r no) (shown S.Store self.old) (shown S.Store self.new) result }
+        ensures within { IfOk result (λ found. IfSome found IsIncomingWithin) }
+        ensures told { IfErr result (HasCause S.Store self.old.conn self.new.conn) }
+    {
         if no >= FIRST_FAR {
             return Ok(None);
         }
@@ -72,7 +88,11 @@ impl<S: Alter> Office for SqlOffice<S> {
         counted(&mut self.faults, found)
     }
 
-    fn out_by_no(&mut self, no: u64) -> Result<Option<OutgoingEntry>, OfficeFault> {
+    fn out_by_no(&mut self, no: u64) -> Result<Option<OutgoingEntry>, OfficeFault>
+        ensures looks { LooksUp (λ r found. found ≡ out_by_no r no) (shown S.Store self.old) (shown S.Store self.new) result }
+        ensures within { IfOk result (λ found. IfSome found IsOutgoingWithin) }
+        ensures told { IfErr result (HasCause S.Store self.old.conn self.new.conn) }
+    {
         if no >= FIRST_FAR {
             return Ok(None);
         }
@@ -80,16 +100,18 @@ impl<S: Alter> Office for SqlOffice<S> {
         counted(&mut self.faults, found)
     }
 
-    fn files_full(&mut self, side: Side) -> Result<bool, OfficeFault> {
+    fn files_full(&mut self, side: Side) -> Result<bool, OfficeFault>
+        ensures looks { LooksUp (λ r full. full ≡ files_full r side) (shown S.Store self.old) (shown S.Store self.new) result }
+        ensures told { IfErr result (HasCause S.Store self.old.conn self.new.conn) }
+    {
         let full = last_number::is_full(&mut self.conn, side, self.limits.files);
         counted(&mut self.faults, full)
     }
 
-    fn has_received(
-        &mut self,
-        kind: ResponseKind,
-        identity: &Identity,
-    ) -> Result<bool, OfficeFault> {
+    fn has_received(&mut self, kind: ResponseKind, identity: &Identity) -> Result<bool, OfficeFault>
+        ensures looks { LooksUp (λ r there. there ≡ has_received r kind identity.now) (shown S.Store self.old) (shown S.Store self.new) result }
+        ensures told { IfErr result (HasCause S.Store self.old.conn self.new.conn) }
+    {
         let there = identity::has_filed(&mut self.conn, kind, identity);
         counted(&mut self.faults, there)
     }
@@ -146,7 +168,10 @@ impl<S: Alter> Office for SqlOffice<S> {
         counted(&mut self.faults, entries)
     }
 
-    fn commit(&mut self, change: Change<'_>) -> Result<(), OfficeFault> {
+    fn commit(&mut self, change: Change<'_>) -> Result<(), OfficeFault>
+        ensures commits { Commits change.entry (shown S.Store self.old) (shown S.Store self.new) result }
+        ensures told { IfErr result (HasCommitCause S.Store self.old.limits change.entry self.old.conn self.new.conn) }
+    {
         let means = Means {
             alloc: self.alloc,
             limits: self.limits,

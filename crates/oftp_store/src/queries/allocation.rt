@@ -6,6 +6,7 @@ ghost use Rattle.oftp_register.specs.Offices.{IsFailure};
 ghost use Rattle.oftp_tables.specs.Statements.{Looks};
 ghost use Rattle.oftp_store.specs.Allocations.{IsIncomingAllocationOf, IsAllocationOf, HasSmallNumber, allocation_after};
 ghost use Rattle.oftp_store.specs.Tells.{TellsLimited};
+ghost use Rattle.oftp_store.specs.Causes.{HasCause};
 
 use super::identity::file_number;
 use super::last_number::{last_number, number_after, table_of};
@@ -41,6 +42,7 @@ pub(crate) enum IncomingAllocation {
 fn allocation_after(limits: Limits, last: u64) -> Result<Allocation, OfficeFault>
     ensures allocation { IfOk result (λ allocation. allocation ≡ allocation_after limits last) }
     ensures small { IfOk result HasSmallNumber }
+    ensures full { IfErr result (λ _. 2 ^ 63 ≤ last + 1) }
     ensures fails { IfErr result IsFailure }
 {
     if last >= limits.files {
@@ -63,6 +65,7 @@ pub(crate) fn find_allocation<S: Alter>(
     ensures looks { Looks (state S.Store conn.old) (state S.Store conn.new) result }
     ensures answer { TellsLimited limits (λ r found. IsAllocationOf r side identity.now found) (state S.Store conn.old) (state S.Store conn.new) result }
     ensures small { IfOk result HasSmallNumber }
+    ensures told { IfErr result (HasCause S.Store conn.old conn.new) }
 {
     if let Some(no) = file_number(conn, side, identity)? {
         return Ok(Allocation::Existing(no));
@@ -84,6 +87,7 @@ pub(crate) fn find_incoming_allocation<S: Alter>(
 ) -> Result<IncomingAllocation, OfficeFault>
     ensures looks { Looks (state S.Store conn.old) (state S.Store conn.new) result }
     ensures answer { TellsLimited limits (λ r found. IsIncomingAllocationOf r identity.now found) (state S.Store conn.old) (state S.Store conn.new) result }
+    ensures told { IfErr result (HasCause S.Store conn.old conn.new) }
 {
     match find_allocation(conn, limits, Side::Incoming, identity)? {
         Allocation::Full => Ok(IncomingAllocation::Full),

@@ -8,6 +8,7 @@ ghost use Rattle.oftp_register.specs.Offices.{IsFailure};
 ghost use Rattle.oftp_tables.specs.Statements.{Looks};
 ghost use Rattle.oftp_tables.specs.Tables.{TellsValues};
 ghost use Rattle.oftp_store.specs.Tells.{FindsByNumber, TellsStored};
+ghost use Rattle.oftp_store.specs.Causes.{Fits, HasCause, Query, sql_of, values_of};
 
 use super::first_row::first_row;
 use oftp_register::OfficeFault;
@@ -17,6 +18,9 @@ use std::alloc::Global;
 
 /// A value that a table stores in one row, under the number of its entry.
 pub(crate) trait ByNumber: Sized {
+    // the query
+    ghost asked: { Query };
+
     // the value that a row is read as
     ghost told: { List Value → Self };
 
@@ -31,13 +35,16 @@ pub(crate) trait ByNumber: Sized {
 
     /// The SQL that selects the row with a number.
     fn query() -> &'static str
-        ensures { FindsByNumber result.now told is_found };
+        ensures finds { FindsByNumber result.now told is_found }
+        ensures asked { result.now ≡ sql_of asked }
+        ensures given { values_of asked ≡ 1 };
 
     /// Reads the value from a row. A row that no entry could have is an error of the store.
     fn from_row(alloc: Global, row: &Row) -> Result<Self, OfficeFault>
         ensures told { IfOk result (λ x. x ≡ told row.now) }
         ensures fits { IfOk result (λ x. TellsValues (values x) 0 row.now) }
         ensures within { IfOk result is_within }
+        ensures unfit { IfErr result (λ fault. fault ≡ OfficeFault.Store → ¬ Fits asked row.now) }
         ensures fails { IfErr result IsFailure };
 }
 
@@ -51,6 +58,7 @@ pub(crate) fn find<T: ByNumber, S: Alter>(
     ensures looks { Looks (state S.Store conn.old) (state S.Store conn.new) result }
     ensures answer { TellsStored (λ r found. T.is_found r no found) (state S.Store conn.old) (state S.Store conn.new) result }
     ensures within { IfOk result (λ found. IfSome found T.is_within) }
+    ensures told { IfErr result (HasCause S.Store conn.old conn.new) }
 {
     let Some(row) = first_row(conn, T::query(), params![number(no)])? else {
         return Ok(None);

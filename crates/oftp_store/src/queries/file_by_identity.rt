@@ -1,10 +1,11 @@
 //! Files by identity, and the next file for a partner.
 
-ghost use Rattle.std.specs.Prelude.{◌≡◌, ◌<◌, ◌^◌, IfOk, IfSome};
+ghost use Rattle.std.specs.Prelude.{◌≡◌, ◌<◌, ◌^◌, IfOk, IfSome, IfErr};
 ghost use Rattle.sqlite.specs.Held.{state};
 ghost use Rattle.oftp_register.specs.LookUps.{IsIncomingWithin, IsOutgoingWithin, look_in, look_out, next_file};
 ghost use Rattle.oftp_tables.specs.Statements.{Looks};
 ghost use Rattle.oftp_store.specs.Tells.{Tells, TellsStored};
+ghost use Rattle.oftp_store.specs.Causes.{HasCause};
 
 use super::file_by_number::{find_incoming_file, find_outgoing_file};
 use super::identity::file_number;
@@ -22,6 +23,7 @@ pub(crate) fn look_in<S: Alter>(
     ensures looks { Looks (state S.Store conn.old) (state S.Store conn.new) result }
     ensures answer { Tells (λ r found. found ≡ look_in r identity.now) (state S.Store conn.old) (state S.Store conn.new) result }
     ensures within { IfOk result (λ found. IfSome found IsIncomingWithin) }
+    ensures told { IfErr result (HasCause S.Store conn.old conn.new) }
 {
     match file_number(conn, Side::Incoming, identity)? {
         Some(no) => find_incoming_file(alloc, conn, no),
@@ -38,6 +40,7 @@ pub(crate) fn look_out<S: Alter>(
     ensures looks { Looks (state S.Store conn.old) (state S.Store conn.new) result }
     ensures answer { TellsStored (λ r found. found ≡ look_out r identity.now) (state S.Store conn.old) (state S.Store conn.new) result }
     ensures within { IfOk result (λ found. IfSome found IsOutgoingWithin) }
+    ensures told { IfErr result (HasCause S.Store conn.old conn.new) }
 {
     match file_number(conn, Side::Outgoing, identity)? {
         Some(no) => find_outgoing_file(alloc, conn, no),

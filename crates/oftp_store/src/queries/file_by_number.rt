@@ -7,6 +7,7 @@ ghost use Rattle.oftp_register.specs.Offices.{IsFailure};
 ghost use Rattle.oftp_tables.specs.Statements.{Looks};
 ghost use Rattle.oftp_store.specs.Reads.{incoming_entry_of, outgoing_entry_of};
 ghost use Rattle.oftp_store.specs.Tells.{Tells, TellsStored};
+ghost use Rattle.oftp_store.specs.Causes.{HasCause};
 
 use super::by_number::find;
 use super::header::{IncomingHeader, OutgoingHeader};
@@ -47,6 +48,7 @@ pub(crate) fn find_incoming_file<S: Alter>(
     ensures looks { Looks (state S.Store conn.old) (state S.Store conn.new) result }
     ensures answer { Tells (λ r found. found ≡ in_by_no r no) (state S.Store conn.old) (state S.Store conn.new) result }
     ensures within { IfOk result (λ found. IfSome found IsIncomingWithin) }
+    ensures told { IfErr result (HasCause S.Store conn.old conn.new) }
 {
     let Some(header) = find::<IncomingHeader, S>(alloc, conn, no)? else {
         return Ok(None);
@@ -64,6 +66,7 @@ pub(super) fn outgoing_of(
 ) -> Result<OutgoingEntry, OfficeFault>
     ensures made { IfOk result (λ entry. entry ≡ outgoing_entry_of no header rows) }
     ensures mark { IfOk result (λ entry. entry.mark ≤ entry.rows) }
+    ensures beyond { IfErr result (λ _. rows < header.mark) }
     ensures fails { IfErr result IsFailure }
 {
     if header.mark > rows {
@@ -92,6 +95,7 @@ pub(crate) fn find_outgoing_file<S: Alter>(
     ensures looks { Looks (state S.Store conn.old) (state S.Store conn.new) result }
     ensures answer { TellsStored (λ r found. found ≡ out_by_no r no) (state S.Store conn.old) (state S.Store conn.new) result }
     ensures within { IfOk result (λ found. IfSome found IsOutgoingWithin) }
+    ensures told { IfErr result (HasCause S.Store conn.old conn.new) }
 {
     let Some(header) = find::<OutgoingHeader, S>(alloc, conn, no)? else {
         return Ok(None);

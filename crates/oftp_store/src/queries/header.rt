@@ -5,6 +5,8 @@ ghost use Rattle.oftp_register.specs.declared.entry.OutgoingState.{OutgoingState
 ghost use Rattle.oftp_register.specs.Offices.{IsFailure};
 ghost use Rattle.oftp_tables.specs.Tables.{HasRefusal, TellsValues};
 ghost use Rattle.oftp_store.specs.Reads.{IsFileWithin, IsToldOf, file_header_in, file_values, incoming_header_in, incoming_header_of, incoming_values, outgoing_header_in, outgoing_header_of, outgoing_values, mark_and_state_values};
+ghost use Rattle.oftp_store.specs.Causes.{HasFile, HeaderIn, HeaderOut};
+ghost use Rattle.oftp_store.specs.declared.queries.header.FileHeader.{FileHeader};
 
 use super::by_number::ByNumber;
 use oftp_register::{Identity, IncomingState, Note, OfficeFault, OutgoingState};
@@ -44,6 +46,7 @@ fn file_header_in(alloc: Global, row: &Row) -> Result<FileHeader, OfficeFault>
     ensures told { IfOk result (λ header. header ≡ file_header_in row.now) }
     ensures fits { IfOk result (λ header. TellsValues (file_values header) 0 row.now) }
     ensures within { IfOk result IsFileWithin }
+    ensures unfit { IfErr result (λ fault. fault ≡ OfficeFault.Store → (header : FileHeader) → ¬ HasFile header row.now) }
     ensures fails { IfErr result IsFailure }
 {
     let identity = identity_at(row, 0).ok_or(OfficeFault::Store)?;
@@ -74,6 +77,8 @@ fn mark_and_state_in(row: &Row) -> Option<(u32, OutgoingState)>
 }
 
 impl ByNumber for IncomingHeader {
+    ghost asked = { HeaderIn };
+
     ghost told = { incoming_header_in };
 
     ghost values = { incoming_values };
@@ -94,6 +99,8 @@ impl ByNumber for IncomingHeader {
 }
 
 impl ByNumber for OutgoingHeader {
+    ghost asked = { HeaderOut };
+
     ghost told = { outgoing_header_in };
 
     ghost values = { outgoing_values };

@@ -1,12 +1,13 @@
 //! The last number in a table.
 
-ghost use Rattle.std.specs.Prelude.{◌≡◌, ◌+◌, ◌≤◌, ◌<◌, ◌^◌, nat_le, Ok, Err, IfOk};
+ghost use Rattle.std.specs.Prelude.{◌≡◌, ◌+◌, ◌≤◌, ◌<◌, ◌^◌, nat_le, Ok, Err, IfOk, IfErr};
 ghost use Rattle.sqlite.specs.Held.{state};
 ghost use Rattle.oftp_register.specs.Register.{Register};
 ghost use Rattle.oftp_register.specs.LookUps.{files_full};
 ghost use Rattle.oftp_tables.specs.Statements.{Looks};
 ghost use Rattle.oftp_store.specs.Numbers.{entries_in, last_text, table_of};
 ghost use Rattle.oftp_store.specs.Tells.{Tells, TellsStored};
+ghost use Rattle.oftp_store.specs.Causes.{HasCause};
 
 use super::first_row::first_number;
 use crate::numbers::FIRST_FAR;
@@ -43,6 +44,7 @@ pub(crate) fn last_number<S: Alter>(
     ensures looks { Looks (state S.Store conn.old) (state S.Store conn.new) result }
     ensures answer { TellsStored (λ r no. no ≡ entries_in r table) (state S.Store conn.old) (state S.Store conn.new) result }
     ensures small { IfOk result (λ no. no < 2 ^ 63) }
+    ensures told { IfErr result (HasCause S.Store conn.old conn.new) }
 {
     let last = first_number(conn, last_text(table), &[])?;
     Ok(last.unwrap_or(0))
@@ -67,6 +69,7 @@ pub(crate) fn is_full<S: Alter>(
 ) -> Result<bool, OfficeFault>
     ensures looks { Looks (state S.Store conn.old) (state S.Store conn.new) result }
     ensures answer { Tells (λ r full. r.limits.files ≡ most → full ≡ files_full r side) (state S.Store conn.old) (state S.Store conn.new) result }
+    ensures told { IfErr result (HasCause S.Store conn.old conn.new) }
 {
     let last = last_number(conn, table_of(side))?;
     Ok(last >= most)
@@ -96,6 +99,7 @@ pub(crate) fn new_number<S: Alter>(
     ensures looks { Looks (state S.Store conn.old) (state S.Store conn.new) result }
     ensures answer { TellsStored (λ r no. no ≡ 1 + entries_in r table) (state S.Store conn.old) (state S.Store conn.new) result }
     ensures small { IfOk result (λ no. no < 2 ^ 63) }
+    ensures told { IfErr result (HasCause S.Store conn.old conn.new) }
 {
     let last = last_number(conn, table)?;
     number_after(last)

@@ -1,6 +1,6 @@
 //! What a change needs to know of the file with a number.
 
-ghost use Rattle.std.specs.Prelude.{◌≤◌, ◌<◌, ◌^◌, ℕ, ⊤, Option, None, IfOk, IfSome};
+ghost use Rattle.std.specs.Prelude.{◌≤◌, ◌<◌, ◌^◌, ℕ, ⊤, Option, None, IfOk, IfSome, IfErr};
 ghost use Rattle.sqlite.specs.Tree.{Trees};
 ghost use Rattle.sqlite.specs.Held.{state};
 ghost use Rattle.oftp_vfile.specs.declared.format.TheConstants.{MOST_ROWS};
@@ -10,6 +10,7 @@ ghost use Rattle.oftp_tables.specs.Tables.{Tables};
 ghost use Rattle.oftp_tables.proofs.SpotLemmas.{entry_far};
 ghost use Rattle.oftp_store.specs.FileProgress.{incoming_told, outgoing_told, response_told};
 ghost use Rattle.oftp_store.specs.Tells.{TellsStored};
+ghost use Rattle.oftp_store.specs.Causes.{HasCause};
 
 use super::by_number::find;
 use super::header::{IncomingHeader, OutgoingHeader};
@@ -35,7 +36,8 @@ pub(crate) trait Progress: Sized {
         requires { no < 2 ^ 63 }
         ensures looks { Looks (state S.Store conn.old) (state S.Store conn.new) result }
         ensures answer { TellsStored (λ r found. told r no found) (state S.Store conn.old) (state S.Store conn.new) result }
-        ensures within { IfOk result (λ found. IfSome found is_within) };
+        ensures within { IfOk result (λ found. IfSome found is_within) }
+        ensures told { IfErr result (HasCause S.Store conn.old conn.new) };
 
     ghost beyond: { (r : Register) (db : Trees) (n : ℕ) → Tables r db → 2 ^ 63 ≤ n → told r n None };
 }

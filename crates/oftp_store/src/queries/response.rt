@@ -4,6 +4,8 @@ ghost use Rattle.std.specs.Prelude.{◌≡◌, ◌<◌, ◌↔◌, [], IfErr, If
 ghost use Rattle.oftp_register.specs.Offices.{IsFailure};
 ghost use Rattle.oftp_register.specs.Soundness.{IsResponse, IsSound};
 ghost use Rattle.oftp_store.specs.Reads.{IsResponseTo, TellsResponse, response_from, response_in, response_values};
+ghost use Rattle.oftp_store.specs.Causes.{HasResponse, Response};
+ghost use Rattle.oftp_register.specs.declared.entries.IssuedResponse.{IssuedResponse};
 
 use super::by_number::ByNumber;
 use oftp_register::{IssuedResponse, Note, OfficeFault, ResponseKind, is_response};
@@ -33,6 +35,7 @@ pub(crate) fn response_at(
     ensures told { IfOk result (λ response. response ≡ response_from at row.now) }
     ensures fits { IfOk result (λ response. TellsResponse response at row.now) }
     ensures within { IfOk result (λ response. IsResponse response.kind response.reason [] response.text) }
+    ensures unfit { IfErr result (λ fault. fault ≡ OfficeFault.Store → (response : IssuedResponse) → ¬ HasResponse response at row.now) }
     ensures fails { IfErr result IsFailure }
 {
     let kind = kind_at(row, at).ok_or(OfficeFault::Store)?;
@@ -51,6 +54,8 @@ pub(crate) fn response_at(
 }
 
 impl ByNumber for IssuedResponse {
+    ghost asked = { Response };
+
     ghost told = { response_in };
 
     ghost values = { response_values };

@@ -1,10 +1,11 @@
 //! What a received response refers to.
 
-ghost use Rattle.std.specs.Prelude.{◌≡◌};
+ghost use Rattle.std.specs.Prelude.{◌≡◌, IfErr};
 ghost use Rattle.sqlite.specs.Held.{state};
 ghost use Rattle.oftp_tables.specs.Statements.{Looks};
 ghost use Rattle.oftp_store.specs.Tells.{Tells};
 ghost use Rattle.oftp_store.specs.ResponseMatches.{IsResponseMatchOf, Settles, is_awaiting};
+ghost use Rattle.oftp_store.specs.Causes.{HasCause};
 
 use super::identity::{file_number, has_filed};
 use super::last_number::{Table, new_number};
@@ -50,6 +51,7 @@ pub(crate) fn find_settled_file<S: Alter>(
 ) -> Result<Option<SettledFile>, OfficeFault>
     ensures looks { Looks (state S.Store conn.old) (state S.Store conn.new) result }
     ensures answer { Tells (λ r found. Settles r identity.now found) (state S.Store conn.old) (state S.Store conn.new) result }
+    ensures told { IfErr result (HasCause S.Store conn.old conn.new) }
 {
     let Some(no) = file_number(conn, Side::Outgoing, identity)? else {
         return Ok(None);
@@ -77,6 +79,7 @@ pub(crate) fn find_response_match<S: Alter>(
 ) -> Result<ResponseMatch, OfficeFault>
     ensures looks { Looks (state S.Store conn.old) (state S.Store conn.new) result }
     ensures answer { Tells (λ r found. IsResponseMatchOf r kind identity.now found) (state S.Store conn.old) (state S.Store conn.new) result }
+    ensures told { IfErr result (HasCause S.Store conn.old conn.new) }
 {
     if has_filed(conn, kind, identity)? {
         return Ok(ResponseMatch::Duplicate);

@@ -1,6 +1,7 @@
 //! The rows of files.
 
 ghost use Rattle.std.specs.Prelude.{◌≡◌, ◌≤◌, ◌<◌, ◌^◌, map, take, drop, length, IfOk, IfErr};
+ghost use Rattle.std.specs.Option.{IsSomeAnd};
 ghost use Rattle.sqlite.specs.Held.{state};
 ghost use Rattle.sqlite.specs.Order.{bytes, column};
 ghost use Rattle.oftp_register.specs.LookUps.{AreRowsWithin, file_rows, rows_of};
@@ -10,6 +11,7 @@ ghost use Rattle.oftp_tables.specs.Statements.{Looks};
 ghost use Rattle.oftp_store.specs.Reads.{TellsCount};
 ghost use Rattle.oftp_store.specs.Tells.{Tells, TellsStored};
 ghost use Rattle.oftp_store.specs.Texts.{last_row_text, some_rows_text};
+ghost use Rattle.oftp_store.specs.Causes.{HasCause, HasPosition};
 
 use super::first_row::first_row;
 use oftp_register::{OfficeFault, Side};
@@ -44,6 +46,7 @@ fn some_rows_text(side: Side) -> &'static str
 fn count_to(last: Option<Row>) -> Result<u32, OfficeFault>
     ensures told { IfOk result (TellsCount last) }
     ensures few { IfOk result (λ count. count ≤ MOST_ROWS) }
+    ensures unfit { IfErr result (λ _. IsSomeAnd last (λ row. ¬ HasPosition row)) }
     ensures fails { IfErr result IsFailure }
 {
     let Some(row) = last else {
@@ -65,6 +68,7 @@ pub(crate) fn count_rows<S: Alter>(
     ensures looks { Looks (state S.Store conn.old) (state S.Store conn.new) result }
     ensures answer { TellsStored (λ r count. count ≡ length (file_rows r side no)) (state S.Store conn.old) (state S.Store conn.new) result }
     ensures few { IfOk result (λ count. count ≤ MOST_ROWS) }
+    ensures told { IfErr result (HasCause S.Store conn.old conn.new) }
 {
     let last = first_row(conn, last_row_text(side), params![number(no)])?;
     count_to(last)

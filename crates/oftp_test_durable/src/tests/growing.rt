@@ -64,7 +64,7 @@ fn grow<S: Alter + Drop>(
     let mut life = life;
     let book = read(alloc, BOOK)?;
     let submit = carried_out(alloc, &mut life, &book, &Operator::Submit(FILE));
-    assert!(rt; submit.told == Ok(Told::Done));
+    assert!(rt; submit.told == Ok(Told::Done(1)));
     assert!(rt; submit.line.as_slice() == "done: submit 1\n".as_bytes());
     let (mut life, talked) = silence(alloc, life, &book);
     assert!(rt; talked.stage == Stage::Waits);

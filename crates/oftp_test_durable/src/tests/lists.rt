@@ -74,7 +74,7 @@ fn work<S: Alter>(alloc: Global, rt: &impl Abort, office: &mut SqlOffice<S>) -> 
     let book = read(alloc, BOOK)?;
     let mut line = Vec::new(alloc);
     let told = submit(alloc, office, &book, &mut line);
-    assert!(rt; told == Ok(Told::Done));
+    assert!(rt; told == Ok(Told::Done(1)));
     assert!(rt; line.as_slice() == "done: submit 1\n".as_bytes());
     let mut said = Vec::new(alloc);
     let end = silence(alloc, office, &book, &mut said);
@@ -129,7 +129,7 @@ fn list_over_files(rt: HostRuntime) -> Result<(), Fail> {
     let mut jobs = [call(alloc, Operator::Submit(FILE))];
     let ran = list(&rt, &book, &mut jobs);
     assert!(rt; ran == Some(Ok(())));
-    assert!(rt; answer(&jobs[0]) == Some(Ok(Told::Done)));
+    assert!(rt; answer(&jobs[0]) == Some(Ok(Told::Done(1))));
     assert_eq!(rt;
         over_files(&rt, &rt, &FILES, &Again { has_work: false })?,
         1

@@ -57,7 +57,7 @@ fn answers(
     let mut office = Noting::new(alloc, None);
     let submit = Operator::Submit(THREE_OCTETS);
     let told = call(alloc, &mut office, &book, &submit, &mut Vec::new(alloc));
-    assert!(rt; told == Ok(Told::Done));
+    assert!(rt; told == Ok(Told::Done(1)));
     let octets = joined(alloc, GREETING, answer.heard)?;
     let line = Line {
         octets: octets.as_slice(),

@@ -35,7 +35,7 @@ fn send(
     let book = read(alloc, BOOK)?;
     let submit = Operator::Submit(file);
     let told = call(alloc, office, &book, &submit, &mut Vec::new(alloc));
-    assert!(rt; told == Ok(Told::Done));
+    assert!(rt; told == Ok(Told::Done(1)));
     let role = caller(&book, b"O0177CARMAKER")?;
     let heard = hear(alloc, office, &book, role, Line::of(PARTNER), 1_000_000);
     assert_eq!(rt; heard.moved, octets);
@@ -139,7 +139,7 @@ fn next_looked_up_once(rt: HostRuntime) -> Result<(), Fail> {
         &release,
         &mut Vec::new(rt.alloc()),
     );
-    assert!(rt; told == Ok(Told::Done));
+    assert!(rt; told == Ok(Told::Done(1)));
     take(rt.alloc(), &rt, &mut office, b"456", TAKEN_AND_ASKED)?;
     assert_eq!(rt; office.next, 2);
     Ok(())
@@ -155,7 +155,7 @@ fn response_looked_for_once(rt: HostRuntime) -> Result<(), Fail> {
     let mut office = Noting::new(rt.alloc(), None);
     let book = read(rt.alloc(), BOOK)?;
     let mut octets = ANSWERED.to_vec(rt.alloc())?;
-    for time in ["1015300001", "1015300002", "1015300003"] {
+    for (no, time) in [(1, "1015300001"), (2, "1015300002"), (3, "1015300003")] {
         let submit = Operator::Submit(Submission { time, ..FILE });
         let told = call(
             rt.alloc(),
@@ -164,7 +164,7 @@ fn response_looked_for_once(rt: HostRuntime) -> Result<(), Fail> {
             &submit,
             &mut Vec::new(rt.alloc()),
         );
-        assert!(rt; told == Ok(Told::Done));
+        assert!(rt; told == Ok(Told::Done(no)));
         octets.extend_from_slice(TAKEN)?;
     }
     octets.extend_from_slice(OVER)?;

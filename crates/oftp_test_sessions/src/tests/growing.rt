@@ -56,9 +56,9 @@ fn talk(
     Ok((life, Talked { stage, said }))
 }
 
-// Whether a call was done and wrote this.
-fn is_done(call: &Called, line: &[u8]) -> bool {
-    call.told == Ok(Told::Done) && call.line.as_slice() == line
+// Whether a call was done to the file with this number, and wrote this.
+fn is_done(call: &Called, no: u64, line: &[u8]) -> bool {
+    call.told == Ok(Told::Done(no)) && call.line.as_slice() == line
 }
 
 // Whether the partner ended a session without an error, with this output.
@@ -77,7 +77,7 @@ fn jobs_as_they_come(rt: HostRuntime) -> Result<(), Fail> {
     let book = read(alloc, BOOK)?;
     let mut life = Life::new(Noting::new(alloc, None));
     let called = submit(alloc, &mut life, &book);
-    assert!(rt; is_done(&called, b"done: submit 1\n"));
+    assert!(rt; is_done(&called, 1, b"done: submit 1\n"));
     let octets = joined(alloc, GREETING, TAKES)?;
     let role = caller(&book, b"O0177CARMAKER")?;
     let (mut life, talked) = talk(alloc, life, &book, role, octets.as_slice())?;

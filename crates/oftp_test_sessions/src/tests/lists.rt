@@ -77,7 +77,7 @@ fn list(
 fn a_list_goes_on(rt: HostRuntime) -> Result<(), Fail> {
     let wanted = [
         Wanted::Session(Some(Err(RunFault::Read)), 93),
-        Wanted::Call(Some(Ok(Told::Done)), "done: submit 1\n"),
+        Wanted::Call(Some(Ok(Told::Done(1))), "done: submit 1\n"),
         Wanted::Session(Some(Ok(End::Input)), 93),
     ];
     let mut office = Noting::new(rt.alloc(), None);

@@ -69,7 +69,7 @@ fn file_out_in_pieces(rt: HostRuntime) -> Result<(), Fail> {
     said.extend_from_slice(SENT)?;
     for at_once in [1, 7, 4_096] {
         let mut life = Life::new(PlainOffice::new(alloc, LIMITS));
-        assert!(rt; submit(alloc, &mut life, &book) == Ok(Told::Done));
+        assert!(rt; submit(alloc, &mut life, &book) == Ok(Told::Done(1)));
         let partner = book.partner(b"O0177CARMAKER").ok_or("no partner")?;
         let mut session = life.begin(alloc, &book, Role::Initiator(partner));
         let out = converse(alloc, &mut session, heard.as_slice(), at_once)?;

@@ -106,11 +106,15 @@ fn limits_of_files(rt: HostRuntime) -> Result<(), Fail> {
     let duplicate = Told::Refused(Refusal::Duplicate);
     let rows = [
         (Operator::Submit(BIG), LIMIT, limit),
-        (Operator::Submit(FILE), "done: submit 1\n", Told::Done),
+        (Operator::Submit(FILE), "done: submit 1\n", Told::Done(1)),
         (Operator::Submit(BIG), DUPLICATE, duplicate),
         (Operator::Submit(RECORDS), LIMIT, limit),
         (Operator::Submit(many), LIMIT, limit),
-        (Operator::Submit(VARIABLE), "done: submit 2\n", Told::Done),
+        (
+            Operator::Submit(VARIABLE),
+            "done: submit 2\n",
+            Told::Done(2),
+        ),
         (Operator::Submit(VARIABLE), DUPLICATE, duplicate),
         (Operator::Submit(THIRD), LIMIT, limit),
     ];

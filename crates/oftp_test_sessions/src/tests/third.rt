@@ -49,7 +49,7 @@ fn third_partner_between(rt: HostRuntime) -> Result<(), Fail> {
     let mut office = Noting::new(alloc, None);
     let submit = Operator::Submit(THREE_OCTETS);
     let done = call(alloc, &mut office, &book, &submit, &mut Vec::new(alloc));
-    assert!(rt; done == Ok(Told::Done));
+    assert!(rt; done == Ok(Told::Done(1)));
     let role = caller(&book, b"O0177CARMAKER")?;
     let octets = joined(alloc, GREETING, TAKES)?;
     let _ = hear(

@@ -5,16 +5,16 @@ use Rattle.oftp_engine.proofs.Deciding.{operated, undecided}
 use Rattle.oftp_engine.proofs.Telling.{handed_on}
 use Rattle.oftp_engine.proofs.operating.operate.Goals as goal
 
-pub returns-in_err-outcome-clause-operates : goal.returns-in_err-outcome-clause-operates
-returns-in_err-outcome-clause-operates g c = λ clean stood.
+pub returns-in_err-told-clause-operates : goal.returns-in_err-told-clause-operates
+returns-in_err-told-clause-operates g c = λ clean stood.
     undecided g.W.Write.contents c.args.writer.now (g.O.Office.view c.args.office.now) (g.O.Office.view c.attempt.new.office) c.args.book.now c.args.call.now _ _
-    (g.met.O.Office.alone c.attempt.new.office clean) c.in_err-outcome.ensures.err (c.in_err-outcome.ensures.does clean stood) (handed_on _ _ c.from_residual.ensures.1)
+    (g.met.O.Office.alone c.attempt.new.office clean) c.in_err-told.ensures.err (c.in_err-told.ensures.does clean stood) (handed_on _ _ c.from_residual.ensures.1)
 
 pub returns-clause-operates : goal.returns-clause-operates
 returns-clause-operates g c = λ clean stood.
     let contents = g.W.Write.contents in
     let old = c.args.writer.now in
     let new = c.tell.new.writer in
-    let sent = subst (λ (verb : List ℕ). Sent contents old new (line_as verb c.in_ok-outcome.outcome) (is_ok c.tell.result)) c.verb.ensures.verb c.tell.ensures.sent in
-    operated contents old new (g.O.Office.view c.args.office.now) (g.O.Office.view c.attempt.new.office) c.args.book.now c.args.call.now c.in_ok-outcome.outcome c.tell.result
-    (g.met.O.Office.alone c.attempt.new.office clean) (c.in_ok-outcome.ensures.does clean stood) sent c.tell.ensures.told c.tell.ensures.err
+    let sent = subst (λ (verb : List ℕ). Sent contents old new (line_as verb c.in_ok-told.told) (is_ok c.tell.result)) c.verb.ensures.verb c.tell.ensures.sent in
+    operated contents old new (g.O.Office.view c.args.office.now) (g.O.Office.view c.attempt.new.office) c.args.book.now c.args.call.now c.in_ok-told.told c.tell.result
+    (g.met.O.Office.alone c.attempt.new.office clean) (c.in_ok-told.ensures.does clean stood) sent c.tell.ensures.told c.tell.ensures.err

@@ -1,7 +1,7 @@
 use Rattle.std.proofs.Common.{◌≡◌, codes, cond, sym, subst, Result}
 use Rattle.oftp_register.specs.Changes.{is_outgoing}
-use Rattle.oftp_engine.specs.declared.operating.Outcome.{Outcome}
 use Rattle.oftp_engine.specs.declared.operating.Refusal.TheVariants as refusal
+use Rattle.oftp_engine.specs.declared.operating.Told.{Told}
 use Rattle.oftp_engine.specs.declared.serving.RunFault.{RunFault}
 use Rattle.oftp_engine.specs.Operating.{Deed, refuses}
 use Rattle.oftp_engine.specs.InsideOperating.{Attempts}
@@ -13,5 +13,5 @@ returns-clause-does g c = λ clean stood.
     let old = g.O.Office.view c.args.office.now in
     let new = g.O.Office.view c.look_out-found.new.self in
     let big = cond (is_outgoing old.register c.args.identity.now) (refuses refusal.Duplicate) (refuses refusal.Limit) in
-    subst (λ (r : Result Outcome RunFault). Attempts (codes "done: submit ") (λ (deed : Deed). deed ≡ big) old new r)
-    (sym c.outcome_of_big.ensures) (decides_big c.args.identity.now old new c.look_out-found.result c.look_out-found.ensures.looks clean stood)
+    subst (λ (r : Result Told RunFault). Attempts (codes "done: submit ") (λ (deed : Deed). deed ≡ big) old new r)
+    (sym c.told_of_big.ensures) (decides_big c.args.identity.now old new c.look_out-found.result c.look_out-found.ensures.looks clean stood)

@@ -1,11 +1,11 @@
 //! A session as an office that can only be looked at while it waits: it refuses each change.
 
-ghost use Rattle.std.specs.Prelude.{◌≡◌, ◌≤◌, IfOk, IfSome};
+ghost use Rattle.std.specs.Prelude.{◌≡◌, ◌≤◌, IfOk, IfSome, true};
 ghost use Rattle.oftp_register.specs.Register.{has_received};
 ghost use Rattle.oftp_register.specs.LookUps.{AreRowsWithin, IsIncomingWithin, IsItemWithin, IsOutgoingWithin, files_full, in_by_no, list_answered, list_in, list_issued, list_out, list_received, look_in, look_out, next_item, out_by_no, rows_of, units_of};
 ghost use Rattle.oftp_register.specs.Offices.{Commits, LooksUp};
 ghost use Rattle.oftp_register.specs.declared.fit.TheConstants.{MOST_UNITS};
-ghost use Rattle.oftp_life.specs.Looks.{IsSameSession, session_seen};
+ghost use Rattle.oftp_life.specs.Looks.{IsSameSession, has_ceased, session_seen};
 
 use super::LifeSession;
 use crate::stage::{after_look, count, lost};
@@ -28,6 +28,7 @@ impl<O: Office> Office for LifeSession<'_, O> {
     fn look_in(&mut self, identity: &Identity) -> Result<Option<IncomingEntry>, OfficeFault>
         ensures looks { LooksUp (λ r found. found ≡ look_in r identity.now) (session_seen O.view self.old) (session_seen O.view self.new) result }
         ensures within { IfOk result (λ found. IfSome found IsIncomingWithin) }
+        ensures idle { has_ceased self.old.stage ≡ true → result ≡ Err OfficeFault.Store }
         ensures same { IsSameSession self.old self.new }
     {
         if self.has_ceased() {
@@ -42,6 +43,7 @@ impl<O: Office> Office for LifeSession<'_, O> {
     fn look_out(&mut self, identity: &Identity) -> Result<Option<OutgoingEntry>, OfficeFault>
         ensures looks { LooksUp (λ r found. found ≡ look_out r identity.now) (session_seen O.view self.old) (session_seen O.view self.new) result }
         ensures within { IfOk result (λ found. IfSome found IsOutgoingWithin) }
+        ensures idle { has_ceased self.old.stage ≡ true → result ≡ Err OfficeFault.Store }
         ensures same { IsSameSession self.old self.new }
     {
         if self.has_ceased() {
@@ -56,6 +58,7 @@ impl<O: Office> Office for LifeSession<'_, O> {
     fn in_by_no(&mut self, no: u64) -> Result<Option<IncomingEntry>, OfficeFault>
         ensures looks { LooksUp (λ r found. found ≡ in_by_no r no) (session_seen O.view self.old) (session_seen O.view self.new) result }
         ensures within { IfOk result (λ found. IfSome found IsIncomingWithin) }
+        ensures idle { has_ceased self.old.stage ≡ true → result ≡ Err OfficeFault.Store }
         ensures same { IsSameSession self.old self.new }
     {
         if self.has_ceased() {
@@ -70,6 +73,7 @@ impl<O: Office> Office for LifeSession<'_, O> {
     fn out_by_no(&mut self, no: u64) -> Result<Option<OutgoingEntry>, OfficeFault>
         ensures looks { LooksUp (λ r found. found ≡ out_by_no r no) (session_seen O.view self.old) (session_seen O.view self.new) result }
         ensures within { IfOk result (λ found. IfSome found IsOutgoingWithin) }
+        ensures idle { has_ceased self.old.stage ≡ true → result ≡ Err OfficeFault.Store }
         ensures same { IsSameSession self.old self.new }
     {
         if self.has_ceased() {
@@ -83,6 +87,7 @@ impl<O: Office> Office for LifeSession<'_, O> {
 
     fn files_full(&mut self, side: Side) -> Result<bool, OfficeFault>
         ensures looks { LooksUp (λ r full. full ≡ files_full r side) (session_seen O.view self.old) (session_seen O.view self.new) result }
+        ensures idle { has_ceased self.old.stage ≡ true → result ≡ Err OfficeFault.Store }
         ensures same { IsSameSession self.old self.new }
     {
         if self.has_ceased() {
@@ -96,6 +101,7 @@ impl<O: Office> Office for LifeSession<'_, O> {
 
     fn has_received(&mut self, kind: ResponseKind, identity: &Identity) -> Result<bool, OfficeFault>
         ensures looks { LooksUp (λ r there. there ≡ has_received r kind identity.now) (session_seen O.view self.old) (session_seen O.view self.new) result }
+        ensures idle { has_ceased self.old.stage ≡ true → result ≡ Err OfficeFault.Store }
         ensures same { IsSameSession self.old self.new }
     {
         if self.has_ceased() {
@@ -115,6 +121,7 @@ impl<O: Office> Office for LifeSession<'_, O> {
     ) -> Result<Option<Item>, OfficeFault>
         ensures looks { LooksUp (λ r item. item ≡ next_item r partner.now cursor files) (session_seen O.view self.old) (session_seen O.view self.new) result }
         ensures within { IfOk result (λ found. IfSome found IsItemWithin) }
+        ensures idle { has_ceased self.old.stage ≡ true → result ≡ Err OfficeFault.Store }
         ensures same { IsSameSession self.old self.new }
     {
         if self.has_ceased() {
@@ -129,6 +136,7 @@ impl<O: Office> Office for LifeSession<'_, O> {
     fn rows_of(&mut self, side: Side, no: u64, from: u64, most: u64) -> Result<Rows, OfficeFault>
         ensures looks { LooksUp (λ r rows. rows ≡ rows_of r side no from most) (session_seen O.view self.old) (session_seen O.view self.new) result }
         ensures within { IfOk result (AreRowsWithin from most) }
+        ensures idle { has_ceased self.old.stage ≡ true → result ≡ Err OfficeFault.Store }
         ensures same { IsSameSession self.old self.new }
     {
         if self.has_ceased() {
@@ -143,6 +151,7 @@ impl<O: Office> Office for LifeSession<'_, O> {
     fn units_of(&mut self, side: Side, no: u64) -> Result<u64, OfficeFault>
         ensures looks { LooksUp (λ r units. units ≡ units_of r side no) (session_seen O.view self.old) (session_seen O.view self.new) result }
         ensures within { IfOk result (λ units. units ≤ MOST_UNITS) }
+        ensures idle { has_ceased self.old.stage ≡ true → result ≡ Err OfficeFault.Store }
         ensures same { IsSameSession self.old self.new }
     {
         if self.has_ceased() {
@@ -156,6 +165,7 @@ impl<O: Office> Office for LifeSession<'_, O> {
 
     fn list_in(&mut self) -> Result<Vec<IncomingEntry>, OfficeFault>
         ensures looks { LooksUp (λ r entries. entries.items ≡ list_in r) (session_seen O.view self.old) (session_seen O.view self.new) result }
+        ensures idle { has_ceased self.old.stage ≡ true → result ≡ Err OfficeFault.Store }
         ensures same { IsSameSession self.old self.new }
     {
         if self.has_ceased() {
@@ -169,6 +179,7 @@ impl<O: Office> Office for LifeSession<'_, O> {
 
     fn list_out(&mut self) -> Result<Vec<OutgoingEntry>, OfficeFault>
         ensures looks { LooksUp (λ r entries. entries.items ≡ list_out r) (session_seen O.view self.old) (session_seen O.view self.new) result }
+        ensures idle { has_ceased self.old.stage ≡ true → result ≡ Err OfficeFault.Store }
         ensures same { IsSameSession self.old self.new }
     {
         if self.has_ceased() {
@@ -182,6 +193,7 @@ impl<O: Office> Office for LifeSession<'_, O> {
 
     fn list_issued(&mut self) -> Result<Vec<IssuedEntry>, OfficeFault>
         ensures looks { LooksUp (λ r entries. entries.items ≡ list_issued r) (session_seen O.view self.old) (session_seen O.view self.new) result }
+        ensures idle { has_ceased self.old.stage ≡ true → result ≡ Err OfficeFault.Store }
         ensures same { IsSameSession self.old self.new }
     {
         if self.has_ceased() {
@@ -195,6 +207,7 @@ impl<O: Office> Office for LifeSession<'_, O> {
 
     fn list_received(&mut self) -> Result<Vec<ReceivedEntry>, OfficeFault>
         ensures looks { LooksUp (λ r entries. entries.items ≡ list_received r) (session_seen O.view self.old) (session_seen O.view self.new) result }
+        ensures idle { has_ceased self.old.stage ≡ true → result ≡ Err OfficeFault.Store }
         ensures same { IsSameSession self.old self.new }
     {
         if self.has_ceased() {
@@ -208,6 +221,7 @@ impl<O: Office> Office for LifeSession<'_, O> {
 
     fn list_answered(&mut self) -> Result<Vec<AnsweredEntry>, OfficeFault>
         ensures looks { LooksUp (λ r entries. entries.items ≡ list_answered r) (session_seen O.view self.old) (session_seen O.view self.new) result }
+        ensures idle { has_ceased self.old.stage ≡ true → result ≡ Err OfficeFault.Store }
         ensures same { IsSameSession self.old self.new }
     {
         if self.has_ceased() {
@@ -221,6 +235,7 @@ impl<O: Office> Office for LifeSession<'_, O> {
 
     fn commit(&mut self, _change: Change<'_>) -> Result<(), OfficeFault>
         ensures commits { Commits _change.entry (session_seen O.view self.old) (session_seen O.view self.new) result }
+        ensures refuses { result ≡ Err OfficeFault.Store }
         ensures same { IsSameSession self.old self.new }
     {
         Err(lost(&mut self.faults))

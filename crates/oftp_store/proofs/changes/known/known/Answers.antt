@@ -1,4 +1,5 @@
 use Rattle.oftp_store.proofs.CommitLemmas.{ends_beyond, ends_unknown}
+use Rattle.oftp_store.proofs.CauseLemmas.{refused}
 use Rattle.oftp_store.proofs.changes.known.known.Goals as goal
 
 pub returns-then-no-ge-FIRST_FAR-clause-ends : goal.returns-then-no-ge-FIRST_FAR-clause-ends
@@ -14,3 +15,9 @@ returns-in-Some-clause-found g c = record {
   looks = rw c.in-Some.is at c.in_ok-find.ensures.looks;
   answer = λ k limits stands. (rw c.in-Some.is at c.in_ok-find.ensures.answer) k stands.holds.schema _ stands.holds.tables;
 }
+
+pub returns-then-no-ge-FIRST_FAR-clause-told : goal.returns-then-no-ge-FIRST_FAR-clause-told
+returns-then-no-ge-FIRST_FAR-clause-told g c = refused g.S.Store _ _ _
+
+pub returns-in-None-clause-told : goal.returns-in-None-clause-told
+returns-in-None-clause-told g c = refused g.S.Store _ _ _

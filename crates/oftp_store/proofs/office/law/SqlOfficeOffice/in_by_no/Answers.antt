@@ -14,3 +14,7 @@ pub returns-clause-looks : goal.returns-clause-looks
 returns-clause-looks g c =
     rw c.counted.ensures.same (looks_up (λ r found. found ≡ in_by_no r c.args.no) _ _ _ _ _ c.find_incoming_file-found.result
     (settled_alone g.S.Store g.met.S.Store.settled _ c.args.self.now.conn) c.find_incoming_file-found.ensures.looks c.find_incoming_file-found.ensures.answer c.counted.ensures.counts)
+
+pub returns-clause-told : goal.returns-clause-told
+returns-clause-told g c =
+    rw c.counted.ensures.same c.find_incoming_file-found.ensures.told

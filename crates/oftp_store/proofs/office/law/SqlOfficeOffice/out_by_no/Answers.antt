@@ -16,3 +16,7 @@ returns-clause-looks g c =
     rw c.counted.ensures.same (looks_up (λ r found. found ≡ out_by_no r c.args.no) _ _ _ _ _ c.find_outgoing_file-found.result
     (settled_alone g.S.Store g.met.S.Store.settled _ c.args.self.now.conn) c.find_outgoing_file-found.ensures.looks
     (λ k has. IfOk-weaker c.find_outgoing_file-found.result _ _ (λ x told r kept sound. told r kept) (c.find_outgoing_file-found.ensures.answer k has)) c.counted.ensures.counts)
+
+pub returns-clause-told : goal.returns-clause-told
+returns-clause-told g c =
+    rw c.counted.ensures.same c.find_outgoing_file-found.ensures.told

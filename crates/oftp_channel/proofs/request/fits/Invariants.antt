@@ -1,7 +1,0 @@
-use Rattle.std.proofs.Common.{◌≡◌, ◌+◌, take, map}
-use Rattle.oftp_channel.specs.Requests.{total}
-use Rattle.oftp_channel.specs.declared.request.TheConstants.{LARGEST_REQUEST}
-use Rattle.oftp_channel.proofs.request.fits.Given as goal
-
-abbrev pub invariant-loop-word : goal.invariant-loop-word
-invariant-loop-word l = l.left + total (map (λ s. s.now) (take l.word-index l.words)) ≡ LARGEST_REQUEST

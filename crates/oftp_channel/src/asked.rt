@@ -1,0 +1,196 @@
+//! The request that words stand for.
+
+ghost use Rattle.std.specs.Prelude.{◌≡◌, [], None, IfSome, map};
+ghost use Rattle.oftp_channel.specs.Asked.{IsAskable, request_fields, request_kind, submission_fields, words_of};
+ghost use Rattle.oftp_channel.specs.InsideAsked.{IsFor, IsNoRequest, IsNoSubmission};
+ghost use Rattle.oftp_channel.specs.declared.asking.Request.{Request};
+ghost use Rattle.oftp_channel.specs.declared.codes.RequestKind.TheVariants.{Call, Fetch, Holds, Outgoing, Refuse, Release, Report, Submit};
+
+use crate::asking::Request;
+use crate::codes::RequestKind;
+use crate::fields::{
+    format_in, kind_in, number_in, report_in, small_number_in, text_in, tracing_in,
+};
+use crate::stamp::stamp_in;
+use oftp_engine::{Operator, Submission};
+
+impl<'a> Request<'a> {
+    /// The request that these words stand for. `None` if they stand for none: if their number is another, a text isn't UTF-8, or a number or
+    /// an octet is out of its range.
+    pub fn of(words: &'a [Vec<u8>]) -> Option<Request<'a>>
+        ensures some { IfSome result (λ request. words_of request ≡ map (λ word. word.items) words.now) }
+        ensures none { result ≡ None → (request : Request) → IsAskable request → words_of request ≡ map (λ word. word.items) words.now → ⊥ }
+    {
+        let [kind, fields @ ..] = words else {
+            return None;
+        };
+        request_in(kind_in(kind)?, fields)
+    }
+}
+
+// The request of this kind that has these fields.
+fn request_in<'a>(kind: RequestKind, fields: &'a [Vec<u8>]) -> Option<Request<'a>>
+    ensures some { IfSome result (IsFor kind (map (λ word. word.items) fields.now)) }
+    ensures none { result ≡ None → IsNoRequest kind (map (λ word. word.items) fields.now) }
+{
+    match kind {
+        RequestKind::Submit => submit_in(fields),
+        RequestKind::Release => release_in(fields),
+        RequestKind::Refuse => refuse_in(fields),
+        RequestKind::Call => call_in(fields),
+        RequestKind::Report => report_asked(fields),
+        RequestKind::Unanswered => alone(Request::Unanswered, fields),
+        RequestKind::Outgoing => outgoing_in(fields),
+        RequestKind::Fetch => fetch_in(fields),
+        RequestKind::Holds => holds_in(fields),
+        RequestKind::Backup => alone(Request::Backup, fields),
+        RequestKind::Init => alone(Request::Init, fields),
+    }
+}
+
+// The request to submit a file that has these fields.
+fn submit_in<'a>(fields: &'a [Vec<u8>]) -> Option<Request<'a>>
+    ensures some { IfSome result (IsFor Submit (map (λ word. word.items) fields.now)) }
+    ensures none { result ≡ None → IsNoRequest Submit (map (λ word. word.items) fields.now) }
+{
+    let [book, others @ ..] = fields else {
+        return None;
+    };
+    let call = Operator::Submit(submission_in(others)?);
+    Some(Request::Operate { book, call })
+}
+
+// The submission that has these fields.
+fn submission_in<'a>(fields: &'a [Vec<u8>]) -> Option<Submission<'a>>
+    ensures some { IfSome result (λ submission. submission_fields submission ≡ map (λ word. word.items) fields.now) }
+    ensures none { result ≡ None → IsNoSubmission (map (λ word. word.items) fields.now) }
+{
+    let [
+        dataset,
+        date,
+        time,
+        to,
+        format,
+        longest,
+        description,
+        content,
+    ] = fields
+    else {
+        return None;
+    };
+    let stamp = stamp_in(dataset, date, time)?;
+    Some(Submission {
+        dataset: stamp.dataset,
+        date: stamp.date,
+        time: stamp.time,
+        to: text_in(to)?,
+        format: format_in(format)?,
+        longest: small_number_in(longest)?,
+        description: text_in(description)?,
+        content,
+    })
+}
+
+// The request to release a file that has these fields.
+fn release_in<'a>(fields: &'a [Vec<u8>]) -> Option<Request<'a>>
+    ensures some { IfSome result (IsFor Release (map (λ word. word.items) fields.now)) }
+    ensures none { result ≡ None → IsNoRequest Release (map (λ word. word.items) fields.now) }
+{
+    let [book, no] = fields else {
+        return None;
+    };
+    let call = Operator::Release { no: number_in(no)? };
+    Some(Request::Operate { book, call })
+}
+
+// The request to refuse a file that has these fields.
+fn refuse_in<'a>(fields: &'a [Vec<u8>]) -> Option<Request<'a>>
+    ensures some { IfSome result (IsFor Refuse (map (λ word. word.items) fields.now)) }
+    ensures none { result ≡ None → IsNoRequest Refuse (map (λ word. word.items) fields.now) }
+{
+    let [book, no, reason, text] = fields else {
+        return None;
+    };
+    let call = Operator::Refuse {
+        no: number_in(no)?,
+        reason: number_in(reason)?,
+        text: text_in(text)?,
+    };
+    Some(Request::Operate { book, call })
+}
+
+// The request for a call that has these fields.
+fn call_in<'a>(fields: &'a [Vec<u8>]) -> Option<Request<'a>>
+    ensures some { IfSome result (IsFor Call (map (λ word. word.items) fields.now)) }
+    ensures none { result ≡ None → IsNoRequest Call (map (λ word. word.items) fields.now) }
+{
+    let [book, partner, patience, longest, tracing] = fields else {
+        return None;
+    };
+    Some(Request::Call {
+        book,
+        partner: text_in(partner)?,
+        patience: number_in(patience)?,
+        longest: number_in(longest)?,
+        tracing: tracing_in(tracing)?,
+    })
+}
+
+// The request for a report that has these fields.
+fn report_asked<'a>(fields: &'a [Vec<u8>]) -> Option<Request<'a>>
+    ensures some { IfSome result (IsFor Report (map (λ word. word.items) fields.now)) }
+    ensures none { result ≡ None → IsNoRequest Report (map (λ word. word.items) fields.now) }
+{
+    let [kind] = fields else {
+        return None;
+    };
+    Some(Request::Report(report_in(kind)?))
+}
+
+// The request for outgoing files that has these fields.
+fn outgoing_in<'a>(fields: &'a [Vec<u8>]) -> Option<Request<'a>>
+    ensures some { IfSome result (IsFor Outgoing (map (λ word. word.items) fields.now)) }
+    ensures none { result ≡ None → IsNoRequest Outgoing (map (λ word. word.items) fields.now) }
+{
+    let [to] = fields else {
+        return None;
+    };
+    Some(Request::Outgoing { to: text_in(to)? })
+}
+
+// The request for a content that has these fields.
+fn fetch_in<'a>(fields: &'a [Vec<u8>]) -> Option<Request<'a>>
+    ensures some { IfSome result (IsFor Fetch (map (λ word. word.items) fields.now)) }
+    ensures none { result ≡ None → IsNoRequest Fetch (map (λ word. word.items) fields.now) }
+{
+    let [no] = fields else {
+        return None;
+    };
+    Some(Request::Fetch { no: number_in(no)? })
+}
+
+// The request to compare a content that has these fields.
+fn holds_in<'a>(fields: &'a [Vec<u8>]) -> Option<Request<'a>>
+    ensures some { IfSome result (IsFor Holds (map (λ word. word.items) fields.now)) }
+    ensures none { result ≡ None → IsNoRequest Holds (map (λ word. word.items) fields.now) }
+{
+    let [no, content] = fields else {
+        return None;
+    };
+    Some(Request::Holds {
+        no: number_in(no)?,
+        content,
+    })
+}
+
+// A request that has no fields.
+fn alone<'a>(request: Request<'a>, fields: &[Vec<u8>]) -> Option<Request<'a>>
+    ensures some { IfSome result (λ asked. (asked ≡ request.entry) × (map (λ word. word.items) fields.now ≡ [])) }
+    ensures none { result ≡ None → map (λ word. word.items) fields.now ≡ [] → ⊥ }
+{
+    if fields.is_empty() {
+        Some(request)
+    } else {
+        None
+    }
+}

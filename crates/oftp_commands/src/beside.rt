@@ -1,0 +1,117 @@
+//! The station that has a command's database open, which is asked over its socket.
+
+use oftp_channel::{
+    AnswerPart, Ending, HearFault, Request, fits, read_part, read_ready, write_request,
+};
+use oftp_engine::{Port, RunFault};
+use oftp_outcomes::Fault;
+use oftp_requests::Backend;
+use oftp_sockets::SocketPlace;
+use std::alloc::Global;
+use std::io::Write;
+use std::net::Shutdown;
+use std::os::unix::net::UnixStream;
+
+/// The error if the station is gone, or sends what no station sends. What was asked may have been done then.
+pub(crate) const GONE: Fault = Fault::Run(RunFault::Office);
+
+/// The station that runs over a database. Each request has its own connection.
+#[derive(Drop)]
+pub(crate) struct Beside<'a> {
+    rt: &'a HostRuntime,
+    database: &'a str,
+    // The connection for the first request.
+    stream: Option<UnixStream>,
+}
+
+impl<'a> Beside<'a> {
+    /// The station that runs over a database, if one does.
+    pub(crate) fn reached(rt: &'a HostRuntime, database: &'a str) -> Option<Beside<'a>> {
+        let stream = connected(rt, database)?;
+        Some(Beside {
+            rt,
+            database,
+            stream: Some(stream),
+        })
+    }
+
+    /// A connection for one request.
+    fn connection(&mut self) -> Result<UnixStream, Fault> {
+        match self.stream.take() {
+            Some(stream) => Ok(stream),
+            None => connected(self.rt, self.database).ok_or(GONE),
+        }
+    }
+}
+
+impl Backend for Beside<'_> {
+    fn ask(&mut self, request: &Request<'_>, out: &mut impl Write) -> Result<Ending, Fault> {
+        let alloc = self.rt.alloc();
+        let stream = self.connection()?;
+        send(alloc, &stream, request)?;
+        receive(alloc, &stream, request, out)
+    }
+}
+
+/// A connection to the station that runs over a database, if one does.
+fn connected(rt: &HostRuntime, database: &str) -> Option<UnixStream> {
+    SocketPlace::beside(rt, database).ok()?.connect(rt).ok()
+}
+
+/// Sends a request, once the station will read it.
+fn send(alloc: Global, stream: &UnixStream, request: &Request<'_>) -> Result<(), Fault> {
+    read_ready(alloc, &mut Port::new(stream, u64::MAX)).map_err(fault_of)?;
+    if !fits(request) {
+        return Err(Fault::MEMORY);
+    }
+    if write_request(&mut Port::new(stream, 0), request) {
+        Ok(())
+    } else {
+        Err(GONE)
+    }
+}
+
+/// Writes the pieces of an answer to `out` as they arrive. Returns its end.
+fn receive(
+    alloc: Global,
+    stream: &UnixStream,
+    request: &Request<'_>,
+    out: &mut impl Write,
+) -> Result<Ending, Fault> {
+    let mut reader = Port::new(stream, u64::MAX);
+    for _ in 0..u64::MAX {
+        match read_part(alloc, &mut reader).map_err(fault_of)? {
+            AnswerPart::End(Ending::Failed(fault)) => return Err(fault),
+            AnswerPart::End(ending) => return Ok(ending),
+            AnswerPart::Piece(_, octets) => {
+                take_piece(stream, request, octets.as_slice(), out)?;
+            }
+        }
+    }
+    Err(GONE)
+}
+
+/// Writes a piece of an answer. That of a backup lets the database's files be copied, and the station is told once that is done.
+fn take_piece(
+    stream: &UnixStream,
+    request: &Request<'_>,
+    octets: &[u8],
+    out: &mut impl Write,
+) -> Result<(), Fault> {
+    if out.write_all(octets).is_err() {
+        return Err(Fault::Run(RunFault::Write));
+    }
+    if let Request::Backup = request {
+        // A station that is gone needs no message.
+        let _ = stream.shutdown(Shutdown::Write);
+    }
+    Ok(())
+}
+
+/// The error for an answer that can't be read.
+fn fault_of(fault: HearFault) -> Fault {
+    match fault {
+        HearFault::Memory => Fault::MEMORY,
+        HearFault::Input | HearFault::Form => GONE,
+    }
+}

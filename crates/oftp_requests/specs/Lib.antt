@@ -1,0 +1,5 @@
+pub mod Compared
+pub mod Due
+pub mod Fetched
+pub mod Listed
+pub mod Verbs

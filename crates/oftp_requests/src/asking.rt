@@ -1,0 +1,123 @@
+//! How requests are carried out: an operator's calls in a life, and look-ups by any office.
+
+ghost use Rattle.std.specs.Prelude.{◌≡◌, IfOk};
+ghost use Rattle.oftp_requests.specs.Verbs.{verb_of};
+
+use crate::comparing::Comparison;
+use crate::fetched::entry_to_fetch;
+use crate::listed::{list_outgoing, list_unanswered};
+use crate::outgoing::write_outgoing;
+use oftp_channel::{Ending, Request};
+use oftp_engine::{Operator, Port, write_content};
+use oftp_life::Life;
+use oftp_listing::{ReportKind, report};
+use oftp_outcomes::{Fault, Outcome, Verb, outcome_of};
+use oftp_partners::Book;
+use oftp_register::Office;
+use std::alloc::Global;
+use std::io::{self, Write};
+
+/// Who carries out requests: the database itself, or the station that has it open.
+pub trait Backend {
+    /// Carries out a request. A report, a list, a content or a trace goes to `out`.
+    ///
+    /// # Errors
+    /// Those of the request; [`Fault::Run`] if the office failed, the station is gone or `out` returned an error; [`Fault::MEMORY`]. What was
+    /// asked may have been done then.
+    fn ask(&mut self, request: &Request<'_>, out: &mut impl Write) -> Result<Ending, Fault>;
+}
+
+/// What a call of an operator does with its file.
+fn verb_of(call: &Operator<'_>) -> Verb
+    ensures { result ≡ verb_of call.now }
+{
+    match call {
+        Operator::Submit(_) => Verb::Submit,
+        Operator::Release { .. } => Verb::Release,
+        Operator::Refuse { .. } => Verb::Refuse,
+    }
+}
+
+/// Carries out an operator's call in a life, by a book. Its line isn't written: who asked for it writes it from the outcome.
+///
+/// # Errors
+/// [`Fault::Run`] if the office failed, after which the life is over; [`Fault::MEMORY`], after which nothing is changed.
+pub fn operate<O: Office>(
+    alloc: Global,
+    life: &mut Life<O>,
+    book: &Book,
+    call: &Operator<'_>,
+) -> Result<Outcome, Fault> {
+    let mut line = Port::new(io::sink(), 0);
+    match life.order(alloc, book, call, &mut line) {
+        Ok(told) => Ok(outcome_of(verb_of(call), told)),
+        Err(fault) => Err(Fault::Run(fault).in_memory()),
+    }
+}
+
+/// Looks up what a request asks for, and writes the report, the list or the content to `out`.
+///
+/// # Errors
+/// [`Fault::Run`] if the office failed, or `out` returned an error; [`Fault::MEMORY`]; [`Fault::Socket`] if the request is for no look-up.
+/// A beginning is written then.
+pub fn look_up<O: Office, W: Write>(
+    alloc: Global,
+    office: &mut O,
+    request: &Request<'_>,
+    out: &mut Port<W>,
+) -> Result<Ending, Fault> {
+    match *request {
+        Request::Report(kind) => write_report(alloc, office, kind, out),
+        Request::Unanswered => list_unanswered(office, out),
+        Request::Outgoing { to } => list_outgoing(office, to, out),
+        Request::Fetch { no } => fetch(alloc, office, no, out),
+        Request::Holds { no, content } => compare(alloc, office, no, content),
+        Request::Init => Ok(Ending::Outcome(Outcome::Initiated)),
+        Request::Operate { .. } | Request::Call { .. } | Request::Backup => Err(Fault::Socket),
+    }
+}
+
+/// Writes a report.
+fn write_report<O: Office, W: Write>(
+    alloc: Global,
+    office: &mut O,
+    kind: ReportKind,
+    out: &mut Port<W>,
+) -> Result<Ending, Fault> {
+    match report(alloc, kind, office, out) {
+        Ok(()) => Ok(Ending::Listed),
+        Err(fault) => Err(Fault::from(fault)),
+    }
+}
+
+/// Writes the content of a whole incoming file.
+fn fetch<O: Office, W: Write>(
+    alloc: Global,
+    office: &mut O,
+    no: u64,
+    out: &mut Port<W>,
+) -> Result<Ending, Fault> {
+    match entry_to_fetch(office, no)? {
+        Ok(entry) => match write_content(alloc, office, &entry, out) {
+            Ok(()) => Ok(Ending::Outcome(Outcome::Done(Verb::Fetch, entry.no))),
+            Err(fault) => Err(Fault::Run(fault)),
+        },
+        Err(refusal) => Ok(Ending::Outcome(Outcome::Refused(refusal))),
+    }
+}
+
+/// Compares a content with that of an outgoing file.
+fn compare<O: Office>(
+    alloc: Global,
+    office: &mut O,
+    no: u64,
+    content: &[u8],
+) -> Result<Ending, Fault> {
+    let mut comparison = Comparison::with(content);
+    let is_there = write_outgoing(alloc, office, no, &mut comparison)?;
+    Ok(if is_there && comparison.is_equal() {
+        Ending::Same
+    } else {
+        Ending::Other
+    })
+}

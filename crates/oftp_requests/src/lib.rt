@@ -1,0 +1,16 @@
+//! How each request of a command is carried out, over a life of the station or by the station that has the database open.
+#![tactic(auto)]
+
+mod asking;
+mod comparing;
+mod due;
+mod entries;
+mod fetched;
+mod listed;
+mod outgoing;
+
+pub use asking::{Backend, look_up, operate};
+pub use comparing::Comparison;
+pub use due::is_due;
+pub use entries::{FileEntry, FileList};
+pub use fetched::entry_to_fetch;

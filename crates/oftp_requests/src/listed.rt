@@ -1,0 +1,95 @@
+//! Lists of files, for the commands over a folder.
+
+ghost use Rattle.std.specs.Prelude.{◌≡◌};
+ghost use Rattle.oftp_requests.specs.Listed.{is_unanswered};
+
+use oftp_channel::{Ending, ListedFile, write_entry};
+use oftp_engine::{Port, RunFault};
+use oftp_outcomes::Fault;
+use oftp_register::{DigitString, Identity, IncomingEntry, IncomingState, Name, Office};
+use std::io::Write;
+
+/// The error of an office that failed.
+const FAILED: Fault = Fault::Run(RunFault::Office);
+
+/// Whether an incoming file is whole and has no response.
+fn is_unanswered(entry: &IncomingEntry) -> bool
+    ensures { result ≡ is_unanswered entry.now }
+{
+    match (entry.state, &entry.response) {
+        (IncomingState::Whole, None) => true,
+        _ => false,
+    }
+}
+
+/// Writes the incoming files that are whole and have no response, in order of their numbers.
+///
+/// # Errors
+/// [`Fault::Run`] if the office failed or `out` returned an error.
+pub(crate) fn list_unanswered<O: Office, W: Write>(
+    office: &mut O,
+    out: &mut Port<W>,
+) -> Result<Ending, Fault> {
+    let Ok(entries) = office.list_in() else {
+        return Err(FAILED);
+    };
+    for entry in &entries {
+        if is_unanswered(entry) {
+            let identity = &entry.identity;
+            write_file(entry.no, identity, text_of(&identity.originator), out)?;
+        }
+    }
+    Ok(Ending::Listed)
+}
+
+/// Writes the outgoing files to the partner with a code, in order of their numbers.
+///
+/// # Errors
+/// [`Fault::Run`] if the office failed or `out` returned an error.
+pub(crate) fn list_outgoing<O: Office, W: Write>(
+    office: &mut O,
+    to: &str,
+    out: &mut Port<W>,
+) -> Result<Ending, Fault> {
+    let Ok(entries) = office.list_out() else {
+        return Err(FAILED);
+    };
+    for entry in &entries {
+        let code = text_of(&entry.identity.destination);
+        if code == to {
+            write_file(entry.no, &entry.identity, code, out)?;
+        }
+    }
+    Ok(Ending::Listed)
+}
+
+/// Writes a file of a list.
+fn write_file<W: Write>(
+    no: u64,
+    identity: &Identity,
+    code: &str,
+    out: &mut Port<W>,
+) -> Result<(), Fault> {
+    let file = ListedFile {
+        no,
+        dataset: text_of(&identity.dataset),
+        date: digits_of(&identity.date),
+        time: digits_of(&identity.time),
+        code,
+    };
+    if write_entry(out, &file) {
+        Ok(())
+    } else {
+        Err(Fault::Run(RunFault::Write))
+    }
+}
+
+/// A name as a text.
+fn text_of<const N: usize>(name: &Name<N>) -> &str {
+    str::from_utf8(name.octets()).unwrap_or("")
+}
+
+/// Digits as a text.
+fn digits_of<const N: usize>(digits: &DigitString<N>) -> &str {
+    str::from_utf8(digits.octets()).unwrap_or("")
+}

@@ -1,0 +1,140 @@
+//! What a request asks of the schedule, how a session ended, and what becomes of an error.
+
+ghost use Rattle.std.specs.Prelude.{◌≡◌};
+ghost use Rattle.oftp_resident.specs.Judged.{asking_of, closing_of, declined, ended_for, farewell_of, result_at, result_of, trouble_of, trouble_within};
+
+use oftp_channel::Request;
+use oftp_engine::{End, RunFault};
+use oftp_life::Stage;
+use oftp_outcomes::{Fault, Trouble};
+use oftp_schedule::connection::{self as schedule, Reason, Status};
+use oftp_session::Ending;
+use oftp_sockets::Term;
+
+/// What a request asks of the schedule.
+#[derive(Clone, Copy)]
+pub(crate) enum Asking {
+    /// A job of this kind.
+    For(schedule::Request),
+    /// A call of a partner.
+    Call,
+}
+
+/// What a request asks of the schedule.
+pub(crate) fn asking_of(request: &Request<'_>) -> Asking
+    ensures { result ≡ asking_of request.now }
+{
+    match request {
+        Request::Operate { .. } => Asking::For(schedule::Request::Update),
+        Request::Call { .. } => Asking::Call,
+        Request::Backup => Asking::For(schedule::Request::Backup),
+        Request::Report(_) | Request::Init => Asking::For(schedule::Request::Query),
+        Request::Unanswered | Request::Outgoing { .. } => Asking::For(schedule::Request::Query),
+        Request::Fetch { .. } | Request::Holds { .. } => Asking::For(schedule::Request::Query),
+    }
+}
+
+/// The error of a request that isn't done for this reason.
+pub(crate) fn declined(reason: Reason) -> Fault
+    ensures { result ≡ declined reason }
+{
+    match reason {
+        Reason::TimedOut => Fault::File,
+        _ => Fault::Socket,
+    }
+}
+
+/// An error of a session: of that session alone, or of the service.
+pub(crate) fn trouble_of(fault: RunFault) -> Trouble
+    ensures { result ≡ trouble_of fault }
+{
+    match fault {
+        RunFault::Read | RunFault::Write => Trouble::OfJob(Fault::Run(fault)),
+        RunFault::Office | RunFault::Memory => Trouble::OfService(Fault::Run(fault)),
+    }
+}
+
+/// An error within a session. What it says is kept in memory, so a failed write there is out of memory.
+fn trouble_within(fault: RunFault) -> Trouble
+    ensures { result ≡ trouble_within fault }
+{
+    match fault {
+        RunFault::Write => trouble_of(RunFault::Memory),
+        other => trouble_of(other),
+    }
+}
+
+/// How a session ended that stands like this, or was cut off while it waited.
+pub(crate) fn result_of(stage: Option<Stage>) -> Result<End, Trouble>
+    ensures { result ≡ result_of stage }
+{
+    match stage {
+        Some(Stage::Ended(ending)) => Ok(End::from(ending)),
+        Some(Stage::Failed(fault)) => Err(trouble_within(fault)),
+        Some(Stage::Lost) => Err(trouble_of(RunFault::Office)),
+        Some(Stage::Waits) | None => Err(trouble_of(RunFault::Write)),
+    }
+}
+
+/// Whether the last words of a session that stands like this are still to go out.
+pub(crate) fn farewell_of(stage: Option<Stage>) -> schedule::End
+    ensures { result ≡ farewell_of stage }
+{
+    match stage {
+        Some(Stage::Ended(Ending::Own(_))) => schedule::End::Own,
+        Some(Stage::Failed(RunFault::Office)) => schedule::End::Own,
+        Some(Stage::Lost) => schedule::End::Own,
+        _ => schedule::End::Other,
+    }
+}
+
+/// How a session ended that was cut off for this reason, or was never begun.
+pub(crate) fn ended_for(reason: Reason) -> Result<End, Trouble>
+    ensures { result ≡ ended_for reason }
+{
+    match reason {
+        Reason::Quit | Reason::Finished => Ok(End::Input),
+        Reason::Stalled => Err(trouble_of(RunFault::Write)),
+        Reason::Unreached | Reason::Orphaned => Err(Trouble::OfJob(Fault::Socket)),
+        // A session that goes on is cut off only by a failing office.
+        Reason::Stopping => Err(trouble_of(RunFault::Office)),
+        Reason::Evicted | Reason::Invalid | Reason::TimedOut | Reason::Vanished => {
+            Err(trouble_of(RunFault::Read))
+        }
+    }
+}
+
+/// What becomes of the error of a request that has no answer for it.
+#[derive(Clone, Copy)]
+pub(crate) enum Closing {
+    /// There is none, or the service ends with it already.
+    Nothing,
+    /// It is told, and the service goes on.
+    Tell(Fault),
+    /// The service ends with it.
+    Fail(Fault),
+}
+
+/// What becomes of the error of a request that has no answer for it, where a life lasts so long.
+pub(crate) fn closing_of(trouble: Option<Trouble>, term: Term) -> Closing
+    ensures { result ≡ closing_of trouble term }
+{
+    match (trouble, term) {
+        (None, _) => Closing::Nothing,
+        (Some(Trouble::OfJob(fault)), _) => Closing::Tell(fault),
+        (Some(Trouble::OfService(fault)), Term::OfJob) => Closing::Fail(fault),
+        (Some(Trouble::OfService(_)), Term::OfService) => Closing::Nothing,
+    }
+}
+
+/// The error of a service that ended like this, if it is one: that with which it ended, or that of its door or its office.
+pub(crate) fn result_at(fault: Option<Fault>, status: Status) -> Option<Fault>
+    ensures { result ≡ result_at fault status }
+{
+    match (fault, status) {
+        (Some(fault), _) => Some(fault),
+        (None, Status::Stopped) => None,
+        (None, Status::DoorFailed) => Some(Fault::Socket),
+        (None, Status::OfficeFailed) => Some(Fault::Run(RunFault::Office)),
+    }
+}

@@ -1,0 +1,226 @@
+-- The cause of a failed store is told by one step after another.
+use Rattle.std.proofs.Common.{◌≡◌, ◌≤◌, ◌<◌, ◌+◌, ◌^◌, ◌⊎◌, ℕ, nat_lt, List, All, length, find, option_map, Bool, true, false, is_some, IsSome, slice_get, Option, Some, None, Result, Ok, Err, IfErr, inl, inr, refl, sym, ap, subst, ◌∙◌, arith}
+use Rattle.std.specs.Prelude.{⊤}
+use Rattle.std.specs.Option.{IsSomeAnd}
+use Rattle.std.specs.Result.{IsErrAnd}
+use Rattle.std.proofs.lemmas.Bool.{cases_Bool}
+use Rattle.std.proofs.lemmas.Bool.Decides.{nat_tests}
+use Rattle.sqlite.specs.Effect.{Database}
+use Rattle.sqlite.specs.Tree.{Trees}
+use Rattle.sqlite.specs.View.{doubt}
+use Rattle.sqlite.specs.Order.{Row}
+use Rattle.sqlite.specs.Held.{Held, state}
+use Rattle.sqlite.specs.State.{HasCleanDisk, FailsToQuery, IsUnchanged, Shown}
+use Rattle.sqlite_trees.specs.declared.store.Store.{Ghosts}
+use Rattle.oftp_vfile.specs.declared.format.Limits.{Limits}
+use Rattle.oftp_register.specs.declared.change.Cause.{Cause}
+use Rattle.oftp_register.specs.declared.change.Cause.TheVariants.{State as Unfit}
+use Rattle.oftp_register.specs.declared.change.Change.{Change}
+use Rattle.oftp_register.specs.declared.office.OfficeFault.{OfficeFault}
+use Rattle.oftp_register.specs.declared.office.OfficeFault.TheVariants.{Store, Memory, Refused}
+use Rattle.oftp_register.specs.declared.entry.Identity.{Identity}
+use Rattle.oftp_register.specs.declared.entries.IncomingEntry.{IncomingEntry}
+use Rattle.oftp_register.specs.declared.entries.OutgoingEntry.{OutgoingEntry}
+use Rattle.oftp_register.specs.declared.entries.Side.TheVariants as side
+use Rattle.oftp_register.specs.Register.{Register, same_identity}
+use Rattle.oftp_register.specs.LookUps.{entry_at, incoming_entry, numbered, outgoing_entry}
+use Rattle.oftp_tables.specs.Schema.{office_schema}
+use Rattle.oftp_tables.specs.Stands.{Stands}
+use Rattle.oftp_tables.specs.Statements.{IsFaultOf, Looks}
+use Rattle.oftp_tables.specs.Tables.{Tables, register_in}
+use Rattle.oftp_store.specs.Causes.{Fits, HasCause, HasCommitCause, HasQueryCause, IsCause, IsQueryCause, Query, error, number, query, reading, row, size, sql_of, values_of, writing}
+use Rattle.oftp_store.specs.Commits.{AreCarriedOut, Finds, MakesEdits}
+use Rattle.oftp_store.specs.Edits.{IsStorable}
+use Rattle.oftp_store.specs.FileProgress.{incoming_told, outgoing_told}
+use Rattle.oftp_store.specs.Numbers.{entries_in, file_number}
+use Rattle.oftp_store.specs.declared.changes.edit.Edit.{Edit}
+use Rattle.oftp_store.specs.declared.queries.last_number.Table.{Table}
+use Rattle.oftp_store.specs.declared.queries.progress.IncomingProgress.{IncomingProgress}
+use Rattle.oftp_store.specs.declared.queries.progress.OutgoingProgress.{OutgoingProgress}
+use Rattle.oftp_store.proofs.CommitLemmas.{IsMadeBy, IsOfFile, err_passed, made_fit, stands_same}
+use Rattle.oftp_store.proofs.FirstLemmas.{same_by_number}
+use Rattle.oftp_store.proofs.NumberLemmas.{entry_unknown}
+
+pub not_some : {A : Type 0} (o : Option A) → false ≡ is_some o → IsSome o → ⊥
+not_some None none is = let no_such = is in cc
+not_some (Some x) none is = let no_such = none in cc
+
+pub err_weaker : {T : Type 0} {P Q : OfficeFault → Type 0} (result : Result T OfficeFault) → ((fault : OfficeFault) → P fault → Q fault) → IfErr result P → IfErr result Q
+err_weaker (Ok x) more told = tt
+err_weaker (Err fault) more told = more fault told
+
+-- ---- one query
+
+-- its error
+pub query_failed : {S : Type 0} (g : Ghosts S) (text : List ℕ) (params : Row) (Fit : Row → Type 0) (old new : Held S) (fault : OfficeFault)
+    → (HasCleanDisk (state g new) → IsFaultOf (FailsToQuery text params (state g old) (state g new)) fault) → HasQueryCause g text params Fit old new fault
+query_failed g text params Fit old new fault told = record {
+  cause = λ is clean. let f = told clean in error f.0 f.1 (λ memory. let no_such : Store ≡ Memory = sym is ∙ f.3.1 memory in cc);
+}
+
+-- which no row can alter
+pub query_weaker : {S : Type 0} (g : Ghosts S) (text : List ℕ) (params : Row) (Fit : Row → Type 0) (old new : Held S) (fault : OfficeFault)
+    → HasQueryCause g text params (λ _. ⊤) old new fault → HasQueryCause g text params Fit old new fault
+query_weaker {S = S} g text params Fit old new fault told = record { cause = λ is clean. go (told.cause is clean) }
+  where
+    go : IsQueryCause g text params (λ _. ⊤) old new → IsQueryCause g text params Fit old new
+    go (error e fails other) = error e fails other
+    go (row rows at here shown there unfit) = absurd (unfit tt)
+
+-- its first row
+pub query_misread : {S : Type 0} (g : Ghosts S) (text : List ℕ) (params : Row) (Fit : Row → Type 0) (old new : Held S) (first : Option Row) (here : Row) (fault : OfficeFault)
+    → first ≡ Some here → (HasCleanDisk (state g new) → (rows : List Row) × Shown text params (state g old) (state g new) rows × (first ≡ slice_get rows 0))
+    → (fault ≡ Store → ¬ Fit here) → HasQueryCause g text params Fit old new fault
+query_misread g text params Fit old new first here fault same shown unfit = record { cause = λ is clean. let s = shown clean in row s.0 0 here s.1 (sym s.2 ∙ same) (unfit is) }
+
+pub query_misread_by : {S T : Type 0} (g : Ghosts S) (text : List ℕ) (params : Row) (Fit : Row → Type 0) (old new : Held S) (first : Option Row) (result : Result T OfficeFault)
+    → (HasCleanDisk (state g new) → (rows : List Row) × Shown text params (state g old) (state g new) rows × (first ≡ slice_get rows 0))
+    → IfErr result (λ _. IsSomeAnd first (λ row. ¬ Fit row)) → IfErr result (HasQueryCause g text params Fit old new)
+query_misread_by g text params Fit old new first (Ok x) shown unfit = tt
+query_misread_by g text params Fit old new None (Err fault) shown unfit = absurd unfit
+query_misread_by g text params Fit old new (Some here) (Err fault) shown unfit = query_misread g text params Fit old new (Some here) here fault refl shown (λ is. unfit)
+
+-- it is a query of the office
+
+pub asked : {S : Type 0} (g : Ghosts S) (q : Query) (params : Row) (old new : Held S) (fault : OfficeFault) → length params ≡ values_of q
+    → HasQueryCause g (sql_of q) params (Fits q) old new fault → HasCause g old new fault
+asked g q params old new fault given told = record { cause = λ is clean limits stands. query q old params given (told.cause is clean) }
+
+pub asked_by : {S T : Type 0} (g : Ghosts S) (q : Query) (params : Row) (old new : Held S) (result : Result T OfficeFault) → length params ≡ values_of q
+    → IfErr result (HasQueryCause g (sql_of q) params (Fits q) old new) → IfErr result (HasCause g old new)
+asked_by g q params old new (Ok x) given told = tt
+asked_by g q params old new (Err fault) given told = asked g q params old new fault given told
+
+-- ---- several look-ups
+
+-- the last of them failed
+
+pub told_since : {S A B : Type 0} (g : Ghosts S) (old mid new : Held S) (x : A) (result : Result B OfficeFault) → Looks (state g old) (state g mid) (Ok x)
+    → doubt (state g mid).is_clean ≤ doubt (state g new).is_clean → IfErr result (HasCause g mid new) → IfErr result (HasCause g old new)
+told_since g old mid new x (Ok y) one two told = tt
+told_since g old mid new x (Err fault) one two told = record {
+  cause = λ is clean limits stands.
+      let early : HasCleanDisk (state g mid) = omega (arith, two, clean) in
+      let same : IsUnchanged (state g old) (state g mid) = one.same early stands.holds.schema in
+      subst (λ (d : Database). IsCause g (register_in limits d.trees) new) same.0.now_is (told.cause is clean limits (stands_same limits _ _ stands same));
+}
+
+pub told_after : {S A B : Type 0} (g : Ghosts S) (old mid new : Held S) (x : A) (result : Result B OfficeFault) → Looks (state g old) (state g mid) (Ok x)
+    → Looks (state g mid) (state g new) result → IfErr result (HasCause g mid new) → IfErr result (HasCause g old new)
+told_after g old mid new x result one two told = told_since g old mid new x result one two.clean told
+
+-- and `?` passes its error on
+pub passed_after : {S A B C : Type 0} (g : Ghosts S) (old mid new : Held S) (x : A) (fault : OfficeFault) (result : Result C OfficeFault) → Looks (state g old) (state g mid) (Ok x)
+    → Looks {T = B} (state g mid) (state g new) (Err fault) → HasCause g mid new fault → IsErrAnd result (λ (passed : OfficeFault). passed ≡ fault) → IfErr result (HasCause g old new)
+passed_after {B = B} g old mid new x fault result one two told passed =
+    err_passed (HasCause g old new) fault result passed (told_after {B = B} g old mid new x (Err fault) one two told)
+
+-- the file of a number that was read is there
+
+pub lost_told : {S T : Type 0} (g : Ghosts S) (old new : Held S) (fault : OfficeFault) (result : Result T OfficeFault)
+    → (HasCleanDisk (state g new) → (limits : Limits) → Stands limits (state g old) → ⊥) → IsErrAnd result (λ (passed : OfficeFault). passed ≡ fault) → IfErr result (HasCause g old new)
+lost_told g old new fault result never passed =
+    err_passed (HasCause g old new) fault result passed (record { cause = λ is clean limits stands. absurd (never clean limits stands) })
+
+none_is : {A : Type 0} (o : Option A) → false ≡ is_some o → o ≡ None
+none_is None none = refl
+none_is (Some x) none = absurd (let no_such = none in cc)
+
+known_there : {X E : Type 0} (entry : ℕ → X → E) (number_of : E → ℕ) → ((n : ℕ) (x : X) → number_of (entry n x) ≡ n) → (wanted : E → Bool) (k : ℕ) (xs : List X)
+    → option_map number_of (find wanted (numbered entry 1 xs)) ≡ Some k → entry_at k xs ≡ None → ⊥
+known_there entry number_of same wanted k xs is unknown =
+    let none : find wanted (numbered entry 1 xs) ≡ None = sym (same_by_number entry number_of same wanted k 1 xs is) ∙ entry_unknown entry number_of same k xs unknown in
+    let no_such = sym (ap (option_map number_of) none) ∙ is in
+    cc
+
+pub incoming_there : (r : Register) (it : Identity) (n : ℕ) (found : Option IncomingProgress) → file_number r side.Incoming it ≡ Some n → false ≡ is_some found
+    → incoming_told r n found → ⊥
+incoming_there r it n found is none told =
+    known_there incoming_entry (λ (e : IncomingEntry). e.no) (λ n x. refl) (λ (e : IncomingEntry). same_identity e.identity it) n r.incoming is (subst (incoming_told r n) (none_is found none) told)
+
+pub outgoing_there : (r : Register) (it : Identity) (n : ℕ) (found : Option OutgoingProgress) → file_number r side.Outgoing it ≡ Some n → false ≡ is_some found
+    → outgoing_told r n found → ⊥
+outgoing_there r it n found is none told =
+    known_there outgoing_entry (λ (e : OutgoingEntry). e.no) (λ n x. refl) (λ (e : OutgoingEntry). same_identity e.identity it) n r.outgoing is (subst (outgoing_told r n) (none_is found none) told)
+
+-- the tables don't depend on the limits
+pub tables_limited : (limits other : Limits) (db : Trees) → Tables (register_in other db) db → Tables (register_in limits db) db
+tables_limited limits other db kept = record { about = kept.about; incoming = kept.incoming; outgoing = kept.outgoing; received = kept.received }
+
+-- no number is left
+
+far_by : (last : ℕ) (fault : OfficeFault) → (last + 1 < 2 ^ 63 → (let failed : Result ℕ OfficeFault = Err fault in failed ≡ Ok (last + 1))) → 2 ^ 63 ≤ last + 1
+far_by last fault made = elim (cases_Bool (nat_lt (last + 1) (2 ^ 63))) [
+  | inl near ↦ absurd (let no_such = made (grind (arith, nat_tests, near)) in cc)
+  | inr far ↦ grind (arith, nat_tests, far)
+]
+
+pub far_told : {S A : Type 0} (g : Ghosts S) (table : Table) (old new : Held S) (last : ℕ) (result : Result A OfficeFault)
+    → (HasCleanDisk (state g new) → (state g old).now.schema ≡ office_schema → (r : Register) → Tables r (state g old).now.trees → last ≡ entries_in r table)
+    → IfErr result (λ _. 2 ^ 63 ≤ last + 1) → IfErr result (HasCause g old new)
+far_told g table old new last (Ok x) answer far = tt
+far_told g table old new last (Err fault) answer far = record {
+  cause = λ is clean limits stands. let counted = answer clean stands.holds.schema _ stands.holds.tables in number table (omega (arith, counted, far));
+}
+
+pub number_told : {S : Type 0} (g : Ghosts S) (table : Table) (old new : Held S) (last : ℕ) (result : Result ℕ OfficeFault)
+    → (HasCleanDisk (state g new) → (state g old).now.schema ≡ office_schema → (r : Register) → Tables r (state g old).now.trees → last ≡ entries_in r table)
+    → (last + 1 < 2 ^ 63 → result ≡ Ok (last + 1)) → IfErr result (HasCause g old new)
+number_told g table old new last (Ok x) answer made = tt
+number_told g table old new last (Err fault) answer made = far_told {A = ℕ} g table old new last (Err fault) answer (far_by last fault made)
+
+-- ---- a commit
+
+-- a look-up of it failed
+pub passed_told : {S T : Type 0} (g : Ghosts S) (limits : Limits) (change : Change) (old new : Held S) (fault : OfficeFault) (result : Result T OfficeFault) → HasCause g old new fault
+    → IsErrAnd result (λ (passed : OfficeFault). passed ≡ fault) → IfErr result (HasCommitCause g limits change old new)
+passed_told g limits change old new fault result told passed =
+    err_passed (HasCommitCause g limits change old new) fault result passed (record { cause = λ is clean stands. reading (told.cause is clean limits stands) })
+
+-- a refusal needs no cause
+
+pub refused : {S : Type 0} (g : Ghosts S) (old new : Held S) (cause : Cause) → HasCause g old new (Refused cause)
+refused g old new cause = record { cause = λ is. absurd (let no_such = is in cc) }
+
+pub refused_told : {S : Type 0} (g : Ghosts S) (limits : Limits) (change : Change) (old new : Held S) (cause : Cause) → HasCommitCause g limits change old new (Refused cause)
+refused_told g limits change old new cause = record { cause = λ is. absurd (let no_such = is in cc) }
+
+pub refusal_passed : {S T : Type 0} {allowed : Bool} (g : Ghosts S) (old new : Held S) (fault : OfficeFault) (result : Result T OfficeFault) → (allowed ≡ false) × (fault ≡ Refused Unfit)
+    → IsErrAnd result (λ (passed : OfficeFault). passed ≡ fault) → IfErr result (HasCause g old new)
+refusal_passed g old new fault result unfit passed = err_passed (HasCause g old new) fault result passed (subst (HasCause g old new) (sym unfit.1) (refused g old new Unfit))
+
+pub refusal_told : {S T : Type 0} {allowed : Bool} (g : Ghosts S) (limits : Limits) (change : Change) (old new : Held S) (fault : OfficeFault) (result : Result T OfficeFault)
+    → (allowed ≡ false) × (fault ≡ Refused Unfit) → IsErrAnd result (λ (passed : OfficeFault). passed ≡ fault) → IfErr result (HasCommitCause g limits change old new)
+refusal_told g limits change old new fault result unfit passed =
+    err_passed (HasCommitCause g limits change old new) fault result passed (subst (HasCommitCause g limits change old new) (sym unfit.1) (refused_told g limits change old new Unfit))
+
+-- its edits failed
+pub edits_told : {S A : Type 0} (g : Ghosts S) (edits : List Edit) (limits : Limits) (change : Change) (old mid new : Held S) (x : A) (result : Result (Unit {0}) OfficeFault)
+    → Looks (state g old) (state g mid) (Ok x) → (HasCleanDisk (state g mid) → Stands limits (state g old) → IsMadeBy edits (register_in limits (state g old).now.trees) change)
+    → MakesEdits edits g mid new result → IfErr result (HasCommitCause g limits change old new)
+edits_told {S = S} g edits limits change old mid new x result looks by makes = go result makes.made
+  where
+    go : (r : Result (Unit {0}) OfficeFault) → AreCarriedOut edits g mid new r ⊎ ((¬ All IsStorable edits) × (r ≡ Err Store) × (new ≡ mid)) → IfErr r (HasCommitCause g limits change old new)
+    go (Ok y) did = tt
+    go (Err fault) (inl carried) = record {
+      cause = λ is clean stands.
+          let f = carried.told clean in
+          let m = by (omega (arith, carried.transacts.clean, clean)) stands in
+          writing m.now f.0 m.is f.1 (λ memory. let no_such : Store ≡ Memory = sym is ∙ f.3.1 memory in cc);
+    }
+    go (Err fault) (inr unstored) = record {
+      cause = λ is clean stands. let m = by (subst (λ (h : Held S). HasCleanDisk (state g h)) unstored.2 clean) stands in size edits m.now m.is m.edited unstored.0;
+    }
+
+-- its edits failed, after the look-ups of its file
+
+pub fit_told : {S A : Type 0} (g : Ghosts S) (told : Register → ℕ → Option A → Type 0) (fits : A → Bool) (edits : A → List Edit) (n : ℕ) (limits : Limits) (change : Change)
+    (old mid new : Held S) (file : A) (result : Result (Unit {0}) OfficeFault) → IsOfFile told fits edits n change → Finds told n (state g old) (state g mid) file → fits file ≡ true
+    → MakesEdits (edits file) g mid new result → IfErr result (HasCommitCause g limits change old new)
+fit_told g told fits edits n limits change old mid new file result is finds fit makes =
+    edits_told g (edits file) limits change old mid new (Some file) result finds.looks (λ k stands. made_fit is (finds.answer k limits stands) fit stands.holds.sound) makes
+
+pub allowed_told : {S A : Type 0} {g : Ghosts S} {told : Register → ℕ → Option A → Type 0} {fits : A → Bool} {edits : A → List Edit} {n : ℕ} {change : Change} {mid new : Held S} {file : A}
+    {allowed : Bool} {result : Result (Unit {0}) OfficeFault} (limits : Limits) (old : Held S) → IsOfFile told fits edits n change → Finds told n (state g old) (state g mid) file
+    → allowed ≡ fits file → allowed ≡ true → MakesEdits (edits file) g mid new result → IfErr result (HasCommitCause g limits change old new)
+allowed_told {g = g} {mid = mid} {new = new} limits old is finds tested fit makes = fit_told g _ _ _ _ limits _ old mid new _ _ is finds (sym tested ∙ fit) makes
