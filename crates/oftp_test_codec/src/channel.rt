@@ -176,10 +176,12 @@ fn print_written(rt: &HostRuntime, ending: Ending) -> io::Result<()> {
 
 /// Prints the end of an answer at the front of the octets, and the octets that are written for it.
 fn ended(rt: &HostRuntime, octets: &[u8]) -> io::Result<()> {
-    match read_part(rt.alloc(), &mut port_of(octets)) {
+    let mut port = port_of(octets);
+    let part = read_part(rt.alloc(), &mut port);
+    match &part {
         Ok(AnswerPart::End(ending)) => {
-            print_ending(rt, ending)?;
-            print_written(rt, ending)
+            print_ending(rt, *ending)?;
+            print_written(rt, *ending)
         }
         Ok(AnswerPart::Piece(outlet, _)) => println!(rt; "  {outlet:?}"),
         Err(fault) => println!(rt; "  {fault:?}"),
