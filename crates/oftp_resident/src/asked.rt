@@ -88,13 +88,15 @@ impl Asked {
     /// [`Fault::Book`]; [`Fault::Socket`] if it asks for none, or its book has no such partner; [`Fault::MEMORY`].
     pub(crate) fn wanted(&self, alloc: Global) -> Result<Wanted, Fault> {
         match self.request() {
-            Some(Request::Call {
-                book,
-                partner,
-                patience,
-                longest,
-                tracing,
-            }) => {
+            Some(
+                Request::Call {
+                    book,
+                    partner,
+                    patience,
+                    longest,
+                    tracing,
+                },
+            ) => {
                 let book = book_of(alloc, book)?;
                 let wanted = partner_of(&book, partner, patience, longest)?;
                 call_of(alloc, &book, partner, wanted, tracing)
