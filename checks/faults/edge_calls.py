@@ -235,6 +235,8 @@ REFUSED = f"INV.1_20240201_0700001234_{CARMAKER}"
 IN_THREES = ("--format", "F", "--longest", "3")
 IN_NONE = "refused: 5 field\n"
 LOCK = ".oftp_station_lock"
+# So many files, and how many calls of a collect open or remove its lock and the file by which it asks for the mode.
+FILES, OF_ALL = 8, 4
 INCOMING = f"0000001_ASN.0001_20240131_1015300001_{CARMAKER}"
 
 
@@ -414,6 +416,18 @@ def name_that_is_taken_before_it_is_collected(room, library):
         expect((told, issued), wanted, f"{what}: what is told, and what is released")
 
 
+def mode_that_is_asked_once(room, library):
+    """Each further file of a collect takes four calls at its draft: it is opened, written, synced and named."""
+    for number in range(FILES):
+        octets = Row(ROWS / "receiving/one_octet.row").sessions()[0].joined("in")
+        (room / "given").write_bytes(octets.replace(b"ASN.0001", b"ASN.%04d" % number))
+        expect(run(room, {}, "feed", "--db", "database", "--book", BOOK, "given", "/dev/null")[0], 0, "the session")
+    (room / "in").mkdir()
+    stop = {"LD_PRELOAD": str(library), "STOP_PATH": "/.oftp_station_", "STOP_AT": str(OF_ALL + 4 * FILES + 1)}
+    status, out, _ = run(room, stop, "collect", "--db", "database", "--book", BOOK, "--to", "in", "--release")
+    expect((status, out.count("done: collect")), (0, FILES), "what so few calls collect")
+
+
 def offer_that_is_killed_before_it_hands_in(room, library):
     """Another folder's file of the same name and time is handed in meanwhile, and isn't taken for its own; nor is a file of the same content
     lost, which the register has then under that name and time."""
@@ -442,6 +456,7 @@ CASES = [
     lock_that_goes_away,
     taken_file_that_is_exchanged,
     name_that_is_taken_before_it_is_collected,
+    mode_that_is_asked_once,
     offer_that_is_killed_before_it_hands_in,
     sockets_without_memory,
     trace_without_memory,

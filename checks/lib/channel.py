@@ -52,6 +52,9 @@ def fields_of(command, book, content, words):
         return [book, number(int(words[0]))]
     if command == "refuse":
         return [book, number(int(words[0])), number(int(words[1])), words[2].encode()]
+    if command == "call":
+        # Five minutes of patience, a day, and no trace.
+        return [book, words[0].encode(), number(300), number(86_400), b"\0"]
     if command == "report":
         return [bytes([REPORTS[words[0]]])]
     if command == "fetch":

@@ -83,6 +83,14 @@ def body_in(lists, target):
     return json.dumps(value, ensure_ascii=False, separators=(",", ":"), sort_keys=True).encode()
 
 
+def reply_for(lists, target):
+    """The whole reply for a target, by these lists."""
+    try:
+        return reply_of("200", body_in(lists, target).decode())
+    except IndexError:
+        return reply_of("404", "")
+
+
 def check_report(database, kind, text):
     """The report, read by another CSV reader, has the content of the database."""
     compare_report(shown(tables.read(database)), kind, text)

@@ -96,3 +96,30 @@ class Talk(model.Hearing):
         later one."""
         first = max(number for number, (before, _) in enumerate(self.registers) if before < len(self.got))
         return [register for _, register in self.registers[first:]]
+
+
+def line_of(talk):
+    """The line of a session that has heard all."""
+    return f"{whose(talk)}: {talk.ends()}"
+
+
+def whose(talk):
+    session = talk.session
+    return f"session {session.called} out" if session.called else f"session {getattr(session, 'partner', '-')} in"
+
+
+def lines_of_a_cut(talk):
+    """The lines of a session whose connection broke. A caller who has read no more than the greeting may not have been let in, and a call of
+    which nothing was read may not have been seen as made."""
+    names, ends = [whose(talk)], CUT_ENDS
+    if talk.session.called and not talk.got:
+        ends = [*CUT_ENDS, UNMADE]
+    elif not talk.session.called and len(talk.got) <= len(talk.session.out[0]):
+        names.append("session - in")
+    return [f"{name}: {end}" for name in names for end in ends]
+
+
+def told_by_call(line):
+    """The status and the output of the command that had the station call, by the station's line of that session."""
+    told = f"{line.partition(': ')[2]}\n".encode()
+    return (1, b"", told) if told.startswith(b"fault:") else (0, told, b"")

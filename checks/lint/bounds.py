@@ -63,10 +63,12 @@ LINE = "oftp_command_line/src/line/arguments.rt"
 LOCKED = constant("oftp_database/src/opening.rt", "PATIENCE") * constant("oftp_database/src/opening.rt", "PAUSE") // 1000
 LIMITS = {
     name: constant("oftp_resident/src/limits.rt", name)
-    for name in "PARTNERS COMMANDS REQUESTS SHELTER ASKING REQUESTING FAREWELL COPYING STANDING LESSER GREATER TIMES SHARE BACKLOG HELD".split()
+    for name in "PARTNERS COMMANDS REQUESTS SHELTER ASKING REQUESTING FAREWELL COPYING STANDING TIMES SHARE BACKLOG HELD".split()
 }
+PAUSES = tuple(constant("oftp_schedule/src/durations.rt", name) // 1000 for name in ("LESSER", "GREATER"))
 DIALING = constant("oftp_station/src/perform/residence.rt", "DIALING")
 PIECE = constant("oftp_engine/src/serving.rt", "PIECE")
+TURNS = constant("oftp_engine/src/serving.rt", "MOST_TURNS")
 FIRST_ROWS = constant("oftp_session/src/sending.rt", "FIRST_ROWS")
 ADMISSION = constant(LINE, "MOST_ADMISSION")
 DURATION = constant(LINE, "MOST_DURATION")
@@ -108,7 +110,7 @@ BOUNDS = [
     ("docs/COMMANDS.md", rf"A second program waits for {N} seconds at most", (LOCKED,)),
     ("docs/COMMANDS.md", rf"After {N} seconds the session ends with\s+`fault: 6 store 1`", (LOCKED,)),
     ("docs/COMMANDS.md", rf"every SECONDS seconds \(1 to {N}; 0 is never\)", (INTERVAL,)),
-    ("docs/COMMANDS.md", rf"Such a caller waits for\s+{N} second, or for {N} if", (LIMITS["LESSER"], LIMITS["GREATER"])),
+    ("docs/COMMANDS.md", rf"Such a caller waits for\s+{N} second, or for {N} if", PAUSES),
     ("docs/COMMANDS.md", rf"A call gives way {N} times at most", (LIMITS["TIMES"],)),
     ("docs/COMMANDS.md", rf"waits until it is ready, {N} seconds at most", (LOCKED,)),
     ("docs/COMMANDS.md", rf"{N} partners, {N} commands and {N} clients over HTTP", (LIMITS["PARTNERS"], LIMITS["COMMANDS"], LIMITS["REQUESTS"])),
@@ -147,6 +149,9 @@ BOUNDS = [
     ("docs/PROMISES.md", rf"the contracts of {N} calls of crates/oftp_durable", (DURABLE,)),
     ("docs/CONTRIBUTING.md", rf"three of its {N} clauses", (TAKE,)),
     ("docs/PROMISES.md", rf"a frame of more than {N} octets is refused", (LONGEST_FRAME,)),
+    ("docs/COMMANDS.md", rf"about {N} buffers are made at once", (TURNS,)),
+    ("docs/ARCHITECTURE.md", rf"until {N} exchange buffers of a file", (TURNS,)),
+    ("docs/DECISIONS.md", rf"pauses after {N} turns", (TURNS,)),
     ("docs/PROMISES.md", rf"named here {N} to {N} minutes of a processor", (min(MEASURED.values()), max(MEASURED.values()))),
     *(("docs/PERFORMANCE.md", rf"\b{N}\s+for {crate}\b", (minutes,)) for crate, minutes in MEASURED.items()),
 ]

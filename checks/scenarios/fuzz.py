@@ -51,13 +51,13 @@ import acts
 import model
 import oftp
 import tables
-from listing_files import END, ask, body_in, compare_report, reply_of, shown
+from listing_files import END, ask, compare_report, reply_for, shown
 from partner import RECORDS, STATION, TEXTS, Partner, change
 from program import PROGRAM
 from ready import ready_to_read
 from services import LONG, Wrong, answer_to, expect
 from staying import OPENS, Services, StayingStation, converse, frame, held_port
-from talk import CUT_ENDS, UNMADE, Talk
+from talk import Talk, line_of, lines_of_a_cut, told_by_call
 
 STATIONS = [STATION] * 30 + ["O0013"]
 PARTNERS = {"O0177CARMAKER": "CARPW", "O0099OTHER": "", "A-(B&C)/D.9": "12345678"}
@@ -617,8 +617,7 @@ class ResidentLife(Life):
         """The command that had the station call tells how the session ended."""
         if talk.session.called:
             out, err = self.calling.communicate(timeout=LONG)
-            line = f"{told.partition(': ')[2]}\n".encode()
-            expect((self.calling.returncode, out, err), (1, b"", line) if line.startswith(b"fault:") else (0, line, b""), "the command `call`")
+            expect((self.calling.returncode, out, err), told_by_call(told), "the command `call`")
 
     def settle(self, registers):
         """The orders that waited were done to one of these registers, which is then that of the model."""
@@ -695,7 +694,7 @@ class ResidentLife(Life):
         target = chance.choice(["/in", "/out", "/responses", *numbers])
         self.told.append(f"GET {target}")
         reply = ask(self.station, [f"GET {target} HTTP/1.1".encode() + END + END], port=self.requests)
-        return lambda register: why_not(expect, reply, reply_for(register, target), f"the reply for {target}")
+        return lambda register: why_not(expect, reply, reply_for(shown(register.tables()), target), f"the reply for {target}")
 
 
 def why_not(test, *given):
@@ -705,35 +704,6 @@ def why_not(test, *given):
     except Wrong as why:
         return str(why)
     return None
-
-
-def reply_for(register, target):
-    """The reply for a target, by a register of the model."""
-    try:
-        return reply_of("200", body_in(shown(register.tables()), target).decode())
-    except IndexError:
-        return reply_of("404", "")
-
-
-def line_of(talk):
-    """The line of a session that has heard all."""
-    return f"{whose(talk)}: {talk.ends()}"
-
-
-def whose(talk):
-    session = talk.session
-    return f"session {session.called} out" if session.called else f"session {getattr(session, 'partner', '-')} in"
-
-
-def lines_of_a_cut(talk):
-    """The lines of a session whose connection broke. A caller who has read no more than the greeting may not have been let in, and a call of
-    which nothing was read may not have been seen as made."""
-    names, ends = [whose(talk)], CUT_ENDS
-    if talk.session.called and not talk.got:
-        ends = [*CUT_ENDS, UNMADE]
-    elif not talk.session.called and len(talk.got) <= len(talk.session.out[0]):
-        names.append("session - in")
-    return [f"{name}: {end}" for name in names for end in ends]
 
 
 def write_pieces(sink, octets, sizes, most):

@@ -7,22 +7,33 @@ A row is a text file: sessions, as the frames of both sides in the order in whic
 in the database (rows/README.md). Each row is played over a database in three ways: each session's octets come from a file in one piece;
 from a pipe that gives one octet at each read; and as a conversation, in which the partner waits for each answer before it goes on. What is
 left has to be a register, the same in each way, and the one in the row. A row of only one session is played in each way over a register in
-memory too. The last line is `N passed, M failed`.
+memory too.
+
+Each row that has no error of the book or the database is also lived by one `run`, which the operator's commands ask between the sessions,
+three times: the octets come in pieces of one octet, of 7 and of 100. Behind each piece, once its answers are there, something is looked up
+over HTTP or through the socket for commands, and shows what the model of a station has at that moment (checks/lib/model.py). The last line
+is `N passed, M failed`.
 """
 
 import os
+import subprocess
 import sys
 import tempfile
-from concurrent.futures import ThreadPoolExecutor
+from concurrent.futures import ProcessPoolExecutor
+from functools import partial
 from pathlib import Path
 
 sys.path.insert(0, str(Path(__file__).resolve().parents[1] / "lib"))
 
 import tables
 from acts import as_conversation, check_left, in_one_piece, octet_by_octet, play_act
-from row_files import ROWS, Bad, Row
+from lives import Life, is_lived
+from row_files import ROWS, Bad, Row, Statement
+from services import Wrong
 
 WAYS = [in_one_piece, octet_by_octet, as_conversation]
+# The lengths of pieces in a life.
+LENGTHS = [1, 7, 100]
 
 
 def play_over_database(row, way):
@@ -47,6 +58,31 @@ def play_over_memory(row, way):
         return play_act(way, row.acts[0], Path(room), None)
 
 
+def live(row, size):
+    """Plays a row over a life of `run`, its octets in pieces of this size. It returns why it differs, or None, and the tables that are left."""
+    # Where another program changes the tables, they may be none that the model has.
+    looks = not any(isinstance(act, Statement) for act in row.acts)
+    with tempfile.TemporaryDirectory() as room, Life(Path(room)) as life:
+        try:
+            for number, act in enumerate(row.acts, 1):
+                fault = life.play(act, lambda session: life.hold(session, size, looks))
+                if fault:
+                    return f"act {number}, {type(act).__name__.lower()}: {fault}", None
+            life.end()
+            left = tables.read(life.database)
+        except (Wrong, tables.Damaged, OSError, subprocess.SubprocessError) as why:
+            return str(why), None
+        return tables.unfit(left) or check_left(row, left), left
+
+
+def ways_of(row):
+    """The ways in which a row is played over a database, by their names: each returns why it differs, or None, and the tables."""
+    for way in WAYS:
+        yield way.__name__.replace("_", " "), partial(play_over_database, row, way)
+    for size in LENGTHS[: None if row.sessions() else 1] if is_lived(row) else []:
+        yield f"in a life, in pieces of {size}", partial(live, row, size)
+
+
 def play(path):
     """Plays a row in each way. It returns what differs, one text for each."""
     try:
@@ -55,17 +91,17 @@ def play(path):
         return [str(why)]
     faults = []
     first = None
-    for way in WAYS:
-        name = way.__name__.replace("_", " ")
-        fault, left = play_over_database(row, way)
+    for name, way in ways_of(row):
+        fault, left = way()
         first = first or left
-        if not fault and left != first:
+        if not fault and left and any(left[table] != first[table] for table in tables.TABLES):
             fault = "what is left isn't the same as in one piece"
         if fault:
             faults.append(f"{name}, over a database: {fault}")
-        fault = play_over_memory(row, way) if row.is_one_session() else None
+    for way in WAYS if row.is_one_session() else []:
+        fault = play_over_memory(row, way)
         if fault:
-            faults.append(f"{name}, in memory: {fault}")
+            faults.append(f"{way.__name__.replace('_', ' ')}, in memory: {fault}")
     return faults
 
 
@@ -74,7 +110,7 @@ def main():
     if len(sys.argv) > 1:
         paths = [path for path in paths if path.stem in sys.argv[1:]]
     failed = 0
-    with ThreadPoolExecutor(max_workers=os.cpu_count()) as players:
+    with ProcessPoolExecutor(max_workers=os.cpu_count()) as players:
         for path, faults in zip(paths, players.map(play, paths)):
             failed += bool(faults)
             for fault in faults:

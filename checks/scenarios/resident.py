@@ -8,6 +8,7 @@ Each case has a port and a database of its own, and all run at once, so it takes
 
 import contextlib
 import os
+import re
 import resource
 import signal
 import socket
@@ -24,6 +25,7 @@ from pathlib import Path
 sys.path.insert(0, str(Path(__file__).resolve().parents[1] / "lib"))
 
 import filled
+import holding
 import one_file
 import row_files
 import staying
@@ -40,6 +42,8 @@ SOON = 25
 # for nine seconds.
 PATIENT = 12
 READY = b"1"
+# The KiB that may be made before a partner reads: 2 MiB, 32 DATA of 16,384 octets, and room to copy both.
+MOST_AHEAD = 12 * 1024
 IDENTITY = ["--dataset", "INV.1", "--date", "20240201", "--time", "0800000001", "--to", CARMAKER, "--format", "U"]
 
 
@@ -196,17 +200,23 @@ def long_path(room):
 
 
 def long_name(room):
-    """The longest name of a database that the documents allow, and one to which a socket's address has no room for the station's."""
-    for length in (80, 84):
-        named, folder = room / ("n" * length), room / str(length)
+    """The longest name of a database behind which the socket's has room in an address, the next longer one, and one of 200 octets."""
+    for length in (80, 81, 200):
+        named, folder, file = room / ("n" * length), room / str(length), room / "file"
         folder.mkdir()
+        file.write_bytes(b"A")
         subprocess.run([PROGRAM, "init", "--db", named], stdout=subprocess.DEVNULL, timeout=LONG, check=True)
         (folder / "database").symlink_to(named)
-        if length > 80:
-            Resident(folder).ends(1, b"fault: 8 socket\n")
-        else:
-            with Resident(folder) as service:
-                expect(given(service, "init"), (0, b"done: init\n", b""), "init")
+        socket_of = Path(f"{named}-station") if length <= 80 else room / f".oftp_station_of_{named.stat().st_ino}"
+        with Resident(folder) as service:
+            expect(stat.S_IMODE(socket_of.stat().st_mode), 0o600, f"the mode of the socket at {length}")
+            play(service, ONE_OCTET)
+            expect(given(service, "submit", *IDENTITY, file), (0, b"done: submit 1\n", b""), "submit")
+            expect(given(service, "fetch", "1", folder / "fetched"), (0, b"done: fetch 1\n", b""), "fetch")
+            expect(given(service, "backup", folder / "copy"), (0, b"done: backup\n", b""), "backup")
+        with Resident(folder) as service:
+            expect(given(service, "release", "1"), (0, b"done: release 1\n", b""), "release by a station that takes over the socket")
+        expect(given(service, "report", "in")[0], 0, "a report beside no station")
 
 
 def second_station_takes_over(room):
@@ -362,6 +372,30 @@ def clients_that_read_nothing(room):
         expect(given(service, "fetch", "1", room / "fetched"), (0, b"done: fetch 1\n", b""), "fetch")
         within(begin, 30, "a fetch")
         expect((room / "fetched").read_bytes(), b"A" * one_file.MEBI, "the file")
+
+
+def clients_that_leave_the_end(room):
+    """Commands that take all of an answer of eight mebibytes but its end cost the station what is left, and not the whole answer each."""
+    book, size = room / "book", 8 * one_file.MEBI
+    book.write_text(one_file.BOOK.format(buffer=16384, credit=99))
+    with Resident(room, book=book) as service, contextlib.ExitStack() as stack:
+        with service.caller() as caller:
+            caller.sendall(one_file.session(size, 16384, 99))
+            caller.shutdown(socket.SHUT_WR)
+            rest_of(caller)
+        expect(service.line(), f"session {CARMAKER} in: end: partner 00", "the line")
+        memory = [leave_the_end(service, stack, size) for _ in range(8)]
+        expect(memory[-1] - memory[0] < size, True, f"whether {memory[-1] - memory[0]} octets more are little for seven such answers")
+
+
+def leave_the_end(service, stack, size):
+    """A command fetches a file and takes nothing of its last octets, which a socket's buffer doesn't hold. Returns the station's memory."""
+    client = stack.enter_context(service.asked("fetch", "1"))
+    left = size - one_file.MEBI // 2
+    while left > 0:
+        left -= len(client.recv(left))
+    status = Path(f"/proc/{service.program.pid}/status").read_text()
+    return int(re.search(r"VmRSS:\s*(\d+)", status)[1]) * 1024
 
 
 def hold_answers(service, stack, count):
@@ -523,6 +557,27 @@ def look_ups_within_a_session(room):
         expect(service.line(), f"session {CARMAKER} in: end: input", "the line")
 
 
+def outgoing_files_within_a_session(room):
+    """So are those of an outgoing file: its entry by HTTP, and whether it has a content, as `offer` asks."""
+    port = free_port()
+    file = room / "file"
+    file.write_bytes(b"A")
+    session = session_of("receiving/file_in_one_session")
+    with Resident(room, "--http-port", str(port)) as service, service.caller() as caller:
+        expect(given(service, "submit", *IDENTITY, file), (0, b"done: submit 1\n", b""), "submit")
+        caller.sendall(session.steps[1][1])
+        heard(caller, GREETING + session.steps[2][1])
+        begin = time.monotonic()
+        status, body = get(port, "/out/1")
+        expect((status, b"INV.1" in body), (200, True), "the entry")
+        for content, end in ((b"A", "same"), (b"B", "other")):
+            with service.client() as client:
+                expect(client.recv(1), READY, "the first octet")
+                client.sendall(spelled(bytes([KINDS["holds"]]), struct.pack(">Q", 1), content))
+                expect(answer_to(client), (b"", end), f"whether the file has {content}")
+        within(begin, 2, "the look-ups")
+
+
 def what_waits_for_the_end(room):
     """What refuses a file, copies the database or calls waits for the end of a session too."""
     copy = room / "copy"
@@ -543,6 +598,54 @@ def what_waits_for_the_end(room):
             partner.accept()[0].close()
             expect(told(called), (0, b"end: input\n", b""), "the call")
             expect(service.line(), f"session {CARMAKER} out: end: input", "the line of the call")
+
+
+def many_changes_behind_a_session(room):
+    """150 changes that come within a session are all done after it, and a look-up comes before them."""
+    book = BOOK.read_bytes()
+    with Resident(room) as service, contextlib.ExitStack() as stack, service.caller() as caller:
+        caller.sendall(SSID)
+        heard(caller, OPENED)
+        words = [["submit", f"--dataset=INV.{number}", *IDENTITY[2:]] for number in range(150)]
+        asked = [stack.enter_context(service.asked(*it, book=book, content=b"A")) for it in words]
+        with service.asked("report", "in") as client:
+            expect(answer_to(client)[1], "listed", "a report beside them")
+        caller.close()
+        with ThreadPoolExecutor(max_workers=150) as readers:
+            ends = sorted(ending for _, ending in readers.map(answer_to, asked))
+        expect(ends, sorted(f"done: submit {number}" for number in range(1, 151)), "the ends")
+
+
+def called_one_after_another(room):
+    """A partner is connected only once the session of the call before is over, however many are to be called."""
+    with contextlib.ExitStack() as stack, Resident(room) as service:
+        partners = [stack.enter_context(socket.create_server(("127.0.0.1", 0))) for _ in range(3)]
+        asked = []
+        for partner in partners:
+            book = book_with(room, f"127.0.0.1:{partner.getsockname()[1]}")
+            asked.append(stack.enter_context(service.asked("call", CARMAKER, book=book.read_bytes())))
+        for number, partner in enumerate(partners):
+            partner.settimeout(LONG)
+            called = stack.enter_context(partner.accept()[0])
+            expect(ready_to_read(partners[number + 1 :], 1), [], f"who is connected beside call {number + 1}")
+            called.close()
+            expect(answer_to(asked[number])[1], "end: input", f"call {number + 1}")
+
+
+def who_waits_at_the_last_job(room):
+    """After the last job what waits is told that the station ends, and nothing of it is done."""
+    book = BOOK.read_bytes()
+    with Resident(room, "--jobs", "3") as service, contextlib.ExitStack() as stack, service.caller() as caller:
+        caller.sendall(SSID)
+        heard(caller, OPENED)
+        words = [["submit", f"--dataset=INV.{number}", *IDENTITY[2:]] for number in range(4)]
+        asked = [stack.enter_context(service.asked(*it, book=book, content=b"A")) for it in words]
+        with service.asked("report", "in") as client:
+            expect(answer_to(client)[1], "listed", "a report, behind which all have come")
+        caller.close()
+        expect(service.line(), f"session {CARMAKER} in: end: input", "the first job")
+        expect([answer_to(client)[1] for client in asked], ["done: submit 1", *["fault: 8 socket"] * 3], "the ends")
+        service.ends()
 
 
 def callers_in_their_order(room):
@@ -686,6 +789,41 @@ def partner_who_reads_nothing(room):
         expect(given(service, "report", "out")[0], 0, "a report")
 
 
+def what_is_asked_for_ahead(room):
+    """Of what a partner asks for before it reads, the station makes 2 MiB and about 32 buffers, and the rest as it is read."""
+    book, file, files = room / "book", room / "file", 4
+    book.write_text(one_file.BOOK.format(buffer=16384, credit=99))
+    file.write_bytes(bytes(one_file.MEBI * 8))
+    answers = holding.taken_answers(files, len(one_file.data_frames(one_file.MEBI * 8, 16384)))
+    with Resident(room, book=book) as service:
+        for number in range(files):
+            identity = ["--dataset", f"INV.{number}", *IDENTITY[2:]]
+            expect(given(service, "submit", *identity, file)[0], 0, "submit")
+        staying.forget_peak(service.program.pid)
+        before = staying.memory_of(service.program.pid, "VmHWM")
+        with service.caller(is_narrow=True) as partner:
+            partner.sendall(holding.spoken(*answers))
+            wait_for_quiet(service.program.pid)
+            grown = staying.memory_of(service.program.pid, "VmHWM") - before
+            if grown > MOST_AHEAD:
+                raise Wrong(f"{grown} KiB are made ahead, and {MOST_AHEAD} are allowed")
+            partner.setsockopt(socket.SOL_SOCKET, socket.SO_RCVBUF, one_file.MEBI)
+            size = sum(len(piece) for piece in iter(lambda: partner.recv(one_file.MEBI), b""))
+        if size < files * 8 * one_file.MEBI:
+            raise Wrong(f"only {size} octets came")
+        expect(service.line(), f"session {CARMAKER} in: end: partner 00", "the line")
+
+
+def wait_for_quiet(process):
+    """Waits until a process has taken no time for a second."""
+    last, since, begin = None, time.monotonic(), time.monotonic()
+    while time.monotonic() < min(since + 1, begin + LONG):
+        taken = Path(f"/proc/{process}/schedstat").read_text().split()[0]
+        if taken != last:
+            last, since = taken, time.monotonic()
+        time.sleep(0.02)
+
+
 # ---- backups
 
 
@@ -807,6 +945,18 @@ def calls(room):
         words = [PROGRAM, "call", "--db", service.database, "--book", BOOK, "--partner", "O0099OTHER"]
         done = subprocess.run(words, capture_output=True, timeout=LONG, check=False)
         expect((done.returncode, done.stdout, done.stderr), (1, b"refused: 2 unknown\n", b""), "the call of a stranger")
+
+
+def call_of_ipv6(room):
+    """A partner whose address is one of IPv6 is called there."""
+    port = port_of_ipv6("a call of a partner")
+    session = session_of("calling/initiator_alone")
+    with socket.create_server(("::1", port), family=socket.AF_INET6) as partner, Resident(room) as service:
+        partner.settimeout(LONG)
+        with call(service, book_with(room, f"[::1]:{port}")) as program:
+            converse(partner.accept()[0], session)
+            expect(told(program), (0, session.end[1].encode(), b""), "the call")
+        expect(service.line() + "\n", f"session {CARMAKER} out: {session.end[1]}", "the line")
 
 
 def book_of_a_call(room):
@@ -1718,6 +1868,9 @@ CASES = [
     operator_beside_it,
     largest_file,
     many_at_once,
+    many_changes_behind_a_session,
+    called_one_after_another,
+    who_waits_at_the_last_job,
     stale_socket,
     file_in_the_place_of_the_socket,
     two_stations,
@@ -1732,6 +1885,7 @@ CASES = [
     octets_of_a_fetch,
     silent_clients,
     clients_that_read_nothing,
+    clients_that_leave_the_end,
     strangers,
     silent_partner,
     patience_of_each_wait,
@@ -1739,6 +1893,7 @@ CASES = [
     longest_frame_of_a_stranger,
     more_callers_than_places,
     look_ups_within_a_session,
+    outgoing_files_within_a_session,
     what_waits_for_the_end,
     callers_in_their_order,
     partners_who_keep_open,
@@ -1748,6 +1903,7 @@ CASES = [
     backup_that_takes_too_long,
     calls,
     book_of_a_call,
+    call_of_ipv6,
     traced,
     call_that_is_a_job,
     partner_who_does_not_answer,
@@ -1772,6 +1928,7 @@ CASES = [
     slow_callers_at_each_socket,
     silent_callers_at_each_socket,
     partner_who_reads_nothing,
+    what_is_asked_for_ahead,
     session_without_memory,
     office_that_fails,
     request_for_an_office_that_fails,

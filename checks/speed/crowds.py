@@ -6,20 +6,24 @@ or take nothing.
 
 Each act is done over an idle station and beside each crowd, and its least time counts. Each line has both times and the bound, which is the
 milliseconds that are wanted or three times what the idle station takes, whichever is more. With `--assert` it fails if something takes longer.
+A crowd is also ten partners who are called at once, none of whom answers. Beside a session at full speed a report and `/in/NO` take at most 300
+ms. Answers of 128 MiB that nobody reads take less than that, since the next waits for room once 64 MiB are held, and all come whole in the end.
 Who comes to a door without a place is served once there is one: the 129th caller is greeted after five seconds and within six, since the oldest
 stranger leaves for him; a partner who has answered the greeting leaves for nobody. A session of 8 MiB beside six clients that ask without end, for
-an entry or for a list of 2 MB, takes at most four times as long as alone. The last line is `N passed, M failed`.
+an entry or for a list of 3 MB, takes at most four times as long as alone. The last line is `N passed, M failed`.
 """
 
 import argparse
 import contextlib
 import itertools
 import socket
+import statistics
 import subprocess
 import sys
 import tempfile
 import threading
 import time
+from concurrent.futures import ThreadPoolExecutor
 from pathlib import Path
 
 sys.path.insert(0, str(Path(__file__).resolve().parents[1] / "lib"))
@@ -43,8 +47,14 @@ LONGEST_FRAME = bytes([0x10, 0x01, 0x86, 0xA3]) + bytes(1000)
 MOST_MEMORY = 128 * 1024
 # How many times as long a session may take beside clients that ask without end.
 MOST_TIMES = 4
-# How many files a list of 2 MB has.
-FILES = 10000
+# The milliseconds of a look-up beside a session at full speed.
+FULL_SPEED = 300
+# How many files a list of 3 MB has.
+FILES = 15000
+# How many are called at once, and how many ask for a large file.
+CALLED, FETCHING = 10, 16
+# How many octets of answers are held before the next one waits for room.
+HELD = 64 << 20
 NOBODY = "nobody"
 
 
@@ -122,6 +132,21 @@ def readers(crowd):
         client.sendall(b"GET / HTTP/1.1\r\n\r\n")
 
 
+def calls(crowd):
+    """Ten partners at a machine that doesn't answer: with one who waits to be accepted its queue is full."""
+    machine, other = crowd.keep(socket.socket()), crowd.keep(socket.socket())
+    machine.bind(("127.0.0.1", 0))
+    machine.listen(0)
+    other.connect(machine.getsockname())
+    text = (row_files.ROWS / "books/usual.toml").read_text(encoding="utf-8")
+    own = text[: text.index("[[partner]]")]
+    address = f"127.0.0.1:{machine.getsockname()[1]}"
+    codes = [f"O0177CALLED{number}" for number in range(CALLED)]
+    partners = [f"[[partner]]\ncode = '{code}'\nexpects = 'CARPW'\nsends = 'SUPPW'\nmode = 'B'\naddress = '{address}'\n" for code in codes]
+    for code in codes:
+        crowd.keep(crowd.service.asked("call", code, book=(own + "\n".join(partners)).encode()))
+
+
 CROWDS = {
     NOBODY: lambda crowd: None,
     "126 silent strangers": silent,
@@ -129,6 +154,7 @@ CROWDS = {
     "126 strangers who begin the longest frame": frames,
     "255 commands that wait": commands,
     "63 clients over HTTP that read nothing": readers,
+    "ten partners who are called at once": calls,
 }
 
 
@@ -303,6 +329,51 @@ def time_of_session(service, octets):
     return time.monotonic() - begin
 
 
+def at_full_speed(room):
+    """What a report and `/in/NO` take beside sessions of 8 MiB at full speed, in milliseconds: the middle one of five, the least of some rounds."""
+    (room / "book").write_text(one_file.BOOK.format(buffer=16384, credit=99))
+    http = free_port()
+    with Resident(room, "--http-port", str(http), book=room / "book") as service:
+        crowd = Crowd(service, http)
+        is_over = threading.Event()
+
+        def send():
+            for number in itertools.count(1):
+                if is_over.is_set():
+                    return
+                time_of_session(service, session_of(number))
+
+        thread = threading.Thread(target=send)
+        thread.start()
+        time.sleep(0.2)
+        found = {}
+        for _ in range(ROUNDS):
+            for act, do in (("a report", reported), ("GET /in/NO", listed)):
+                found[act] = min(found.get(act, float("inf")), statistics.median(do(crowd) * 1000 for _ in range(TIMES)))
+        is_over.set()
+        thread.join()
+        return found
+
+
+def held_answers(room):
+    """Sixteen commands ask for a file of 8 MiB and don't read: what the station takes for that, in KiB. Then each reads, and has it whole."""
+    (room / "book").write_text(one_file.BOOK.format(buffer=16384, credit=99))
+    with Resident(room, book=room / "book") as service, contextlib.ExitStack() as stack:
+        time_of_session(service, session_of(1))
+        before = peak(service)
+        clients = [stack.enter_context(service.asked("fetch", "1")) for _ in range(FETCHING)]
+        until = time.monotonic() + 10
+        while peak(service) * 1024 < HELD and time.monotonic() < until:
+            time.sleep(0.1)
+        with service.caller() as caller:
+            exactly(caller, GREETING, "the greeting beside them")
+        expect(peak(service) * 1024 >= HELD, True, f"whether some 64 MiB are held, in {peak(service)} KiB")
+        with ThreadPoolExecutor(FETCHING) as readers:
+            for content, ending in readers.map(answer_to, clients):
+                expect((len(content), ending), (8 << 20, "done: fetch 1"), "an answer")
+        return peak(service) - before
+
+
 def beside_clients(room, target, most):
     """How many times as long a session of 8 MiB takes beside six clients that ask for this without end. It is tried again while it is more."""
     (room / "book").write_text(one_file.BOOK.format(buffer=16384, credit=99))
@@ -363,7 +434,12 @@ def results():
                 idle[act] = found
             yield bounded(f"{act}, beside {name}", found, bound)
     yield from map(try_door, DOORS)
-    for target, what in (("/in/1", "an entry"), ("/in", "a list of 2 MB")):
+    with tempfile.TemporaryDirectory() as room:
+        for act, found in at_full_speed(Path(room)).items():
+            yield bounded(f"{act}, beside a session at full speed", found, FULL_SPEED)
+    with tempfile.TemporaryDirectory() as room:
+        yield bounded("KiB of memory beside answers of 128 MiB that nobody reads", held_answers(Path(room)), MOST_MEMORY)
+    for target, what in (("/in/1", "an entry"), ("/in", "a list of 3 MB")):
         with tempfile.TemporaryDirectory() as room:
             yield bounded(f"times as long for 8 MiB, beside six clients that ask for {what} without end", beside_clients(Path(room), target, MOST_TIMES), MOST_TIMES)
 

@@ -1,5 +1,5 @@
 #!/bin/bash
-# Tries the edit of crates/oftp_wire/must-fail/frame_held_over_feed.md on a copy of the repository: the borrow checker must refuse
+# Tries the edit of checks/wrong_bodies/oftp_wire/frame_held_over_feed.md on a copy of the repository: the borrow checker must refuse
 # it. As a control, the same edit with the frame used before `feed` must pass the borrow checker.
 set -euo pipefail
 root=$(cd "$(dirname "$0")/../.." && pwd)
@@ -8,7 +8,7 @@ trap 'rm -rf "$room"' EXIT
 echo 'oftp_wire:' > "$room/crates.txt"
 (cd "$root" && find crates/oftp_wire -name out -prune -o -type f -print0 | xargs -0 cp --parents -t "$room")
 cd "$room/crates/oftp_wire"
-edit=must-fail/frame_held_over_feed.md
+edit=$root/checks/wrong_bodies/oftp_wire/frame_held_over_feed.md
 file=$(sed -n 's/^file: //p' "$edit")
 old=$(sed -n 's/^old: //p' "$edit")
 new=$(sed -n 's/^new: //p' "$edit")

@@ -1,6 +1,6 @@
 //! Who carries out the requests of a command: the database, which is opened for it, or the station that has it open.
 
-use crate::beside::{Beside, GONE};
+use crate::beside::Beside;
 use oftp_channel::{Ending, Request};
 use oftp_database::{self as database, DatabaseOffice};
 use oftp_engine::{Operator, Port, RunFault};
@@ -143,17 +143,5 @@ fn let_copy(out: &mut impl Write) -> Result<Ending, Fault> {
     match out.write_all(COPY) {
         Ok(()) => Ok(Ending::Outcome(Outcome::BackedUp)),
         Err(_) => Err(Fault::Run(RunFault::Write)),
-    }
-}
-
-/// The outcome with which a request ended.
-///
-/// # Errors
-/// Its error; that of a station that is gone for an end that it can't have.
-pub(crate) fn outcome_in(asked: Result<Ending, Fault>) -> Result<Outcome, Fault> {
-    match asked {
-        Ok(Ending::Outcome(outcome)) => Ok(outcome),
-        Ok(Ending::Failed(fault)) | Err(fault) => Err(fault),
-        Ok(Ending::Listed | Ending::Same | Ending::Other) => Err(GONE),
     }
 }

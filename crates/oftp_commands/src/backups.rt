@@ -1,7 +1,6 @@
 //! The command `backup`, which copies a database to one file.
 
 use crate::backing::Backing;
-use crate::beside::GONE;
 use oftp_channel::{Ending, Request};
 use oftp_command_line::Backup;
 use oftp_database as database;
@@ -10,7 +9,7 @@ use oftp_files::{
     remove_log, settle,
 };
 use oftp_outcomes::{Fault, Outcome};
-use oftp_requests::Backend;
+use oftp_requests::{Backend, GONE};
 use std::fs::{self, File};
 use std::io::{self, ErrorKind, Read, Write};
 

@@ -5,15 +5,12 @@ use oftp_channel::{
 };
 use oftp_engine::{Port, RunFault};
 use oftp_outcomes::Fault;
-use oftp_requests::Backend;
+use oftp_requests::{Backend, GONE};
 use oftp_sockets::SocketPlace;
 use std::alloc::Global;
 use std::io::Write;
 use std::net::Shutdown;
 use std::os::unix::net::UnixStream;
-
-/// The error if the station is gone, or sends what no station sends. What was asked may have been done then.
-pub(crate) const GONE: Fault = Fault::Run(RunFault::Office);
 
 /// The station that runs over a database. Each request has its own connection.
 #[derive(Drop)]

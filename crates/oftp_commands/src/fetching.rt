@@ -1,13 +1,13 @@
 //! The command `fetch`, which writes an incoming file in its local form.
 
-use crate::backing::{Backing, outcome_in};
+use crate::backing::Backing;
 use crate::contents::is_awaited;
 use oftp_channel::{Ending, Request};
 use oftp_command_line::Fetch;
 use oftp_engine::RunFault;
 use oftp_files::{Draft, Name, Place, draft_of, file_fault, place_of, settle};
 use oftp_outcomes::{Fault, Outcome};
-use oftp_requests::Backend;
+use oftp_requests::{Backend, outcome_in};
 use std::fs::File;
 use std::io::{self, ErrorKind, Write};
 use std::mem;

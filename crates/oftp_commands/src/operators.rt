@@ -1,13 +1,13 @@
 //! The commands `submit`, `release` and `refuse`, which are operator's calls.
 
-use crate::backing::{Backing, outcome_in};
+use crate::backing::Backing;
 use crate::contents::Content;
 use oftp_channel::Request;
 use oftp_command_line::{Files, Refuse, Release, Submit};
 use oftp_engine::{Operator, Submission};
 use oftp_files::read_book_octets;
 use oftp_outcomes::{Fault, Outcome};
-use oftp_requests::Backend;
+use oftp_requests::{Backend, outcome_in};
 use std::io;
 
 /// Submits a file. What is read of a pipe is read before the database is opened.

@@ -1,13 +1,12 @@
 //! The commands `init`, `migrate` and `report`, which only need a database.
 
-use crate::backing::{Backing, outcome_in};
-use crate::beside::GONE;
+use crate::backing::Backing;
 use oftp_channel::{Ending, Request};
 use oftp_command_line::Report;
 use oftp_database::{self as database, PATIENCE};
 use oftp_engine::RunFault;
 use oftp_outcomes::{Fault, Outcome};
-use oftp_requests::Backend;
+use oftp_requests::{Backend, GONE, outcome_in};
 use std::io::{self, Write};
 
 /// Opens a database and creates its tables, unless it has them.

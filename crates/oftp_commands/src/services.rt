@@ -1,6 +1,6 @@
 //! The commands `listen`, `call` and `http`, over sockets.
 
-use crate::backing::{Backing, outcome_in};
+use crate::backing::Backing;
 use crate::beside::Beside;
 use oftp_channel::{Request, Tracing};
 use oftp_command_line::{Call, Entrance, Files, Http, Listen, SessionTerms};
@@ -10,7 +10,7 @@ use oftp_files::{Trace, book_of, open_trace, read_book, read_book_octets};
 use oftp_listing::Site;
 use oftp_outcomes::{Fault, Outcome, Trouble, Way, write_line};
 use oftp_partners::Book;
-use oftp_requests::Backend;
+use oftp_requests::{Backend, outcome_in};
 use oftp_resident::{Bench, Start, serve};
 use oftp_schedule::connection::Counted;
 use oftp_sockets::{Reporter, Station, bound, patience_of};

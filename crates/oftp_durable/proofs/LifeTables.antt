@@ -9,15 +9,20 @@ use Rattle.oftp_register.specs.ByIdentity.{in_at}
 use Rattle.oftp_register.specs.Offices.{View}
 use Rattle.oftp_register.specs.Register.{Register}
 use Rattle.oftp_register.specs.Soundness.{IsSound}
+use Rattle.oftp_session.specs.Settings.{Setting}
 use Rattle.oftp_session.specs.declared.session.Ending.{Ending}
 use Rattle.oftp_store.specs.Opens.{Has}
 use Rattle.oftp_store.specs.Shown.{database_of, faults_of, limits_of, shown}
 use Rattle.oftp_store.specs.Views.{view_of}
 use Rattle.oftp_store.specs.declared.office.SqlOffice.{SqlOffice}
 use Rattle.oftp_io.specs.declared.port.Port.{Port}
-use Rattle.oftp_engine.specs.Conversation.{Dialogue}
+use Rattle.oftp_engine.specs.Conversation.{ComesSoFar, ComesTo, Dialogue}
 use Rattle.oftp_engine.specs.Parts.{File, IsSoFar}
+use Rattle.oftp_engine.specs.Serving.{Scene, scene}
+use Rattle.oftp_engine.specs.declared.serving.Going.{Going}
+use Rattle.oftp_engine.specs.declared.serving.Going.TheVariants as going
 use Rattle.oftp_engine.specs.declared.serving.RunFault.{RunFault}
+use Rattle.oftp_engine.specs.declared.serving.RunFault.TheVariants.{Memory}
 use Rattle.oftp_life.specs.Acts.{Act}
 use Rattle.oftp_life.specs.LifeParts.{BringAll}
 use Rattle.oftp_life.specs.Lives.{HasConversed, HasLeft, Holds, IsLeft, IsSession, LifeData, LifeLeaves}
@@ -76,17 +81,31 @@ module _ {S : Type 0} (g : Ghosts S) (began : SqlOffice S g) (shut : (database_o
       (all_leave (shown g began).register has.0.holds.sound acts over (limits_of now) (faults_of now) (database_of g now) left
       (λ file identity so brings db may. makes file identity began now acts early has.0 left.leaves so brings db may))
 
+-- the result that leaves the same as this one: where a session sends, it would leave the same out of memory
+abbrev left_as : Result Going RunFault → Result (Option Ending) RunFault
+left_as (Ok going.Waits) = Ok None
+left_as (Ok going.Sends) = Err Memory
+left_as (Ok (going.Ended ending)) = Ok (Some ending)
+left_as (Err fault) = Err fault
+
+comes_as : (setting : Setting) (heard : List ℕ) (dialogue : Dialogue) (a b : Scene) (result : Result Going RunFault) → ComesSoFar setting heard dialogue a b result
+    → ComesTo setting heard dialogue a b (left_as result)
+comes_as setting heard dialogue a b (Ok going.Waits) h = h
+comes_as setting heard dialogue a b (Ok going.Sends) h = h.between
+comes_as setting heard dialogue a b (Ok (going.Ended ending)) h = h
+comes_as setting heard dialogue a b (Err fault) h = h
+
 -- the session that goes on, or has ended
 module _ {S : Type 0} (g : Ghosts S) (began before now : SqlOffice S g) (acts : List Act) (out : Port Outbox) (dialogue : Dialogue) where
   abbrev Left : Register → Result (Option Ending) RunFault → Type 0
   Left r result = LastLeaves r acts (limits_of now) (database_of g now) out result
 
-  conversed_leaves : (r : Register) → Has (limits_of began) r (database_of g began) → (result : Result (Option Ending) RunFault)
-      → HasConversed (shown g) (shown g began).register acts before now out dialogue result → Left r result
+  conversed_leaves : (r : Register) → Has (limits_of began) r (database_of g began) → (result : Result Going RunFault)
+      → HasConversed (shown g) (shown g began).register acts before now out dialogue result → Left r (left_as result)
   conversed_leaves r has result h =
       let first = (shown g began).register in
       let sound = acts_sound first h.earlier h.changes (shown g before).register h.reached has.0.holds.sound in
-      subst (λ (x : Register). Left x result) has.1 (record {
+      subst (λ (x : Register). Left x (left_as result)) has.1 (record {
         setting = h.setting;
         heard = h.heard;
         earlier = h.earlier;
@@ -96,13 +115,15 @@ module _ {S : Type 0} (g : Ghosts S) (began before now : SqlOffice S g) (acts : 
         reached = h.reached;
         front = h.front;
         nothing = h.nothing;
-        leaves = conversation_leaves contents_of (shown g before) h.front out (limits_of now) (faults_of now) (database_of g now) h.setting h.heard sound dialogue result h.comes;
+        leaves = conversation_leaves contents_of (shown g before) h.front out (limits_of now) (faults_of now) (database_of g now) h.setting h.heard sound dialogue (left_as result)
+            (comes_as h.setting h.heard dialogue (scene contents_of (shown g before) h.front) (scene contents_of (shown g now) out) result h.comes);
       })
 
   stands_so : (r : Register) → Has (limits_of began) r (database_of g began) → (stage' : Stage) → Holds (shown g) stage' (shown g began).register acts before now out dialogue
       → StageLeaves r acts (limits_of now) (database_of g now) out stage'
-  stands_so r has stage.Waits h = conversed_leaves r has (Ok None) h
-  stands_so r has (stage.Ended ending) h = conversed_leaves r has (Ok (Some ending)) h
+  stands_so r has stage.Waits h = conversed_leaves r has (Ok going.Waits) h
+  stands_so r has stage.Sends h = conversed_leaves r has (Ok going.Sends) h
+  stands_so r has (stage.Ended ending) h = conversed_leaves r has (Ok (going.Ended ending)) h
   stands_so r has (stage.Failed fault) h = conversed_leaves r has (Err fault) h
   stands_so r has stage.Lost h = tt
 

@@ -17,6 +17,7 @@ use Rattle.oftp_store.specs.declared.office.SqlOffice.{SqlOffice}
 use Rattle.oftp_io.specs.declared.port.Port.{Port}
 use Rattle.oftp_engine.specs.Parts.{File, IsSoFar}
 use Rattle.oftp_engine.specs.declared.serving.RunFault.{RunFault}
+use Rattle.oftp_engine.specs.declared.serving.RunFault.TheVariants.{Memory}
 use Rattle.oftp_life.specs.Acts.{Act, Conversed, Ordered}
 use Rattle.oftp_life.specs.LifeParts.{BringAll}
 use Rattle.oftp_life.specs.Lives.{LifeData}
@@ -69,9 +70,11 @@ pub record LastLeaves (r : Register) (acts : List Act) (limits : Limits) (s : St
   pub nothing : octets_out front.inner ≡ []
   pub leaves : SessionLeaves contents_of setting heard at front out limits s (as_served result)
 
--- what the session leaves that stands like this; of one that is lost nothing more is said than of its life
+-- What the session leaves that stands like this. One that sends leaves what it would where memory runs out between the same two steps. Of one
+-- that is lost nothing more is said than of its life.
 abbrev pub StageLeaves : Register → List Act → Limits → State → Port Outbox → Stage → Type 0
 StageLeaves r acts limits s out stage.Waits = LastLeaves r acts limits s out (Ok None)
+StageLeaves r acts limits s out stage.Sends = LastLeaves r acts limits s out (Err Memory)
 StageLeaves r acts limits s out (stage.Ended ending) = LastLeaves r acts limits s out (Ok (Some ending))
 StageLeaves r acts limits s out (stage.Failed fault) = LastLeaves r acts limits s out (Err fault)
 StageLeaves r acts limits s out stage.Lost = ⊤

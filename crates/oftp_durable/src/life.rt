@@ -1,6 +1,6 @@
 //! The calls of a life over a database.
 
-ghost use Rattle.std.specs.Prelude.{◌≡◌, ◌≢◌, ◌≤◌, ◌↔◌, ℕ, Bool, IfErr, IfOk, List, [], ◌∷◌, false, true};
+ghost use Rattle.std.specs.Prelude.{◌≡◌, ◌≤◌, ◌↔◌, ℕ, Bool, IfErr, IfOk, List, [], ◌∷◌, false, true};
 ghost use Rattle.sqlite.specs.Files.{HoldsDatabase, over_files};
 ghost use Rattle.sqlite.specs.State.{HasCleanDisk};
 ghost use Rattle.sqlite.specs.Tree.{Trees};
@@ -19,7 +19,7 @@ ghost use Rattle.oftp_engine.specs.Operated.{Operates};
 ghost use Rattle.oftp_engine.specs.Served.{IsPrefix, setting_of};
 ghost use Rattle.oftp_engine.specs.Serving.{scene};
 ghost use Rattle.oftp_life.specs.Acts.{Act, Conversed};
-ghost use Rattle.oftp_life.specs.Lives.{HasLeft, Heard, answer_of, ends_life, is_over_at};
+ghost use Rattle.oftp_life.specs.Lives.{HasLeft, Heard, answer_of, ends_life, has_ceased, is_over_at};
 ghost use Rattle.oftp_life.specs.Noted.{with_call};
 ghost use Rattle.oftp_life.specs.Outboxes.{octets_out};
 ghost use Rattle.oftp_durable.specs.LifeTables.{AllLeaves, HasDoneNothing, LifeBegins, StageLeaves};
@@ -155,8 +155,8 @@ pub fn hear_durable<S: Alter>(
     octets: &[u8],
 ) -> Result<Option<Ending>, RunFault>
     ensures began { session.new.began ≡ session.old.began }
-    ensures idle { session.old.stage ≢ Stage.Waits → (session.new ≡ session.old) × (result ≡ answer_of session.old.stage) }
-    ensures heard { session.old.stage ≡ Stage.Waits → Heard session.old session.new octets.now result }
+    ensures idle { has_ceased session.old.stage ≡ true → (session.new ≡ session.old) × (result ≡ answer_of session.old.stage) }
+    ensures heard { has_ceased session.old.stage ≡ false → Heard session.old session.new octets.now result }
     // The headline.
     ensures leaves { HasCleanDisk (database_of S.Store session.new.office) → (r : Register) → Has (limits_of session.new.began) r (database_of S.Store session.new.began)
         → AllLeaves r session.new.acts (is_over_at session.new.stage) (limits_of session.new.office) (database_of S.Store session.new.office) }

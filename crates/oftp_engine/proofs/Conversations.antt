@@ -13,7 +13,7 @@ use Rattle.oftp_engine.specs.Runs.{started}
 use Rattle.oftp_engine.specs.Serving.{Scene, Took}
 use Rattle.oftp_engine.specs.Served.{IsOutOfMemory}
 use Rattle.oftp_engine.specs.Progress.{Comes, Went}
-use Rattle.oftp_engine.specs.Conversation.{Dialogue, HasHeard, HeardMore, IsFresh, Listens, ShowsSame}
+use Rattle.oftp_engine.specs.Conversation.{Dialogue, HasHeard, HeardMore, IsFresh, Listens, SendsOn, ShowsSame}
 use Rattle.oftp_engine.proofs.Ending.{is_out_of_memory}
 use Rattle.oftp_engine.proofs.Progress.{went_none}
 use Rattle.oftp_engine.proofs.Reading.{comes_more, short_on}
@@ -108,6 +108,26 @@ module _ (setting : Setting) (given : List ℕ) (talk : Dialogue) (first now : S
       told = h.all.told;
     };
     live = h.live;
+  }
+
+  pub sends_kept : SendsOn setting given talk first now → SendsOn setting given talk first (record now { office = view })
+  sends_kept h = record {
+    heard = heard_kept h.heard;
+    between = record {
+      outs = h.between.outs;
+      later = h.between.later;
+      outputs = h.between.outputs;
+      out = took_kept _ h.between.out;
+      made = h.between.made;
+      kept = h.between.kept;
+      few = h.between.few;
+      stopped = h.between.stopped;
+      register = h.between.register ∙ ap Ok (sym same.register);
+      stands = same.stands h.between.stands;
+      left = subst (λ (r : Register). Only r view) (sym same.register) same.left;
+      faults = same.told ∙ h.between.faults;
+      told = h.between.told;
+    };
   }
 
 -- a look-up that returned no error, and then others

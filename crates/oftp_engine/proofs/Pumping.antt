@@ -1,8 +1,10 @@
 -- The loop over the frames, one part after another.
 use Rattle.oftp_wire.specs.declared.reason.SessionReason.{SessionReason}
 use Rattle.oftp_wire.specs.declared.reason.SessionReason.TheVariants.{ProtocolViolation}
-use Rattle.std.proofs.Common.{◌≡◌, ◌++◌, ℕ, ◌<◌, false, List, [], take, drop, length, Option, None, Some, Result, Ok, Err, refl, sym, ap, ◌∙◌, subst, inl}
+use Rattle.std.proofs.Common.{◌≡◌, ◌++◌, ℕ, ◌<◌, false, List, [], take, drop, length, Option, None, Some, Result, Ok, Err, refl, sym, ap, ◌∙◌, subst, inl, Bool, true, nat_le, ◌&&◌}
+use Rattle.std.proofs.lemmas.Bool.{false≢true}
 use Rattle.std.proofs.lemmas.List.{take-append-drop}
+use Rattle.oftp_engine.specs.declared.serving.TheConstants.{MOST_TURNS}
 use Rattle.std.specs.Option.{option_copied}
 use Rattle.std.specs.Borrow.{Bor}
 use Rattle.oftp_wire.proofs.Streams.{next_err, next_none, next_some, past_shorter}
@@ -14,12 +16,18 @@ use Rattle.oftp_session.specs.declared.session.Ending.TheVariants.{Own}
 use Rattle.oftp_session.specs.Phases.{Phase, Step, ending_of, fails, is_over}
 use Rattle.oftp_session.specs.Steps.{Suits}
 use Rattle.oftp_session.specs.Calls.{Proceeds, Seen, Stands}
+use Rattle.oftp_session.specs.Standings.{Standing, is_sending}
 use Rattle.oftp_engine.specs.declared.conversation.TheConstants.{LONGEST_FRAME}
+use Rattle.oftp_engine.specs.declared.serving.Going.{Going}
+use Rattle.oftp_engine.specs.declared.serving.Pace.{Pace}
+use Rattle.oftp_engine.specs.declared.serving.Pace.TheVariants as pace
+use Rattle.oftp_engine.specs.declared.serving.Turns.{Turns}
+use Rattle.oftp_engine.specs.declared.serving.Turns.TheVariants as turns
 use Rattle.oftp_engine.specs.declared.serving.RunFault.{RunFault}
 use Rattle.oftp_engine.specs.Runs.{Course, advance, run, is_stopped, step_on}
 use Rattle.oftp_engine.specs.Serving.{Scene}
 use Rattle.oftp_engine.specs.Progress.{Comes, IsAt}
-use Rattle.oftp_engine.specs.InsideServing.{Fails, IsOver, IsWaiting, Made, Pumped, Settles, StepFails, Stepped}
+use Rattle.oftp_engine.specs.InsideServing.{Fails, IsOver, IsPausing, IsWaiting, LeavesTurns, Made, Pumped, Settles, StepFails, Stepped, TurnsTaken, pauses}
 use Rattle.oftp_engine.proofs.Phases.{fails_proceed, live_from, step_proceeds}
 use Rattle.oftp_engine.proofs.Progress.{fails_later, fails_step, fails_with, leads_bad, leads_frame, leads_step, reaches_step, told_some, went_on, went_step, went_with}
 
@@ -37,6 +45,26 @@ ok_at c step seen a b r x h e = subst (Stepped c step seen a b) e h
 err_at : {T : Type 0} (c : Course) (step : Step) (seen : Seen) (a b : Scene) (r : Result T RunFault) (f : RunFault)
     → Stepped c step seen a b r → r ≡ Err f → StepFails c step a b f
 err_at c step seen a b r f h e = subst (Stepped c step seen a b) e h
+
+-- all turns were made, or some were left
+module _ {seen0 seen : Seen} {old mid : Scene} (x : Turns) (h : old.office.stands → (d : Course) → IsAt d seen0 old → TurnsTaken d seen old mid (let r : Result Turns RunFault = Ok x in r)) where
+  pub made_all : (count : ℕ) → x ≡ turns.Made count → old.office.stands → (d : Course) → IsAt d seen0 old → Settles d seen old mid
+  made_all count e stood d at = subst (λ (y : Turns). TurnsTaken d seen old mid (let r : Result Turns RunFault = Ok y in r)) e (h stood d at)
+
+  pub left_some : x ≡ turns.Left → old.office.stands → (d : Course) → IsAt d seen0 old → LeavesTurns d seen old mid
+  left_some e stood d at = subst (λ (y : Turns). TurnsTaken d seen old mid (let r : Result Turns RunFault = Ok y in r)) e (h stood d at)
+
+both_second : (a b : Bool) → (a && b) ≡ true → b ≡ true
+both_second true b e = e
+both_second false b e = absurd (false≢true e)
+
+-- a session that leaves turns for later sends a file, in parts
+pub pauses_sends : (p : Pace) (made : ℕ) (s : Standing) → pauses p made s ≡ true → is_sending s ≡ true
+pauses_sends pace.Whole made s e = absurd (false≢true e)
+pauses_sends pace.Parts made s e = both_second (nat_le MOST_TURNS made) (is_sending s) e
+
+pub pauses_parts : (p : Pace) (made : ℕ) (s : Standing) → pauses p made s ≡ true → p ≡ pace.Whole → ⊥
+pauses_parts p made s e whole = false≢true (sym (ap (λ (x : Pace). pauses x made s) whole) ∙ e)
 
 -- what `next` returned: a command, by which the stream is shorter, or none
 found : (s : Stream) (f : Option (Bor (List ℕ))) (o : Option (Bor (List ℕ))) → Ok (option_copied f) ≡ next_of s s.told → f ≡ o
@@ -79,11 +107,26 @@ module _ (k : Course) (s t u : List ℕ) (seen : Seen) (a b : Scene) (p : Comes 
 -- One iteration of the loop, from how far it went before.
 module _ (k : Course) (s : List ℕ) (stream : Stream) (seen0 : Seen) (first old : Scene) (p : IsPumping k s stream seen0 first old) (stood : first.office.stands) where
   -- a turn failed
-  pub turn_fails : (after : Stream) (seen : Seen) (z : Scene) (f : RunFault) (result : Result (Option Ending) RunFault)
+  pub turn_fails : (after : Stream) (seen : Seen) (z : Scene) (f : RunFault) (result : Result Going RunFault)
       → (old.office.stands → (d : Course) → IsAt d seen0 old → Fails d [] old z f) → result ≡ Err f → Pumped k s after seen first z result
   turn_fails after seen z f result fails same =
       let failed = fails_with p.come.at stream.rest old z f (fails (p.come.went.stands stood) p.come.at p.come.now) in
       subst (Pumped k s after seen first z) (sym same) (fails_later k p.come.at s stream.rest first old z f p.come.went failed)
+
+  -- exchange buffers of a file are left to send
+  pub paused : (seen : Seen) (mid : Scene) → (old.office.stands → (d : Course) → IsAt d seen0 old → LeavesTurns d seen old mid) → IsPausing k s stream seen first mid
+  paused seen mid turns =
+      let left = turns (p.come.went.stands stood) p.come.at p.come.now in
+      record {
+        come = record {
+          at = left.come.at;
+          went = went_on k p.come.at left.come.at s stream.rest stream.rest first old mid p.come.went (went_with p.come.at left.come.at stream.rest old mid left.come.went);
+          now = left.come.now;
+        };
+        sends = left.sends;
+        limit = p.limit;
+        told = p.told;
+      }
 
   -- every due turn is made
   module _ (seen : Seen) (mid : Scene) (turns : old.office.stands → (d : Course) → IsAt d seen0 old → Settles d seen old mid)
@@ -155,7 +198,7 @@ module _ (k : Course) (s : List ℕ) (stream : Stream) (seen0 : Seen) (first old
             })
 
         -- it was executed in part
-        pub obey_fails : (next : Seen) (z : Scene) (f : RunFault) (result : Result (Option Ending) RunFault)
+        pub obey_fails : (next : Seen) (z : Scene) (f : RunFault) (result : Result Going RunFault)
             → (mid.office.stands → (d : Course) → is_over d.phase ≡ false → IsAt d seen mid
             → StepFails d (step_on d.setting d.phase d.register (command_of o.now)) mid z f)
             → result ≡ Err f → Pumped k s after next first z result
@@ -192,7 +235,7 @@ module _ (k : Course) (s : List ℕ) (stream : Stream) (seen0 : Seen) (first old
             (record { come = come; ends = over_after after_turns.at ProtocolViolation })
 
         -- the writer returned an error within the ESID
-        pub refuse_fails : (f : RunFault) (result : Result (Option Ending) RunFault) → refused ≡ Err f → result ≡ Err f → Pumped k s after next first z result
+        pub refuse_fails : (f : RunFault) (result : Result Going RunFault) → refused ≡ Err f → result ≡ Err f → Pumped k s after next first z result
         refuse_fails f result failed same =
             subst (Pumped k s after next first z) (sym same)
             (step_failed k s stream.rest stream.rest seen first mid after_turns (fails ProtocolViolation) bad_proceeds bad_goes [] refl bad_some z f

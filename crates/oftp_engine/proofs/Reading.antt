@@ -1,19 +1,21 @@
 -- What one call did after all that was done before it: a call of `pump`, and of a reader.
-use Rattle.std.proofs.Common.{◌≡◌, ℕ, List, [], ◌++◌, take, Option, length, ◌<◌, sym, ap, ◌∙◌, subst, arith, append_assoc, length-append, inl}
+use Rattle.std.proofs.Common.{◌≡◌, ℕ, List, [], ◌++◌, take, Option, length, ◌<◌, sym, ap, ◌∙◌, subst, arith, append_assoc, length-append, true, inl, inr}
 use Rattle.std.proofs.lemmas.List.{append-nil, length-take-le}
 use Rattle.std.specs.Io.KnownBytes.{Consumes}
 use Rattle.oftp_wire.specs.Stream.{Stream}
 use Rattle.oftp_session.specs.declared.session.Ending.{Ending}
 use Rattle.oftp_session.specs.Calls.{Seen}
+use Rattle.oftp_session.specs.Standings.{is_sending}
 use Rattle.oftp_io.specs.declared.port.Port.{Port}
 use Rattle.oftp_io.specs.Ports.{Gives, GivesNothing}
 use Rattle.oftp_engine.specs.Runs.{Course, run}
 use Rattle.oftp_engine.specs.Serving.{Scene}
 use Rattle.oftp_engine.specs.Served.{Gave}
 use Rattle.oftp_engine.specs.Progress.{Leads, Comes}
-use Rattle.oftp_engine.specs.InsideServing.{IsOver, IsWaiting, IsShort}
+use Rattle.oftp_engine.specs.InsideServing.{IsOver, IsPausing, IsShort, IsWaiting}
 use Rattle.oftp_io.proofs.Bytes.{consumes_on, keeps_consumes}
 use Rattle.oftp_engine.proofs.Progress.{went_on}
+use Rattle.oftp_engine.proofs.Stepping.{sends_at}
 
 pub wait_on : (k : Course) (s : List ℕ) (before stream : Stream) (seen0 seen1 : Seen) (a b z : Scene) (p : Comes k s before.rest seen0 a b)
     → IsWaiting p.at before.rest stream seen1 b z → IsWaiting k s stream seen1 a z
@@ -22,6 +24,15 @@ wait_on k s before stream seen0 seen1 a b z p w = record {
   turn = w.turn;
   over = w.over;
   waits = w.waits;
+  limit = w.limit;
+  told = w.told;
+}
+
+pub pause_on : (k : Course) (s : List ℕ) (before stream : Stream) (seen0 seen1 : Seen) (a b z : Scene) (p : Comes k s before.rest seen0 a b)
+    → IsPausing p.at before.rest stream seen1 b z → IsPausing k s stream seen1 a z
+pause_on k s before stream seen0 seen1 a b z p w = record {
+  come = record { at = w.come.at; went = went_on k p.at w.come.at s before.rest stream.rest a b z p.went w.come.went; now = w.come.now };
+  sends = w.sends;
   limit = w.limit;
   told = w.told;
 }
@@ -94,6 +105,22 @@ short_on k s t x seen a z some h = record {
   rest = t ++ x;
   leads = leads_more k h.at s t x h.went.leads;
   cause = inl (omega (arith, some, length-append t x));
+  between = h.went.between;
+  outputs = h.went.outputs;
+  took = h.went.took;
+  register = h.now.register;
+  stands = h.went.stands;
+  faults = h.went.faults;
+  told = h.went.told;
+}
+
+-- it is between two steps, and sends a file
+pub short_at : (k : Course) (s t : List ℕ) (seen : Seen) (a z : Scene) → is_sending seen.standing ≡ true → Comes k s t seen a z → IsShort k s a z
+short_at k s t seen a z sends h = record {
+  at = h.at;
+  rest = t;
+  leads = h.went.leads;
+  cause = inr (sends_at h.at.phase seen.standing h.now.stands sends);
   between = h.went.between;
   outputs = h.went.outputs;
   took = h.went.took;

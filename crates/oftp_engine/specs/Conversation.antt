@@ -9,11 +9,13 @@ use Rattle.oftp_session.specs.Settings.{Setting}
 use Rattle.oftp_session.specs.Steps.{opening}
 use Rattle.oftp_session.specs.declared.session.Ending.{Ending}
 use Rattle.oftp_engine.specs.declared.conversation.TheConstants.{LONGEST_FRAME}
+use Rattle.oftp_engine.specs.declared.serving.Going.{Going}
+use Rattle.oftp_engine.specs.declared.serving.Going.TheVariants as going
 use Rattle.oftp_engine.specs.declared.serving.RunFault.{RunFault}
 use Rattle.oftp_engine.specs.declared.serving.RunFault.TheVariants as fault
 use Rattle.oftp_engine.specs.Runs.{started}
 use Rattle.oftp_engine.specs.Serving.{Scene}
-use Rattle.oftp_engine.specs.Served.{IsWhole, ServesErr, whole}
+use Rattle.oftp_engine.specs.Served.{IsOutOfMemory, IsWhole, ServesErr, whole}
 use Rattle.oftp_engine.specs.Progress.{Comes}
 
 -- a conversation as its caller sees it: the state of its session, and the stream of which a part may be unread
@@ -57,11 +59,24 @@ pub record HasConcluded (setting : Setting) (given : List ℕ) (first now : Scen
   pub all : IsWhole setting given first now
   pub ends : Some end ≡ ending_of (whole setting given first.office.register).phase
 
+-- It sends a file, and goes on without more octets. It is between two of its steps: what is out, the register, and what a crash leaves are
+-- what they are where memory runs out there.
+pub record SendsOn (setting : Setting) (given : List ℕ) (talk : Dialogue) (first now : Scene) : Type 0 where
+  pub heard : HasHeard setting given talk first now
+  pub between : IsOutOfMemory setting given first now
+
 -- what a conversation that returned this has done
 abbrev pub ComesTo : Setting → List ℕ → Dialogue → Scene → Scene → Result (Option Ending) RunFault → Type 0
 ComesTo setting given talk first now (Ok None) = Listens setting given talk first now
 ComesTo setting given talk first now (Ok (Some end)) = HasConcluded setting given first now end
 ComesTo setting given talk first now (Err fault) = ServesErr setting given first now fault
+
+-- the same of a conversation that sends a file in parts
+abbrev pub ComesSoFar : Setting → List ℕ → Dialogue → Scene → Scene → Result Going RunFault → Type 0
+ComesSoFar setting given talk first now (Ok going.Waits) = Listens setting given talk first now
+ComesSoFar setting given talk first now (Ok going.Sends) = SendsOn setting given talk first now
+ComesSoFar setting given talk first now (Ok (going.Ended end)) = HasConcluded setting given first now end
+ComesSoFar setting given talk first now (Err fault) = ServesErr setting given first now fault
 
 -- an error that isn't the reader's
 abbrev pub IsOwn : RunFault → Type 0

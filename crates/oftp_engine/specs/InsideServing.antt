@@ -1,10 +1,11 @@
 -- Inside: how far the engine is in a run, for the functions of src/serving.rt.
-use Rattle.std.specs.Prelude.{◌≡◌, ℕ, ◌<◌, ◌⊎◌, Bool, false, List, [], ◌++◌, length, take, Option, None, Some, Result, Ok, Err}
+use Rattle.std.specs.Prelude.{◌≡◌, ℕ, ◌<◌, ◌⊎◌, Bool, ◌&&◌, false, true, nat_le, List, [], ◌++◌, length, take, Option, None, Some, Result, Ok, Err}
 use Rattle.oftp_wire.specs.Stream.{Stream, front, Waits}
 use Rattle.oftp_register.specs.Offices.{View, Only, WithOrWithout, next_count}
 use Rattle.oftp_session.specs.Phases.{is_over, ending_of, Step, framed}
 use Rattle.oftp_session.specs.Steps.{has_turn}
 use Rattle.oftp_session.specs.Calls.{Proceeds, Seen}
+use Rattle.oftp_session.specs.Standings.{Standing, is_sending}
 use Rattle.oftp_session.specs.declared.session.Ending.{Ending}
 use Rattle.oftp_session.specs.declared.session.SessionFault.{SessionFault}
 use Rattle.oftp_session.specs.declared.session.SessionFault.TheVariants as session
@@ -12,6 +13,13 @@ use Rattle.oftp_engine.specs.declared.conversation.TheConstants.{LONGEST_FRAME}
 use Rattle.oftp_engine.specs.Runs.{Course, run, is_stopped, advance, octets_of}
 use Rattle.oftp_io.specs.declared.port.Port.{Port}
 use Rattle.oftp_io.specs.Ports.{Sent}
+use Rattle.oftp_engine.specs.declared.serving.Going.{Going}
+use Rattle.oftp_engine.specs.declared.serving.Going.TheVariants as going
+use Rattle.oftp_engine.specs.declared.serving.Pace.{Pace}
+use Rattle.oftp_engine.specs.declared.serving.Pace.TheVariants as pace
+use Rattle.oftp_engine.specs.declared.serving.Turns.{Turns}
+use Rattle.oftp_engine.specs.declared.serving.Turns.TheVariants as turns
+use Rattle.oftp_engine.specs.declared.serving.TheConstants.{MOST_TURNS}
 use Rattle.oftp_engine.specs.declared.serving.RunFault.{RunFault}
 use Rattle.oftp_engine.specs.declared.serving.RunFault.TheVariants as fault
 use Rattle.oftp_engine.specs.Serving.{Scene, Took, IsSaid, MayRunOut, last_frame}
@@ -137,9 +145,20 @@ pub record Settles (c : Course) (seen : Seen) (old new : Scene) : Type 0 where
   pub now : IsAt at seen new
   pub done : has_turn at.phase ≡ false
 
-abbrev pub TurnsTaken : {T : Type 0} → Course → Seen → Scene → Scene → Result T RunFault → Type 0
-TurnsTaken c seen old new (Ok x) = Settles c seen old new
+-- some of the turns were made, and exchange buffers of a file are left to send
+pub record LeavesTurns (c : Course) (seen : Seen) (old new : Scene) : Type 0 where
+  pub come : Comes c [] [] seen old new
+  pub sends : is_sending seen.standing ≡ true
+
+abbrev pub TurnsTaken : Course → Seen → Scene → Scene → Result Turns RunFault → Type 0
+TurnsTaken c seen old new (Ok (turns.Made count)) = Settles c seen old new
+TurnsTaken c seen old new (Ok turns.Left) = LeavesTurns c seen old new
 TurnsTaken c seen old new (Err fault) = Fails c [] old new fault
+
+-- whether a session that has made so many turns leaves the others for later
+abbrev pub pauses : Pace → ℕ → Standing → Bool
+pauses pace.Whole made standing = false
+pauses pace.Parts made standing = nat_le MOST_TURNS made && is_sending standing
 
 -- the session is over, and has ended like this
 pub record IsOver (c : Course) (s t : List ℕ) (seen : Seen) (old new : Scene) (end : Ending) : Type 0 where
@@ -155,9 +174,23 @@ pub record IsWaiting (c : Course) (s : List ℕ) (stream : Stream) (seen : Seen)
   pub limit : stream.limit ≡ LONGEST_FRAME
   pub told : stream.told ≡ None
 
-abbrev pub Pumped : Course → List ℕ → Stream → Seen → Scene → Scene → Result (Option Ending) RunFault → Type 0
-Pumped c s stream seen old new (Ok (Some end)) = IsOver c s stream.rest seen old new end
-Pumped c s stream seen old new (Ok None) = IsWaiting c s stream seen old new
+-- how a session ended that went so far, if it did
+abbrev pub ending_in : Going → Option Ending
+ending_in going.Waits = None
+ending_in going.Sends = None
+ending_in (going.Ended end) = Some end
+
+-- exchange buffers of a file are due
+pub record IsPausing (c : Course) (s : List ℕ) (stream : Stream) (seen : Seen) (old new : Scene) : Type 0 where
+  pub come : Comes c s stream.rest seen old new
+  pub sends : is_sending seen.standing ≡ true
+  pub limit : stream.limit ≡ LONGEST_FRAME
+  pub told : stream.told ≡ None
+
+abbrev pub Pumped : Course → List ℕ → Stream → Seen → Scene → Scene → Result Going RunFault → Type 0
+Pumped c s stream seen old new (Ok (going.Ended end)) = IsOver c s stream.rest seen old new end
+Pumped c s stream seen old new (Ok going.Waits) = IsWaiting c s stream seen old new
+Pumped c s stream seen old new (Ok going.Sends) = IsPausing c s stream seen old new
 Pumped c s stream seen old new (Err fault) = Fails c s old new fault
 
 -- the error of a session as its caller gets it; `Ended` never occurs, since a session that is closed isn't called

@@ -8,12 +8,12 @@ ghost use Rattle.oftp_session.specs.Phases.{Phase};
 ghost use Rattle.oftp_session.specs.Settings.{Setting};
 ghost use Rattle.oftp_session.specs.Standings.{Broken};
 ghost use Rattle.oftp_io.specs.Ports.{Puts};
-ghost use Rattle.oftp_engine.specs.Conversation.{ComesTo, HasHeard, HeardMore, IsFresh, IsOwn};
+ghost use Rattle.oftp_engine.specs.Conversation.{ComesSoFar, ComesTo, HasHeard, HeardMore, IsFresh, IsOwn};
 ghost use Rattle.oftp_engine.specs.Openings.{IsGreeted, IsJudged, of_caller};
 ghost use Rattle.oftp_engine.specs.Served.{WriterTold, setting_of};
 ghost use Rattle.oftp_engine.specs.Serving.{scene};
 
-use crate::serving::{Admission, Role, RunFault, greet, judge, opened, pump};
+use crate::serving::{Admission, Going, Pace, Role, RunFault, greet, judge, opened, pump};
 use oftp_io::Port;
 use oftp_partners::Book;
 use oftp_register::{Name, Office};
@@ -82,7 +82,49 @@ impl<'b> Conversation<'b> {
         ensures out { Puts W.contents writer.old writer.new }
         ensures told { WriterTold writer.old writer.new result }
     {
-        pump(&mut self.session, office, &mut self.stream, writer)
+        let going = pump(
+            &mut self.session,
+            office,
+            &mut self.stream,
+            writer,
+            Pace::Whole,
+        )?;
+        Ok(going.ending())
+    }
+
+    /// Goes on as [`go_on`] does, but sends a file in parts: after some exchange buffers it returns [`Going::Sends`] where there is credit for
+    /// more, and the next call makes these. It must not be called after an error.
+    ///
+    /// At each `Sends`, the octets written since the conversation began, the register, and what a crash leaves are those of the session between
+    /// two of its steps.
+    ///
+    /// # Errors
+    ///
+    /// Those of [`go_on`], with what they leave.
+    ///
+    /// [`go_on`]: Conversation::go_on
+    pub fn go_on_in_parts<O: Office, W: Write>(
+        &mut self,
+        office: &mut O,
+        writer: &mut Port<W>,
+    ) -> Result<Going, RunFault>
+        requires { self.old.seen.standing ≢ Broken }
+        ensures goes { (O.view office.new).clean → (first : O) (front : Port W) (setting : Setting) (given : List ℕ)
+            → HasHeard setting given self.old (scene W.contents (O.view first) front) (scene W.contents (O.view office.old) writer.old)
+            → ComesSoFar setting given self.new (scene W.contents (O.view first) front) (scene W.contents (O.view office.new) writer.new) result }
+        ensures clean { (O.view office.new).clean → (O.view office.old).clean }
+        ensures own { IfErr result IsOwn }
+        ensures unbroken { OnOk result (self.new.seen.standing ≢ Broken) }
+        ensures out { Puts W.contents writer.old writer.new }
+        ensures told { WriterTold writer.old writer.new result }
+    {
+        pump(
+            &mut self.session,
+            office,
+            &mut self.stream,
+            writer,
+            Pace::Parts,
+        )
     }
 
     /// Greets a caller: writes SSRM. No office is asked. The conversation must be a responder's before its first step.

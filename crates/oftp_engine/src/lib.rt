@@ -20,5 +20,5 @@ pub use laws::{
 pub use oftp_io::Port;
 pub use operating::{Operator, Refusal, Told, operate};
 pub use running::{CallJob, Job, SessionJob, run};
-pub use serving::{Admission, End, Role, RunFault, serve, serve_in_memory};
+pub use serving::{Admission, End, Going, Role, RunFault, serve, serve_in_memory};
 pub use submitting::Submission;

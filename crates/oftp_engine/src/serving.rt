@@ -18,7 +18,7 @@ ghost use Rattle.oftp_engine.specs.Serving.{scene};
 ghost use Rattle.oftp_engine.specs.Progress.{IsAt};
 ghost use Rattle.oftp_engine.specs.Conversation.{IsOwn};
 ghost use Rattle.oftp_engine.specs.Openings.{Answered, IsGreeted, IsJudged, admission_by, answer_to};
-ghost use Rattle.oftp_engine.specs.InsideServing.{BrokeOff, LastWords, Pumped, Stepped, TurnsTaken, run_fault};
+ghost use Rattle.oftp_engine.specs.InsideServing.{BrokeOff, LastWords, Pumped, Stepped, TurnsTaken, ending_in, pauses, run_fault};
 
 use crate::conversation::Conversation;
 use oftp_io::Port;
@@ -31,6 +31,9 @@ use std::io::{Read, Write};
 
 /// The number of octets that one read asks for.
 const PIECE: usize = 4096;
+
+/// After so many turns a session that sends a file in parts leaves the others for later.
+const MOST_TURNS: u32 = 32;
 
 /// How a session ended (RFC 5024, section 5.3.11).
 #[derive(Clone, Copy, Debug, Drop, PartialEq, Eq)]
@@ -72,6 +75,47 @@ pub enum Admission {
     SentAway(Ending),
     /// They begin with an SSID that the book accepts, so the caller is let in.
     LetIn,
+}
+
+/// How far a session went over the octets that it has.
+#[derive(Clone, Copy, Debug, Drop, PartialEq, Eq)]
+pub enum Going {
+    /// It needs more octets.
+    Waits,
+    /// It sends a file, and can go on without more octets.
+    Sends,
+    /// It has ended.
+    Ended(Ending),
+}
+
+impl Going {
+    // How the session ended, if it did.
+    pub(crate) fn ending(self) -> Option<Ending>
+        ensures { result ≡ ending_in self }
+    {
+        match self {
+            Going::Waits | Going::Sends => None,
+            Going::Ended(ending) => Some(ending),
+        }
+    }
+}
+
+/// How many exchange buffers of a file are sent in a row.
+#[derive(Clone, Copy, Drop)]
+pub(crate) enum Pace {
+    /// As many as there is credit for.
+    Whole,
+    /// A bounded number, so that what they take can go out before the next ones are made.
+    Parts,
+}
+
+// Whether the turns that are due were made.
+#[derive(Clone, Copy, Drop)]
+enum Turns {
+    // All of them, so many since the session went on.
+    Made(u32),
+    // Some, and more exchange buffers of a file are due.
+    Left,
 }
 
 /// Why a session or a call was cut short.
@@ -249,12 +293,24 @@ fn take_command<O: Office, W: Write>(
     }
 }
 
-// Executes every turn that is due.
+// Whether a session that has made so many turns leaves the others for later.
+fn pauses(pace: Pace, made: u32, session: &Session<'_>) -> bool
+    ensures { result ≡ pauses pace made session.now.standing }
+{
+    match pace {
+        Pace::Whole => false,
+        Pace::Parts => made >= MOST_TURNS && session.is_sending(),
+    }
+}
+
+// Executes every turn that is due or, in parts, some of those that send a file, after those that were made before.
 fn take_turns<O: Office, W: Write>(
     session: &mut Session<'_>,
     office: &mut O,
     writer: &mut Port<W>,
-) -> Result<(), RunFault>
+    pace: Pace,
+    before: u32,
+) -> Result<Turns, RunFault>
     requires { session.old.standing ≢ Broken }
     ensures clean { (O.view office.new).clean → (O.view office.old).clean }
     ensures own { IfErr result IsOwn }
@@ -263,24 +319,30 @@ fn take_turns<O: Office, W: Write>(
         → TurnsTaken c session.new
         (scene W.contents (O.view office.old) writer.old)
         (scene W.contents (O.view office.new) writer.new) result }
+    ensures whole { pace ≡ Pace.Whole → IfOk result (λ turns. turns ≢ Turns.Left) }
     ensures unbroken { OnOk result (session.new.standing ≢ Broken) }
     ensures out { Puts W.contents writer.old writer.new }
     ensures told { WriterTold writer.old writer.new result }
 {
+    let mut made = before;
     'turns: while session.has_turn() {
+        if pauses(pace, made, session) {
+            return Ok(Turns::Left);
+        }
         take_turn(session, office, writer)?;
+        made = made.saturating_add(1);
     }
-    Ok(())
+    Ok(Turns::Made(made))
 }
 
-// Executes all turns that are due and all commands that are complete. It returns how the session ended, or `None` where it needs more
-// octets.
+// Executes all turns that are due and all commands that are complete; in parts, it returns where more exchange buffers of a file are due.
 pub(crate) fn pump<O: Office, W: Write>(
     session: &mut Session<'_>,
     office: &mut O,
     stream: &mut Deframer,
     writer: &mut Port<W>,
-) -> Result<Option<Ending>, RunFault>
+    pace: Pace,
+) -> Result<Going, RunFault>
     requires { session.old.standing ≢ Broken }
     ensures clean { (O.view office.new).clean → (O.view office.old).clean }
     ensures own { IfErr result IsOwn }
@@ -289,21 +351,26 @@ pub(crate) fn pump<O: Office, W: Write>(
         → Pumped c stream.old.rest stream.new session.new
         (scene W.contents (O.view office.old) writer.old)
         (scene W.contents (O.view office.new) writer.new) result }
+    ensures whole { pace ≡ Pace.Whole → IfOk result (λ going. going ≢ Going.Sends) }
     ensures unbroken { OnOk result (session.new.standing ≢ Broken) }
     ensures out { Puts W.contents writer.old writer.new }
     ensures told { WriterTold writer.old writer.new result }
 {
+    let mut made: u32 = 0;
     'frames: loop {
-        take_turns(session, office, writer)?;
+        match take_turns(session, office, writer, pace, made)? {
+            Turns::Made(count) => made = count,
+            Turns::Left => return Ok(Going::Sends),
+        }
         if let Some(ending) = session.ended() {
-            return Ok(Some(ending));
+            return Ok(Going::Ended(ending));
         }
         match stream.next() {
             Ok(Some(octets)) => take_command(session, office, writer, octets)?,
-            Ok(None) => return Ok(None),
+            Ok(None) => return Ok(Going::Waits),
             Err(_) => {
                 end_with(session, writer, SessionReason::ProtocolViolation)?;
-                return Ok(Some(Ending::Own(SessionReason::ProtocolViolation)));
+                return Ok(Going::Ended(Ending::Own(SessionReason::ProtocolViolation)));
             }
         }
     }

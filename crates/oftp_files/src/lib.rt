@@ -23,7 +23,9 @@ pub use files::{
     open_regular,
 };
 pub use limits::LIMITS;
-pub use replacing::{Name, Place, discard, draft_in_swept, draft_of, free_name, place_of, settle};
+pub use replacing::{
+    Name, Place, discard, draft_in_swept, draft_of, free_name, free_name_like, place_of, settle,
+};
 pub use session_trace::{Lines, SessionTrace};
 pub use showing::show;
 pub use traces::open_trace;

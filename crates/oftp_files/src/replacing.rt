@@ -31,6 +31,11 @@ impl Name {
         self.path.as_str()
     }
 
+    /// The permissions and the owner that the new file gets.
+    pub fn access(&self) -> Access {
+        self.access
+    }
+
     /// The same path, with other permissions and another owner for the new file.
     pub fn with_access(self, access: Access) -> Name {
         let Name { path, access: _ } = self;
@@ -60,6 +65,28 @@ fn new_place(rt: &HostRuntime, path: &str, database: &str) -> Result<Place, Faul
 /// # Errors
 /// [`Fault::File`] if something is there, be it a link that leads nowhere, or nothing may be created there; [`Fault::MEMORY`].
 pub fn free_name(rt: &HostRuntime, path: &str, database: &str) -> Result<Name, Fault> {
+    let path = free_path(rt, path, database)?;
+    let access = Access::of_mode(usual_mode(rt, path.as_path())?);
+    Ok(Name { path, access })
+}
+
+/// Examines a path as [`free_name`] does, for a new file with these permissions and this owner: those of another one in the folder, so that they
+/// aren't asked for again.
+///
+/// # Errors
+/// Those of [`free_name`].
+pub fn free_name_like(
+    rt: &HostRuntime,
+    path: &str,
+    database: &str,
+    access: Access,
+) -> Result<Name, Fault> {
+    let path = free_path(rt, path, database)?;
+    Ok(Name { path, access })
+}
+
+/// A path at which nothing is, and which isn't the name of a file that may appear beside the database.
+fn free_path(rt: &HostRuntime, path: &str, database: &str) -> Result<PathBuf, Fault> {
     match fs::symlink_metadata(rt, path) {
         Ok(_) => return Err(Fault::File),
         Err(error) if error.kind() == ErrorKind::NotFound => {}
@@ -69,8 +96,7 @@ pub fn free_name(rt: &HostRuntime, path: &str, database: &str) -> Result<Name, F
     if is_beside_database(rt, path.as_path(), database)? {
         return Err(Fault::File);
     }
-    let access = Access::of_mode(usual_mode(rt, path.as_path())?);
-    Ok(Name { path, access })
+    Ok(path)
 }
 
 /// The place of an existing file. If the path leads over links, its target is replaced and the links stay.

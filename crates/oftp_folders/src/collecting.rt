@@ -1,16 +1,16 @@
 //! The command `collect`: incoming files that are whole and have no response are written to a folder.
 
-use crate::endings::refusal_in;
-use crate::folders::{Folder, Room, Stamps, has_something, name_of, numbered, path_in};
+use crate::folders::{Folder, Room, Stamps, has_something, keep, name_of, numbered, path_in};
 use crate::judging::{Collecting, Content, Named, collecting_of};
 use oftp_channel::{ListedFile, Request};
 use oftp_command_line::Collect;
 use oftp_engine::{Operator, Refusal, RunFault};
 use oftp_files::{
-    discard, draft_in_swept, free_name, open_regular, read_to_compare, settle, sweep,
+    Access, Name, discard, draft_in_swept, free_name, free_name_like, open_regular,
+    read_to_compare, settle, sweep,
 };
 use oftp_outcomes::{Carried, Fault, Why, write_line};
-use oftp_requests::{Backend, Comparison, FileList};
+use oftp_requests::{Backend, Comparison, FileList, refusal_in};
 use std::io::{self, Write};
 
 /// Writes each incoming file that is whole and has no response to a folder, unless it is there already. If the command line asks for it,
@@ -41,8 +41,8 @@ struct Collection<'a, B> {
     folder: &'a Room,
     book: &'a [u8],
     backend: B,
-    // Whether the drafts that killed processes left were removed.
-    is_swept: bool,
+    // The access of a new file in the folder, once the drafts that killed processes left there were removed.
+    access: Option<Access>,
 }
 
 impl<'a, B: Backend> Collection<'a, B> {
@@ -60,7 +60,7 @@ impl<'a, B: Backend> Collection<'a, B> {
             folder,
             book,
             backend,
-            is_swept: false,
+            access: None,
         }
     }
 
@@ -93,7 +93,7 @@ impl<'a, B: Backend> Collection<'a, B> {
         tell(refusal, file.no, name.as_str(), out)
     }
 
-    /// What is at the path of a file in the folder.
+    /// What is at the path of a file in the folder. A file that is to be released is synced: another program may have put it there.
     fn named(&mut self, no: u64, path: &str) -> Result<Named, Fault> {
         if !has_something(self.rt, path)? {
             return Ok(Named::Nothing);
@@ -104,11 +104,13 @@ impl<'a, B: Backend> Collection<'a, B> {
         let there = read_to_compare(self.rt, &file)?;
         let mut comparison = Comparison::with(there.as_slice());
         let refusal = self.fetch(no, &mut comparison)?;
-        Ok(Named::File(if refusal.is_none() && comparison.is_equal() {
-            Content::Same
-        } else {
-            Content::Other
-        }))
+        if refusal.is_some() || !comparison.is_equal() {
+            return Ok(Named::File(Content::Other));
+        }
+        if self.line.releases {
+            keep(&file)?;
+        }
+        Ok(Named::File(Content::Same))
     }
 
     /// Writes the content of a file to `out`. Returns why not, if it is refused. A failed write is an error of the file.
@@ -121,12 +123,7 @@ impl<'a, B: Backend> Collection<'a, B> {
 
     /// Writes a file, and releases it if that is asked for. Returns why not, if it is refused.
     fn write(&mut self, no: u64, path: &str) -> Result<Option<Refusal>, Fault> {
-        if !self.is_swept {
-            sweep(self.rt, self.folder.path());
-            self.is_swept = true;
-        }
-        let line = self.line;
-        let name = free_name(self.rt, path, line.files.database)?;
+        let name = self.name_at(path)?;
         let mut draft = draft_in_swept(self.rt, &name)?;
         let written = match self.fetch(no, &mut draft.file) {
             Ok(Some(refusal)) => {
@@ -142,6 +139,18 @@ impl<'a, B: Backend> Collection<'a, B> {
         } else {
             Ok(None)
         }
+    }
+
+    /// A path at which nothing is, for a new file. With the first one the drafts that killed processes left are removed.
+    fn name_at(&mut self, path: &str) -> Result<Name, Fault> {
+        let line = self.line;
+        if let Some(access) = self.access {
+            return free_name_like(self.rt, path, line.files.database, access);
+        }
+        sweep(self.rt, self.folder.path());
+        let name = free_name(self.rt, path, line.files.database)?;
+        self.access = Some(name.access());
+        Ok(name)
     }
 
     /// Releases a file that an earlier call has written, once its name is synced. Returns why not, if it is refused.

@@ -96,13 +96,7 @@ impl Room {
 
     /// Syncs the folder, so that the names in it are durable. File systems that don't sync folders are accepted.
     pub(super) fn keep(&self) -> Result<(), Fault> {
-        match self.file.sync_all() {
-            Ok(()) => Ok(()),
-            Err(error) => match error.kind() {
-                ErrorKind::InvalidInput | ErrorKind::Unsupported => Ok(()),
-                _ => Err(file_fault(&error)),
-            },
-        }
+        keep(&self.file)
     }
 }
 
@@ -132,6 +126,17 @@ impl Folder {
     pub fn give_up(self, rt: &HostRuntime) {
         let Folder { room: _room, lock } = self;
         lock.give_up(rt);
+    }
+}
+
+/// Syncs what is open. What the file system doesn't sync is accepted.
+pub(super) fn keep(file: &File) -> Result<(), Fault> {
+    match file.sync_all() {
+        Ok(()) => Ok(()),
+        Err(error) => match error.kind() {
+            ErrorKind::InvalidInput | ErrorKind::Unsupported => Ok(()),
+            _ => Err(file_fault(&error)),
+        },
     }
 }
 

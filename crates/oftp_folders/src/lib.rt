@@ -3,13 +3,12 @@
 #![tactic(auto)]
 
 mod collecting;
-mod endings;
 mod folders;
-mod handing;
 mod judging;
 mod locking;
 mod offering;
 mod stamps;
+mod submitting;
 
 pub use collecting::collect;
 pub use folders::Folder;

@@ -4,8 +4,8 @@
 //! knows under which name the register has it, if it does.
 
 use crate::folders::{Folder, Room, claim_name, names_in, path_in, stamps_in};
-use crate::handing::{Handing, Rooms, TAKEN, tell_left};
 use crate::stamps::Moment;
+use crate::submitting::{Subfolders, Submitting, TAKEN, tell_left};
 use oftp_command_line::Offer;
 use oftp_files::file_fault;
 use oftp_outcomes::Fault;
@@ -36,40 +36,40 @@ pub fn offer<B: Backend + Drop>(
     if files.is_empty() && claims.is_empty() {
         return Ok(true);
     }
-    let rooms = Rooms::made(rt, &folder.room)?;
-    let handing = Handing::new(rt, line, &rooms, book, backend);
-    take_and_hand_in(rt, &folder.room, handing, files.as_slice(), claims, out)
+    let subfolders = Subfolders::made(rt, &folder.room)?;
+    let submitting = Submitting::new(rt, line, &subfolders, book, backend);
+    take_and_hand_in(rt, &folder.room, submitting, files.as_slice(), claims, out)
 }
 
 /// Takes these files, and submits all that are taken. Returns whether each was handed in.
 fn take_and_hand_in<B: Backend + Drop>(
     rt: &HostRuntime,
     folder: &Room,
-    handing: Handing<'_, B>,
+    submitting: Submitting<'_, B>,
     files: &[String],
     claims: Vec<String>,
     out: &mut impl Write,
 ) -> Result<bool, Fault> {
-    let mut handing = handing;
+    let mut submitting = submitting;
     let mut claims = claims;
-    handing.look_up(files, claims.as_slice())?;
-    let are_taken = take_all(rt, folder, &mut handing, files, &mut claims, out)?;
-    let are_handed_in = hand_in(handing, claims, out)?;
+    submitting.look_up(files, claims.as_slice())?;
+    let are_taken = take_all(rt, folder, &mut submitting, files, &mut claims, out)?;
+    let are_handed_in = hand_in(submitting, claims, out)?;
     Ok(are_taken && are_handed_in)
 }
 
 /// Submits the taken files. Returns whether each was handed in.
 fn hand_in<B: Backend + Drop>(
-    handing: Handing<'_, B>,
+    submitting: Submitting<'_, B>,
     claims: Vec<String>,
     out: &mut impl Write,
 ) -> Result<bool, Fault> {
-    let mut handing = handing;
+    let mut submitting = submitting;
     let mut claims = claims;
     let mut is_done = true;
     claims.sort().map_err(|_| Fault::MEMORY)?;
     for claim in claims {
-        if !handing.hand_in(claim, out)? {
+        if !submitting.hand_in(claim, out)? {
             is_done = false;
         }
     }
@@ -128,7 +128,7 @@ fn is_for(rt: &HostRuntime, code: &str, name: &str) -> Result<bool, Fault> {
 fn take_all<B: Backend>(
     rt: &HostRuntime,
     folder: &Room,
-    handing: &mut Handing<'_, B>,
+    submitting: &mut Submitting<'_, B>,
     files: &[String],
     claims: &mut Vec<String>,
     out: &mut impl Write,
@@ -136,7 +136,7 @@ fn take_all<B: Backend>(
     let mut are_taken = true;
     for name in files {
         let name = name.as_str();
-        match take(rt, folder, handing, name) {
+        match take(rt, folder, submitting, name) {
             Ok(Some(claim)) => claims.push(claim).map_err(|_| Fault::MEMORY)?,
             Ok(None) => {}
             Err(fault) => {
@@ -145,7 +145,7 @@ fn take_all<B: Backend>(
             }
         }
     }
-    handing.rooms.taken.keep()?;
+    submitting.subfolders.taken.keep()?;
     folder.keep()?;
     Ok(are_taken)
 }
@@ -154,12 +154,12 @@ fn take_all<B: Backend>(
 fn take<B: Backend>(
     rt: &HostRuntime,
     folder: &Room,
-    handing: &mut Handing<'_, B>,
+    submitting: &mut Submitting<'_, B>,
     name: &str,
 ) -> Result<Option<String>, Fault> {
     let path = path_in(rt, folder.path(), name)?;
     match fs::symlink_metadata(rt, path.as_str()) {
-        Ok(about) => handing.take(path.as_str(), name, Moment::of(&about)),
+        Ok(about) => submitting.take(path.as_str(), name, Moment::of(&about)),
         Err(error) if error.kind() == ErrorKind::NotFound => Ok(None),
         Err(error) => Err(file_fault(&error)),
     }

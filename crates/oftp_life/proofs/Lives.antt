@@ -11,9 +11,8 @@ use Rattle.oftp_register.specs.Soundness.{IsSound}
 use Rattle.oftp_session.specs.Calls.{Makes}
 use Rattle.oftp_session.specs.Standings.{Broken}
 use Rattle.oftp_session.specs.Settings.{Setting}
-use Rattle.oftp_session.specs.declared.session.Ending.{Ending}
 use Rattle.oftp_io.specs.declared.port.Port.{Port}
-use Rattle.oftp_engine.specs.Conversation.{ComesTo, Dialogue, HasHeard, HeardMore, IsFresh, IsOwn}
+use Rattle.oftp_engine.specs.Conversation.{ComesSoFar, Dialogue, HasHeard, HeardMore, IsFresh, IsOwn}
 use Rattle.oftp_engine.specs.Jobs.{LeavesSome, Stop}
 use Rattle.oftp_engine.specs.Operated.{Operates}
 use Rattle.oftp_engine.specs.Operating.{Deed, IsDeed}
@@ -22,9 +21,11 @@ use Rattle.oftp_engine.specs.Served.{IsBrokenOff, IsOfficeFault, IsOutOfMemory, 
 use Rattle.oftp_engine.specs.Serving.{Scene, Took, last_frame, scene}
 use Rattle.oftp_engine.specs.declared.operating.Operator.{Operator}
 use Rattle.oftp_engine.specs.declared.operating.Told.{Told}
+use Rattle.oftp_engine.specs.declared.serving.Going.{Going}
+use Rattle.oftp_engine.specs.declared.serving.Going.TheVariants as going
 use Rattle.oftp_engine.specs.declared.serving.RunFault.{RunFault}
 use Rattle.oftp_engine.specs.declared.serving.RunFault.TheVariants as fault
-use Rattle.oftp_engine.proofs.Conversations.{heard_more, heard_none, listens_kept, looked}
+use Rattle.oftp_engine.proofs.Conversations.{heard_more, heard_none, listens_kept, looked, sends_kept}
 use Rattle.oftp_engine.proofs.Openings.{let_in_live, opened_heard}
 use Rattle.oftp_engine.specs.Openings.{of_caller}
 use Rattle.oftp_engine.specs.declared.serving.Admission.TheVariants.{LetIn}
@@ -35,7 +36,7 @@ use Rattle.oftp_life.specs.Noted.{with_call, with_heard}
 use Rattle.oftp_life.specs.Outboxes.{contents_of, octets_out}
 use Rattle.oftp_life.specs.declared.outbox.Outbox.{Outbox}
 use Rattle.oftp_life.specs.Reaches.{ActMakes, ActStops, CallMakes, Reaches}
-use Rattle.oftp_life.specs.Lives.{HasLeft, HasConversed, Holds, IsLeft, IsSession, LifeLeaves, Lives, Rests, after_look, ends_life, has_failed, is_over_at, stage_of}
+use Rattle.oftp_life.specs.Lives.{HasLeft, HasConversed, Holds, IsLeft, IsSession, LifeLeaves, Lives, Rests, after_look, ends_life, has_ceased, has_failed, is_over_at, stage_of}
 use Rattle.oftp_life.specs.declared.stage.Stage.{Stage}
 use Rattle.oftp_life.specs.declared.stage.Stage.TheVariants as stage
 
@@ -169,13 +170,15 @@ module _ {O : Type 0} (view : O → View) (first : Register) (office now : O) (f
   abbrev said : List ℕ
   said = octets_out out.inner
 
-  -- a session that went on as far as its octets reach
+  -- a session that went on with this result
   pub session_holds : (acts : List Act) (before : List Change) (setting : Setting) (heard : List ℕ) (dialogue : Dialogue) → Reaches first acts before (view office).register
-      → (result : Result (Option Ending) RunFault) → IfErr result IsOwn → ComesTo setting heard dialogue a b result
+      → (result : Result Going RunFault) → IfErr result IsOwn → ComesSoFar setting heard dialogue a b result
       → Holds view (stage_of result) first (Conversed setting heard said ∷ acts) office now out dialogue
-  session_holds acts before setting heard dialogue reached (Ok None) own h =
+  session_holds acts before setting heard dialogue reached (Ok going.Waits) own h =
       record { setting = setting; heard = heard; earlier = acts; are = refl; changes = before; reached = reached; own = own; front = front; nothing = nothing; comes = h }
-  session_holds acts before setting heard dialogue reached (Ok (Some ending)) own h =
+  session_holds acts before setting heard dialogue reached (Ok going.Sends) own h =
+      record { setting = setting; heard = heard; earlier = acts; are = refl; changes = before; reached = reached; own = own; front = front; nothing = nothing; comes = h }
+  session_holds acts before setting heard dialogue reached (Ok (going.Ended ending)) own h =
       record { setting = setting; heard = heard; earlier = acts; are = refl; changes = before; reached = reached; own = own; front = front; nothing = nothing; comes = h }
   session_holds acts before setting heard dialogue reached (Err f) own h =
       record { setting = setting; heard = heard; earlier = acts; are = refl; changes = before; reached = reached; own = own; front = front; nothing = nothing; comes = h }
@@ -186,52 +189,71 @@ module _ {O : Type 0} (view : O → View) (first : Register) (office now : O) (f
 
   -- a session that is cut where it stands, or has ended
   pub comes_live : (acts : List Act) (before : List Change) (setting : Setting) (heard : List ℕ) (dialogue : Dialogue) → Reaches first acts before (view office).register
-      → (result : Result (Option Ending) RunFault) → IfErr result IsOwn → ComesTo setting heard dialogue a b result → Lives (ends_life result) first (Conversed setting heard said ∷ acts) (view now)
-  comes_live acts before setting heard dialogue reached (Ok None) own h = whole_rests first acts before setting heard said a b reached all_out h.all
-  comes_live acts before setting heard dialogue reached (Ok (Some ending)) own h = whole_rests first acts before setting heard said a b reached all_out h.all
+      → (result : Result Going RunFault) → IfErr result IsOwn → ComesSoFar setting heard dialogue a b result → Lives (ends_life result) first (Conversed setting heard said ∷ acts) (view now)
+  comes_live acts before setting heard dialogue reached (Ok going.Waits) own h = whole_rests first acts before setting heard said a b reached all_out h.all
+  comes_live acts before setting heard dialogue reached (Ok going.Sends) own h = short_rests first acts before setting heard said a b reached all_out h.between
+  comes_live acts before setting heard dialogue reached (Ok (going.Ended ending)) own h = whole_rests first acts before setting heard said a b reached all_out h.all
   comes_live acts before setting heard dialogue reached (Err fault.Read) own h = absurd own
   comes_live acts before setting heard dialogue reached (Err fault.Write) own h = broken_rests first acts before setting heard said a b reached all_out h
   comes_live acts before setting heard dialogue reached (Err fault.Office) own h = fault_leaves first acts before setting heard said a b reached all_out h
   comes_live acts before setting heard dialogue reached (Err fault.Memory) own h = short_rests first acts before setting heard said a b reached all_out h
 
 module _ {O : Type 0} (view : O → View) (first : Register) (office now : O) (out : Port Outbox) where
-  conversed_lives : (acts : List Act) (dialogue : Dialogue) (result : Result (Option Ending) RunFault) → HasConversed view first acts office now out dialogue result
+  conversed_lives : (acts : List Act) (dialogue : Dialogue) (result : Result Going RunFault) → HasConversed view first acts office now out dialogue result
       → Lives (ends_life result) first acts (view now)
   conversed_lives acts dialogue result h =
       subst (λ (x : List Act). Lives (ends_life result) first x (view now)) (sym h.are)
       (comes_live view first office now h.front out h.nothing h.earlier h.changes h.setting h.heard dialogue h.reached result h.own h.comes)
 
   pub session_lives : (stage' : Stage) (acts : List Act) (dialogue : Dialogue) → Holds view stage' first acts office now out dialogue → Lives (is_over_at stage') first acts (view now)
-  session_lives stage.Waits acts dialogue h = conversed_lives acts dialogue (Ok None) h
-  session_lives (stage.Ended ending) acts dialogue h = conversed_lives acts dialogue (Ok (Some ending)) h
+  session_lives stage.Waits acts dialogue h = conversed_lives acts dialogue (Ok going.Waits) h
+  session_lives stage.Sends acts dialogue h = conversed_lives acts dialogue (Ok going.Sends) h
+  session_lives (stage.Ended ending) acts dialogue h = conversed_lives acts dialogue (Ok (going.Ended ending)) h
   session_lives (stage.Failed f) acts dialogue h = conversed_lives acts dialogue (Err f) h
   session_lives stage.Lost acts dialogue h = h
 
--- a session that waited and heard more
+-- a session that heard more
 module _ {O : Type 0} (view : O → View) where
-  unbroken_waits : (result : Result (Option Ending) RunFault) (dialogue : Dialogue) → OnOk result (dialogue.seen.standing ≢ Broken) → stage_of result ≡ stage.Waits → dialogue.seen.standing ≢ Broken
-  unbroken_waits (Ok None) dialogue h e = h
-  unbroken_waits (Ok (Some ending)) dialogue h e = h
-  unbroken_waits (Err f) dialogue h e = absurd (let no : stage.Failed f ≡ stage.Waits = e in cc)
+  unbroken_open : (result : Result Going RunFault) (dialogue : Dialogue) → OnOk result (dialogue.seen.standing ≢ Broken) → has_ceased (stage_of result) ≡ false
+      → dialogue.seen.standing ≢ Broken
+  unbroken_open (Ok going.Waits) dialogue h e = h
+  unbroken_open (Ok going.Sends) dialogue h e = h
+  unbroken_open (Ok (going.Ended ending)) dialogue h e = h
+  unbroken_open (Err f) dialogue h e = absurd (let no : true ≡ false = e in cc)
+
+  -- what a session that can go on has done
+  record SoFar (first : Register) (acts : List Act) (before now : O) (out : Port Outbox) (dialogue : Dialogue) : Type 0 where
+    result : Result Going RunFault
+    conversed : HasConversed view first acts before now out dialogue result
+    heard : HasHeard conversed.setting conversed.heard dialogue (scene contents_of (view before) conversed.front) (scene contents_of (view now) out)
+
+  so_far : (stage' : Stage) → has_ceased stage' ≡ false → (first : Register) (acts : List Act) (before now : O) (out : Port Outbox) (dialogue : Dialogue)
+      → Holds view stage' first acts before now out dialogue → SoFar first acts before now out dialogue
+  so_far stage.Waits e first acts before now out dialogue h = record { result = Ok going.Waits; conversed = h; heard = h.comes.heard }
+  so_far stage.Sends e first acts before now out dialogue h = record { result = Ok going.Sends; conversed = h; heard = h.comes.heard }
+  so_far (stage.Ended ending) e first acts before now out dialogue h = absurd (let no : true ≡ false = e in cc)
+  so_far (stage.Failed f) e first acts before now out dialogue h = absurd (let no : true ≡ false = e in cc)
+  so_far stage.Lost e first acts before now out dialogue h = absurd (let no : true ≡ false = e in cc)
 
   -- what a conversation comes to, from any scene
-  abbrev pub GoesOn : (old new : O) (here there : Port Outbox) (dialogue then : Dialogue) → Result (Option Ending) RunFault → Type 0
+  abbrev pub GoesOn : (old new : O) (here there : Port Outbox) (dialogue then : Dialogue) → Result Going RunFault → Type 0
   GoesOn old new here there dialogue then result =
       (first : O) (front : Port Outbox) (setting : Setting) (given : List ℕ) → HasHeard setting given dialogue (scene contents_of (view first) front) (scene contents_of (view old) here)
-      → ComesTo setting given then (scene contents_of (view first) front) (scene contents_of (view new) there) result
+      → ComesSoFar setting given then (scene contents_of (view first) front) (scene contents_of (view new) there) result
 
   pub take_session : (began office old new : O) (here there : Port Outbox) (acts : List Act) (dialogue more then : Dialogue) (stage' : Stage) (octets : List ℕ)
-      → IsSession view began acts office old here dialogue stage' → stage' ≡ stage.Waits → HeardMore dialogue more octets
-      → (result : Result (Option Ending) RunFault) → IfErr result IsOwn → OnOk result (then.seen.standing ≢ Broken) → ((view new).clean → (view old).clean)
+      → IsSession view began acts office old here dialogue stage' → has_ceased stage' ≡ false → HeardMore dialogue more octets
+      → (result : Result Going RunFault) → IfErr result IsOwn → OnOk result (then.seen.standing ≢ Broken) → ((view new).clean → (view old).clean)
       → ((view new).clean → GoesOn old new here there more then result)
       → IsSession view began (with_heard acts octets (octets_out there.inner)) office new there then (stage_of result)
-  take_session began office old new here there acts dialogue more then stage' octets is waits heard result own unbroken early goes = record {
-    unbroken = unbroken_waits result then unbroken;
+  take_session began office old new here there acts dialogue more then stage' octets is live heard result own unbroken early goes = record {
+    unbroken = unbroken_open result then unbroken;
     holds = λ clean stood.
         let first = (view began).register in
-        let h = subst (λ (x : Stage). Holds view x first acts office old here dialogue) waits (is.holds (early clean) stood) in
+        let far = so_far stage' live first acts office old here dialogue (is.holds (early clean) stood) in
+        let h = far.conversed in
         let given = h.heard ++ octets in
-        let on = heard_more h.setting h.heard octets dialogue more (scene contents_of (view office) h.front) (scene contents_of (view old) here) h.comes.heard heard in
+        let on = heard_more h.setting h.heard octets dialogue more (scene contents_of (view office) h.front) (scene contents_of (view old) here) far.heard heard in
         let done = session_holds view first office new h.front there h.nothing h.earlier h.changes h.setting given then h.reached result own (goes clean office h.front h.setting given on) in
         subst (λ (x : List Act). Holds view (stage_of result) first x office new there then) (sym (ap (λ (x : List Act). with_heard x octets (octets_out there.inner)) h.are)) done;
   }
@@ -239,11 +261,11 @@ module _ {O : Type 0} (view : O → View) where
   -- a session that began
   pub begin_session : (sound : (o : O) → (view o).clean → (view o).stands → IsSound (view o).register) (began old new : O) (here there : Port Outbox) → octets_out here.inner ≡ []
       → (acts : List Act) (dialogue then : Dialogue) (setting : Setting) → ((view old).clean → (view began).stands → Rests (view began).register acts (view old)) → IsFresh setting dialogue
-      → (result : Result (Option Ending) RunFault) → IfErr result IsOwn → OnOk result (then.seen.standing ≢ Broken) → ((view new).clean → (view old).clean)
+      → (result : Result Going RunFault) → IfErr result IsOwn → OnOk result (then.seen.standing ≢ Broken) → ((view new).clean → (view old).clean)
       → ((view new).clean → GoesOn old new here there dialogue then result)
       → IsSession view began (Conversed setting [] (octets_out there.inner) ∷ acts) old new there then (stage_of result)
   begin_session sound began old new here there nothing acts dialogue then setting rests fresh result own unbroken early goes = record {
-    unbroken = unbroken_waits result then unbroken;
+    unbroken = unbroken_open result then unbroken;
     holds = λ clean stood.
         let was = early clean in
         let h = rests was stood in
@@ -255,11 +277,11 @@ module _ {O : Type 0} (view : O → View) where
   pub admit_session : (sound : (o : O) → (view o).clean → (view o).stands → IsSound (view o).register) (began old new : O) (here there : Port Outbox)
       → (acts : List Act) (dialogue then : Dialogue) (book : BookData) (heard : List ℕ) → ((view old).clean → (view began).stands → Rests (view began).register acts (view old))
       → HasHeardOf book heard here dialogue LetIn
-      → (result : Result (Option Ending) RunFault) → IfErr result IsOwn → OnOk result (then.seen.standing ≢ Broken) → ((view new).clean → (view old).clean)
+      → (result : Result Going RunFault) → IfErr result IsOwn → OnOk result (then.seen.standing ≢ Broken) → ((view new).clean → (view old).clean)
       → ((view new).clean → GoesOn old new here there dialogue then result)
       → IsSession view began (Conversed (of_caller book) heard (octets_out there.inner) ∷ acts) old new there then (stage_of result)
   admit_session sound began old new here there acts dialogue then book heard rests guest result own unbroken early goes = record {
-    unbroken = unbroken_waits result then unbroken;
+    unbroken = unbroken_open result then unbroken;
     holds = λ clean stood.
         let was = early clean in
         let h = rests was stood in
@@ -290,7 +312,7 @@ same_scene v here there p q r =
 
 module _ {O : Type 0} (view : O → View) (first : Register) (office now : O) (here there : Port Outbox) (acts : List Act) (dialogue : Dialogue)
     (out : octets_out there.inner ≡ octets_out here.inner) (same : scene contents_of (view now) here ≡ scene contents_of (view now) there) where
-  conversed_same : (result : Result (Option Ending) RunFault) → HasConversed view first acts office now here dialogue result → HasConversed view first acts office now there dialogue result
+  conversed_same : (result : Result Going RunFault) → HasConversed view first acts office now here dialogue result → HasConversed view first acts office now there dialogue result
   conversed_same result h = record {
     setting = h.setting;
     heard = h.heard;
@@ -301,12 +323,13 @@ module _ {O : Type 0} (view : O → View) (first : Register) (office now : O) (h
     own = h.own;
     front = h.front;
     nothing = h.nothing;
-    comes = subst (λ (s : Scene). ComesTo h.setting h.heard dialogue (scene contents_of (view office) h.front) s result) same h.comes;
+    comes = subst (λ (s : Scene). ComesSoFar h.setting h.heard dialogue (scene contents_of (view office) h.front) s result) same h.comes;
   }
 
   holds_same : (stage' : Stage) → Holds view stage' first acts office now here dialogue → Holds view stage' first acts office now there dialogue
-  holds_same stage.Waits h = conversed_same (Ok None) h
-  holds_same (stage.Ended ending) h = conversed_same (Ok (Some ending)) h
+  holds_same stage.Waits h = conversed_same (Ok going.Waits) h
+  holds_same stage.Sends h = conversed_same (Ok going.Sends) h
+  holds_same (stage.Ended ending) h = conversed_same (Ok (going.Ended ending)) h
   holds_same (stage.Failed f) h = conversed_same (Err f) h
   holds_same stage.Lost h = h
 
@@ -390,11 +413,20 @@ pub look_lives : {T : Type 0} (Tells : Register → T → Type 0) (old before ne
 look_lives Tells old before new (Ok x) looks clean acts h = look_rests Tells old before new (Ok x) looks clean acts h (looks.stays clean h.stands)
 look_lives Tells old before new (Err f) looks clean acts h = look_leaves Tells old before new (Err f) looks clean acts h
 
--- a session that looked something up while it waited
+-- a session that looked something up while it could go on
 module _ {O T : Type 0} (view : O → View) (Tells : Register → T → Type 0) (began office old new : O) (out : Port Outbox) (acts : List Act) (dialogue : Dialogue) where
-  look_holds : (result : Result T OfficeFault) → LooksUp Tells (view old) (view new) result → (view new).clean
-      → Holds view stage.Waits (view began).register acts office old out dialogue → Holds view (after_look result) (view began).register acts office new out dialogue
-  look_holds (Ok x) looks clean h =
+  abbrev first : Register
+  first = (view began).register
+
+  look_fails : (stage' : Stage) → is_over_at stage' ≡ false → (f : OfficeFault) → LooksUp Tells (view old) (view new) (let r : Result T OfficeFault = Err f in r) → (view new).clean
+      → Holds view stage' first acts office old out dialogue → LifeLeaves first acts (view new)
+  look_fails stage' not_over f looks clean h =
+      look_leaves Tells (view began) (view old) (view new) (Err f) looks clean acts
+      (subst (λ (x : Bool). Lives x first acts (view old)) not_over (session_lives view first office old out stage' acts dialogue h))
+
+  look_holds : (stage' : Stage) → has_ceased stage' ≡ false → (result : Result T OfficeFault) → LooksUp Tells (view old) (view new) result → (view new).clean
+      → Holds view stage' first acts office old out dialogue → Holds view (after_look stage' result) first acts office new out dialogue
+  look_holds stage.Waits e (Ok x) looks clean h =
       let same = looked Tells (view old) (view new) (Ok x) looks refl clean h.comes.all.stands in
       record {
         setting = h.setting;
@@ -408,13 +440,29 @@ module _ {O T : Type 0} (view : O → View) (Tells : Register → T → Type 0) 
         nothing = h.nothing;
         comes = listens_kept h.setting h.heard dialogue (scene contents_of (view office) h.front) (scene contents_of (view old) out) (view new) same h.comes;
       }
-  look_holds (Err f) looks clean h =
-      look_leaves Tells (view began) (view old) (view new) (Err f) looks clean acts (session_lives view (view began).register office old out stage.Waits acts dialogue h)
+  look_holds stage.Sends e (Ok x) looks clean h =
+      let same = looked Tells (view old) (view new) (Ok x) looks refl clean h.comes.between.stands in
+      record {
+        setting = h.setting;
+        heard = h.heard;
+        earlier = h.earlier;
+        are = h.are;
+        changes = h.changes;
+        reached = h.reached;
+        own = tt;
+        front = h.front;
+        nothing = h.nothing;
+        comes = sends_kept h.setting h.heard dialogue (scene contents_of (view office) h.front) (scene contents_of (view old) out) (view new) same h.comes;
+      }
+  look_holds stage.Waits e (Err f) looks clean h = look_fails stage.Waits refl f looks clean h
+  look_holds stage.Sends e (Err f) looks clean h = look_fails stage.Sends refl f looks clean h
+  look_holds (stage.Ended ending) e result looks clean h = absurd (let no : true ≡ false = e in cc)
+  look_holds (stage.Failed f) e result looks clean h = absurd (let no : true ≡ false = e in cc)
+  look_holds stage.Lost e result looks clean h = absurd (let no : true ≡ false = e in cc)
 
-  pub look_session : (stage' : Stage) (result : Result T OfficeFault) → stage' ≡ stage.Waits → LooksUp Tells (view old) (view new) result
-      → IsSession view began acts office old out dialogue stage' → IsSession view began acts office new out dialogue (after_look result)
-  look_session stage' result waits looks is = record {
-    unbroken = λ e. is.unbroken waits;
-    holds = λ clean stood.
-        look_holds result looks clean (subst (λ (x : Stage). Holds view x (view began).register acts office old out dialogue) waits (is.holds (looks.clean clean) stood));
+  pub look_session : (stage' : Stage) (result : Result T OfficeFault) → has_ceased stage' ≡ false → LooksUp Tells (view old) (view new) result
+      → IsSession view began acts office old out dialogue stage' → IsSession view began acts office new out dialogue (after_look stage' result)
+  look_session stage' result live looks is = record {
+    unbroken = λ e. is.unbroken live;
+    holds = λ clean stood. look_holds stage' live result looks clean (is.holds (looks.clean clean) stood);
   }

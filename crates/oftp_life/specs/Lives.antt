@@ -7,9 +7,11 @@ use Rattle.oftp_session.specs.Settings.{Setting}
 use Rattle.oftp_session.specs.Standings.{Broken}
 use Rattle.oftp_session.specs.declared.session.Ending.{Ending}
 use Rattle.oftp_io.specs.declared.port.Port.{Port}
-use Rattle.oftp_engine.specs.Conversation.{ComesTo, Dialogue, IsOwn}
+use Rattle.oftp_engine.specs.Conversation.{ComesSoFar, Dialogue, IsOwn}
 use Rattle.oftp_engine.specs.Jobs.{LeavesSome}
 use Rattle.oftp_engine.specs.Serving.{scene}
+use Rattle.oftp_engine.specs.declared.serving.Going.{Going}
+use Rattle.oftp_engine.specs.declared.serving.Going.TheVariants as going
 use Rattle.oftp_engine.specs.declared.serving.RunFault.{RunFault}
 use Rattle.oftp_engine.specs.declared.serving.RunFault.TheVariants as fault
 use Rattle.oftp_life.specs.Acts.{Act, Conversed}
@@ -43,15 +45,25 @@ Lives false first acts now = Rests first acts now
 -- the result with which a session stands like this; `Lost` has none
 abbrev pub answer_of : Stage → Result (Option Ending) RunFault
 answer_of stage.Waits = Ok None
+answer_of stage.Sends = Ok None
 answer_of (stage.Ended ending) = Ok (Some ending)
 answer_of (stage.Failed fault) = Err fault
 answer_of stage.Lost = Err fault.Office
 
--- how a session stands after a call with this result
-abbrev pub stage_of : Result (Option Ending) RunFault → Stage
-stage_of (Ok None) = stage.Waits
-stage_of (Ok (Some ending)) = stage.Ended ending
+-- how a session stands that went on with this result
+abbrev pub stage_of : Result Going RunFault → Stage
+stage_of (Ok going.Waits) = stage.Waits
+stage_of (Ok going.Sends) = stage.Sends
+stage_of (Ok (going.Ended ending)) = stage.Ended ending
 stage_of (Err fault) = stage.Failed fault
+
+-- whether it can't go on
+abbrev pub has_ceased : Stage → Bool
+has_ceased stage.Waits = false
+has_ceased stage.Sends = false
+has_ceased (stage.Ended ending) = true
+has_ceased (stage.Failed fault) = true
+has_ceased stage.Lost = true
 
 -- the error is the office's
 abbrev pub is_of_office : RunFault → Bool
@@ -63,6 +75,7 @@ is_of_office fault.Memory = false
 -- whether a life is over after a session that stands like this
 abbrev pub is_over_at : Stage → Bool
 is_over_at stage.Waits = false
+is_over_at stage.Sends = false
 is_over_at (stage.Ended ending) = false
 is_over_at (stage.Failed fault) = is_of_office fault
 is_over_at stage.Lost = true
@@ -72,10 +85,10 @@ abbrev pub has_failed : {T E : Type 0} → Result T E → Bool
 has_failed (Ok x) = false
 has_failed (Err fault) = true
 
--- how a session that waited stands after a look-up
-abbrev pub after_look : {T E : Type 0} → Result T E → Stage
-after_look (Ok x) = stage.Waits
-after_look (Err fault) = stage.Lost
+-- how a session that stood like this stands after a look-up
+abbrev pub after_look : {T E : Type 0} → Stage → Result T E → Stage
+after_look before (Ok x) = before
+after_look before (Err fault) = stage.Lost
 
 -- whether a life is over after a call with this result
 abbrev pub ends_life : {T : Type 0} → Result T RunFault → Bool
@@ -85,7 +98,7 @@ ends_life (Err fault) = is_of_office fault
 module _ {O : Type 0} (view : O → View) where
   -- The last act is a session, which began at the office `before` with an empty box. It has done what its octets and its result say: what is
   -- out, what the register is, and what a crash leaves.
-  pub record HasConversed (first : Register) (acts : List Act) (before now : O) (out : Port Outbox) (dialogue : Dialogue) (result : Result (Option Ending) RunFault) : Type 0 where
+  pub record HasConversed (first : Register) (acts : List Act) (before now : O) (out : Port Outbox) (dialogue : Dialogue) (result : Result Going RunFault) : Type 0 where
     pub setting : Setting
     pub heard : List ℕ
     pub earlier : List Act
@@ -95,18 +108,19 @@ module _ {O : Type 0} (view : O → View) where
     pub own : IfErr result IsOwn
     pub front : Port Outbox
     pub nothing : octets_out front.inner ≡ []
-    pub comes : ComesTo setting heard dialogue (scene contents_of (view before) front) (scene contents_of (view now) out) result
+    pub comes : ComesSoFar setting heard dialogue (scene contents_of (view before) front) (scene contents_of (view now) out) result
 
   -- how a session stands
   abbrev pub Holds : Stage → Register → List Act → (before now : O) → Port Outbox → Dialogue → Type 0
-  Holds stage.Waits first acts before now out dialogue = HasConversed first acts before now out dialogue (Ok None)
-  Holds (stage.Ended ending) first acts before now out dialogue = HasConversed first acts before now out dialogue (Ok (Some ending))
+  Holds stage.Waits first acts before now out dialogue = HasConversed first acts before now out dialogue (Ok going.Waits)
+  Holds stage.Sends first acts before now out dialogue = HasConversed first acts before now out dialogue (Ok going.Sends)
+  Holds (stage.Ended ending) first acts before now out dialogue = HasConversed first acts before now out dialogue (Ok (going.Ended ending))
   Holds (stage.Failed fault) first acts before now out dialogue = HasConversed first acts before now out dialogue (Err fault)
   Holds stage.Lost first acts before now out dialogue = LifeLeaves first acts (view now)
 
-  -- the invariant of a session: it can go on while it waits, and holds what its stage says
+  -- the invariant of a session: it can go on while it waits or sends, and holds what its stage says
   pub record IsSession (began : O) (acts : List Act) (before now : O) (out : Port Outbox) (dialogue : Dialogue) (stage' : Stage) : Type 0 where
-    pub unbroken : stage' ≡ stage.Waits → dialogue.seen.standing ≢ Broken
+    pub unbroken : has_ceased stage' ≡ false → dialogue.seen.standing ≢ Broken
     pub holds : (view now).clean → (view began).stands → Holds stage' (view began).register acts before now out dialogue
 
 -- The headline of a life that has done these acts, from this register on: what a crash leaves; and where the life isn't over, that the
@@ -138,10 +152,12 @@ pub record LifeSessionData (O : Type 0) : Type 0 where
   pub faults : ℕ
   pub stage : Stage
 
--- a session that waited heard these octets and went on, and stands as the result says
+-- a session heard these octets and went on, and the result says how it stands
 pub record HeardSome {O : Type 0} (old new : LifeSessionData O) (octets : List ℕ) (result : Result (Option Ending) RunFault) : Type 0 where
   pub acts : new.acts ≡ with_heard old.acts octets (octets_out new.out.inner)
-  pub stage : new.stage ≡ stage_of result
+  pub went : Result Going RunFault
+  pub stage : new.stage ≡ stage_of went
+  pub answer : result ≡ answer_of new.stage
   pub began : new.began ≡ old.began
   pub before : new.before ≡ old.before
 

@@ -1,9 +1,7 @@
 -- A life as whoever may only look at it sees it.
-use Rattle.std.specs.Prelude.{◌≡◌, ℕ, Bool, true, false}
-use Rattle.oftp_life.specs.Lives.{LifeData, LifeSessionData}
+use Rattle.std.specs.Prelude.{◌≡◌, ℕ, Bool, false}
+use Rattle.oftp_life.specs.Lives.{LifeData, LifeSessionData, has_ceased}
 use Rattle.oftp_register.specs.Offices.{View}
-use Rattle.oftp_life.specs.declared.stage.Stage.{Stage}
-use Rattle.oftp_life.specs.declared.stage.Stage.TheVariants as stage
 
 -- as its office, but with a count of errors of its own, and open only while it isn't over
 abbrev pub shows : View → ℕ → Bool → View
@@ -18,13 +16,6 @@ shows v told over = record {
   may_leave = v.may_leave;
   holds = v.holds;
 }
-
--- a session that doesn't wait can't be looked at
-abbrev pub has_ceased : Stage → Bool
-has_ceased stage.Waits = false
-has_ceased (stage.Ended ending) = true
-has_ceased (stage.Failed fault) = true
-has_ceased stage.Lost = true
 
 -- a life and a session of it, as whoever may only look at them sees them
 abbrev pub life_seen : {O : Type 0} → (O → View) → LifeData O → View

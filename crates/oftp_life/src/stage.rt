@@ -2,9 +2,9 @@
 
 ghost use Rattle.std.specs.Prelude.{◌≡◌};
 ghost use Rattle.oftp_register.specs.Offices.{Counts, next_count};
-ghost use Rattle.oftp_life.specs.Lives.{after_look, ends_life, has_failed, is_of_office, is_over_at, stage_of};
+ghost use Rattle.oftp_life.specs.Lives.{after_look, answer_of, ends_life, has_ceased, has_failed, is_of_office, is_over_at, stage_of};
 
-use oftp_engine::RunFault;
+use oftp_engine::{Going, RunFault};
 use oftp_register::OfficeFault;
 use oftp_session::Ending;
 
@@ -13,6 +13,8 @@ use oftp_session::Ending;
 pub enum Stage {
     /// It waits for more octets.
     Waits,
+    /// It sends a file, and goes on without more octets.
+    Sends,
     /// It has ended.
     Ended(Ending),
     /// It was cut short.
@@ -70,23 +72,24 @@ pub(crate) fn lost(faults: &mut u64) -> OfficeFault
     OfficeFault::Store
 }
 
-// How a session that waited stands after a look-up.
-pub(crate) fn after_look<T, E>(found: &Result<T, E>) -> Stage
-    ensures { result ≡ after_look found.now }
+// How a session that stood like this stands after a look-up.
+pub(crate) fn after_look<T, E>(before: Stage, found: &Result<T, E>) -> Stage
+    ensures { result ≡ after_look before found.now }
 {
     match found {
-        Ok(_) => Stage::Waits,
+        Ok(_) => before,
         Err(_) => Stage::Lost,
     }
 }
 
-// How a session stands after this result.
-pub(crate) fn stage_of(answer: &Result<Option<Ending>, RunFault>) -> Stage
-    ensures { result ≡ stage_of answer.now }
+// How a session stands that went on with this result.
+pub(crate) fn stage_of(went: &Result<Going, RunFault>) -> Stage
+    ensures { result ≡ stage_of went.now }
 {
-    match answer {
-        Ok(None) => Stage::Waits,
-        Ok(Some(ending)) => Stage::Ended(*ending),
+    match went {
+        Ok(Going::Waits) => Stage::Waits,
+        Ok(Going::Sends) => Stage::Sends,
+        Ok(Going::Ended(ending)) => Stage::Ended(*ending),
         Err(fault) => Stage::Failed(*fault),
     }
 }
@@ -99,7 +102,29 @@ impl Stage {
         match self {
             Stage::Failed(fault) => is_of_office(fault),
             Stage::Lost => true,
-            Stage::Waits | Stage::Ended(_) => false,
+            Stage::Waits | Stage::Sends | Stage::Ended(_) => false,
+        }
+    }
+
+    // Whether the session can't go on.
+    pub(crate) fn has_ceased(self) -> bool
+        ensures { result ≡ has_ceased self }
+    {
+        match self {
+            Stage::Waits | Stage::Sends => false,
+            Stage::Ended(_) | Stage::Failed(_) | Stage::Lost => true,
+        }
+    }
+
+    // The result with which a session stands like this.
+    pub(crate) fn answer(self) -> Result<Option<Ending>, RunFault>
+        ensures { result ≡ answer_of self }
+    {
+        match self {
+            Stage::Waits | Stage::Sends => Ok(None),
+            Stage::Ended(ending) => Ok(Some(ending)),
+            Stage::Failed(fault) => Err(fault),
+            Stage::Lost => Err(RunFault::Office),
         }
     }
 }

@@ -62,6 +62,15 @@ impl<W: Write> Write for Output<W> {
         written
     }
 
+    // Without this each piece of a line would reach the writer by `write`, which a buffer of lines passes on at once.
+    fn write_all(&mut self, octets: &[u8]) -> io::Result<()> {
+        let written = self.writer.write_all(octets);
+        if let Err(error) = &written {
+            self.reader = self.reader.after(error.kind());
+        }
+        written
+    }
+
     fn flush(&mut self) -> io::Result<()> {
         let flushed = self.writer.flush();
         if let Err(error) = &flushed {

@@ -1,6 +1,9 @@
 //! How requests are carried out: an operator's calls in a life, and look-ups by any office.
 
-ghost use Rattle.std.specs.Prelude.{◌≡◌, IfOk};
+ghost use Rattle.std.specs.Prelude.{◌≡◌, ◌∷◌, IfOk, false, true};
+ghost use Rattle.oftp_life.specs.Acts.{Ordered};
+ghost use Rattle.oftp_life.specs.Lives.{HasLeft};
+ghost use Rattle.oftp_requests.specs.Operated.{IsCarriedOut};
 ghost use Rattle.oftp_requests.specs.Verbs.{verb_of};
 
 use crate::comparing::Comparison;
@@ -41,13 +44,21 @@ fn verb_of(call: &Operator<'_>) -> Verb
 /// Carries out an operator's call in a life, by a book. Its line isn't written: who asked for it writes it from the outcome.
 ///
 /// # Errors
-/// [`Fault::Run`] if the office failed, after which the life is over; [`Fault::MEMORY`], after which nothing is changed.
+/// [`Fault::Run`] if the office failed, after which the life is over, or if it was over before; [`Fault::MEMORY`], after which nothing is
+/// changed.
 pub fn operate<O: Office>(
     alloc: Global,
     life: &mut Life<O>,
     book: &Book,
     call: &Operator<'_>,
-) -> Result<Outcome, Fault> {
+) -> Result<Outcome, Fault>
+    ensures acts { life.old.over ≡ false → IfOk result (λ outcome. life.new.acts ≡ Ordered book.now call.now ∷ life.old.acts) }
+    ensures over { life.old.over ≡ true → IfOk result (λ outcome. ⊥) }
+    ensures done { life.old.over ≡ false → (O.view life.new.office).clean → (O.view life.old.office).stands
+        → IfOk result (IsCarriedOut book.now call.now (O.view life.old.office) (O.view life.new.office)) }
+    // The headline.
+    ensures leaves { HasLeft O.view life.new.began life.new.acts life.new.over life.new.office }
+{
     let mut line = Port::new(io::sink(), 0);
     match life.order(alloc, book, call, &mut line) {
         Ok(told) => Ok(outcome_of(verb_of(call), told)),

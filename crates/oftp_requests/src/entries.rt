@@ -1,13 +1,11 @@
 //! A list of files that was asked for, file by file.
 
 use crate::asking::Backend;
+use crate::ended::GONE;
 use oftp_channel::{Ending, HearFault, ListedFile, Request, read_request};
-use oftp_engine::{Port, RunFault};
+use oftp_engine::Port;
 use oftp_outcomes::Fault;
 use std::alloc::Global;
-
-/// The error for a list that no station sends.
-const GONE: Fault = Fault::Run(RunFault::Office);
 
 /// A list of files.
 #[derive(Drop)]

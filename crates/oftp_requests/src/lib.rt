@@ -4,6 +4,7 @@
 mod asking;
 mod comparing;
 mod due;
+mod ended;
 mod entries;
 mod fetched;
 mod listed;
@@ -12,5 +13,6 @@ mod outgoing;
 pub use asking::{Backend, look_up, operate};
 pub use comparing::Comparison;
 pub use due::is_due;
+pub use ended::{GONE, number_in, outcome_in, refusal_in};
 pub use entries::{FileEntry, FileList};
 pub use fetched::entry_to_fetch;

@@ -3,14 +3,12 @@
 ghost use Rattle.std.specs.Prelude.{◌≡◌};
 ghost use Rattle.oftp_requests.specs.Listed.{is_unanswered};
 
+use crate::ended::GONE;
 use oftp_channel::{Ending, ListedFile, write_entry};
 use oftp_engine::{Port, RunFault};
 use oftp_outcomes::Fault;
 use oftp_register::{DigitString, Identity, IncomingEntry, IncomingState, Name, Office};
 use std::io::Write;
-
-/// The error of an office that failed.
-const FAILED: Fault = Fault::Run(RunFault::Office);
 
 /// Whether an incoming file is whole and has no response.
 fn is_unanswered(entry: &IncomingEntry) -> bool
@@ -31,7 +29,7 @@ pub(crate) fn list_unanswered<O: Office, W: Write>(
     out: &mut Port<W>,
 ) -> Result<Ending, Fault> {
     let Ok(entries) = office.list_in() else {
-        return Err(FAILED);
+        return Err(GONE);
     };
     for entry in &entries {
         if is_unanswered(entry) {
@@ -52,7 +50,7 @@ pub(crate) fn list_outgoing<O: Office, W: Write>(
     out: &mut Port<W>,
 ) -> Result<Ending, Fault> {
     let Ok(entries) = office.list_out() else {
-        return Err(FAILED);
+        return Err(GONE);
     };
     for entry in &entries {
         let code = text_of(&entry.identity.destination);

@@ -1,5 +1,6 @@
 //! The content of outgoing files.
 
+use crate::ended::GONE;
 use oftp_engine::RunFault;
 use oftp_outcomes::Fault;
 use oftp_register::{Office, OutgoingEntry, Side, is_file};
@@ -9,9 +10,6 @@ use std::io::Write;
 
 /// The number of rows in memory at a time.
 const WINDOW: u64 = 64;
-
-/// The error of an office that failed, or whose rows aren't those of the file.
-const FAILED: Fault = Fault::Run(RunFault::Office);
 
 /// Writes the local form of the outgoing file with a number, some rows at a time. Returns whether there is such a file.
 ///
@@ -29,7 +27,7 @@ pub(crate) fn write_outgoing<O: Office, W: Write>(
             Ok(true)
         }
         Ok(None) => Ok(false),
-        Err(_) => Err(FAILED),
+        Err(_) => Err(GONE),
     }
 }
 
@@ -44,10 +42,10 @@ fn write_rows<O: Office, W: Write>(
         let from = window.saturating_mul(WINDOW);
         let most = WINDOW.min(entry.rows.saturating_sub(from));
         let Ok(rows) = office.rows_of(Side::Outgoing, entry.no, from, most) else {
-            return Err(FAILED);
+            return Err(GONE);
         };
         if rows.len() as u64 != most {
-            return Err(FAILED);
+            return Err(GONE);
         }
         let piece = local_form(alloc, entry, rows)?;
         if out.write_all(piece.as_slice()).is_err() {
@@ -60,7 +58,7 @@ fn write_rows<O: Office, W: Write>(
 /// The local form of some rows of a file.
 fn local_form(alloc: Global, entry: &OutgoingEntry, rows: Rows) -> Result<Vec<u8>, Fault> {
     if !is_file(entry.format, entry.longest, rows.as_slice()) {
-        return Err(FAILED);
+        return Err(GONE);
     }
     let piece = VFile {
         format: entry.format,

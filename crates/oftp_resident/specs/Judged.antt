@@ -2,6 +2,8 @@
 use Rattle.std.specs.Prelude.{Option, None, Some, Result, Ok, Err, Bool, true, false}
 use Rattle.oftp_channel.specs.declared.asking.Request.{Request}
 use Rattle.oftp_channel.specs.declared.asking.Request.TheVariants as request
+use Rattle.oftp_channel.specs.declared.ending.Ending.{Ending}
+use Rattle.oftp_channel.specs.declared.ending.Ending.TheVariants as answered
 use Rattle.oftp_engine.specs.Runs.{ended_as}
 use Rattle.oftp_engine.specs.declared.serving.End.{End}
 use Rattle.oftp_engine.specs.declared.serving.End.TheVariants as end
@@ -9,6 +11,8 @@ use Rattle.oftp_engine.specs.declared.serving.RunFault.{RunFault}
 use Rattle.oftp_engine.specs.declared.serving.RunFault.TheVariants as run
 use Rattle.oftp_life.specs.declared.stage.Stage.{Stage}
 use Rattle.oftp_life.specs.declared.stage.Stage.TheVariants as stage
+use Rattle.oftp_listing.specs.declared.state.OfficeState.{OfficeState}
+use Rattle.oftp_listing.specs.declared.state.OfficeState.TheVariants as state
 use Rattle.oftp_outcomes.specs.declared.outcome.Fault.{Fault}
 use Rattle.oftp_outcomes.specs.declared.outcome.Fault.TheVariants as fault
 use Rattle.oftp_outcomes.specs.declared.service.Trouble.{Trouble}
@@ -63,6 +67,7 @@ trouble_within run.Memory = trouble_of run.Memory
 abbrev pub result_of : Option Stage → Result End Trouble
 result_of None = Err (trouble_of run.Write)
 result_of (Some stage.Waits) = Err (trouble_of run.Write)
+result_of (Some stage.Sends) = Err (trouble_of run.Write)
 result_of (Some (stage.Ended it)) = Ok (ended_as it)
 result_of (Some (stage.Failed it)) = Err (trouble_within it)
 result_of (Some stage.Lost) = Err (trouble_of run.Office)
@@ -93,6 +98,16 @@ closing_of None term = closing.Nothing
 closing_of (Some (OfJob it)) term = closing.Tell it
 closing_of (Some (OfService it)) term.OfJob = closing.Fail it
 closing_of (Some (OfService it)) term.OfService = closing.Nothing
+
+-- whether the office failed under a request that ended like this
+abbrev pub office_after : Ending → OfficeState
+office_after (answered.Failed (fault.Run run.Office)) = state.Failed
+office_after it = state.Working
+
+-- and whether that of the service did: the office of a life for one job is no other's
+abbrev pub office_within : Term → OfficeState → OfficeState
+office_within term.OfService it = it
+office_within term.OfJob it = state.Working
 
 -- the result of a service that ended like this, unless an error ended it
 abbrev pub result_at : Option Fault → Status → Option Fault

@@ -70,7 +70,10 @@ impl Answer {
         ensures { IfSome result (λ octets. (front : List ℕ) × (octets.items ≡ front ++ spelled_end ending)) }
     {
         match self.add_end(ending) {
-            Ok(()) => Some(self.octets),
+            Ok(()) => {
+                self.octets.shrink_to_fit();
+                Some(self.octets)
+            }
             Err(_) => None,
         }
     }

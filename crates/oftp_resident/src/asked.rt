@@ -1,10 +1,10 @@
 //! The requests of commands, and what is told and answered of each.
 
 use crate::answers::answer_of;
-use crate::judging::{Asking, asking_of};
-use crate::limits::{millis, patience_in_millis, pause_of};
+use crate::judging::{Asking, asking_of, office_after};
+use crate::limits::pause_of;
 use oftp_channel::{Ending, Request, Tracing, read_request};
-use oftp_engine::{Port, RunFault};
+use oftp_engine::Port;
 use oftp_files::book_of;
 use oftp_life::Life;
 use oftp_listing::OfficeState;
@@ -13,6 +13,7 @@ use oftp_partners::Book;
 use oftp_register::Office;
 use oftp_requests::{look_up, operate};
 use oftp_schedule::connection::{self as schedule, Partner, Signal};
+use oftp_schedule::durations::{millis, wait_of};
 use std::alloc::Global;
 
 /// The number of a partner whom a command calls. No partner that the clock calls has it.
@@ -30,16 +31,6 @@ pub(crate) struct Made {
     /// Its octets; none if there was no memory for them.
     pub(crate) octets: Vec<u8>,
     pub(crate) office: OfficeState,
-}
-
-impl Made {
-    /// The same of an office that is of this job alone.
-    pub(crate) fn of_job(self) -> Made {
-        Made {
-            octets: self.octets,
-            office: OfficeState::Working,
-        }
-    }
 }
 
 /// A call that a command wants.
@@ -157,7 +148,7 @@ fn partner_of(book: &Book, code: &str, patience: u64, longest: u64) -> Result<Pa
         Some(partner) => Ok(Partner {
             number: OF_NO_CLOCK,
             pause: pause_of(book, partner),
-            patience: patience_in_millis(patience),
+            patience: wait_of(patience),
             longest: millis(longest),
         }),
         None => Err(Fault::Socket),
@@ -185,17 +176,19 @@ fn call_of(
     })
 }
 
-/// The answer with this content and this end. What was written to memory fails only where memory runs out.
+/// The answer with this content and this end, or this error. What was written to memory fails only where memory runs out.
 fn made_of(alloc: Global, content: &[u8], ending: Result<Ending, Fault>) -> Made {
-    let ending = match ending {
-        Ok(ending) => ending,
-        Err(fault) => Ending::Failed(fault.in_memory()),
-    };
+    match ending {
+        Ok(ending) => made_with(alloc, content, ending),
+        Err(fault) => made_with(alloc, content, Ending::Failed(fault.in_memory())),
+    }
+}
+
+/// The answer with this content and this end.
+fn made_with(alloc: Global, content: &[u8], ending: Ending) -> Made {
+    let office = office_after(&ending);
     Made {
         octets: answer_of(alloc, content, ending).unwrap_or(Vec::new(alloc)),
-        office: match ending {
-            Ending::Failed(Fault::Run(RunFault::Office)) => OfficeState::Failed,
-            _ => OfficeState::Working,
-        },
+        office,
     }
 }

@@ -7,6 +7,7 @@ use crate::stream::Stream;
 use oftp_channel::READY;
 use oftp_life::Opening;
 use oftp_outcomes::{Fault, Trouble};
+use oftp_schedule::accepting::{Attempt, arrival_of};
 use oftp_schedule::connection::{Arrival, Door, Event, Signal};
 use oftp_sockets::{is_short, passes};
 use std::io::{self, ErrorKind};
@@ -14,6 +15,8 @@ use std::net::TcpListener;
 
 /// How many who are gone already are passed over at once, at most.
 const MOST_GONE: u32 = 128;
+
+const LAST_TRY: u32 = MOST_GONE - 1;
 
 impl<'a> Shell<'a> {
     /// Accepts a connection at a door, which has this number from now on, and tells what came of it.
@@ -28,15 +31,11 @@ impl<'a> Shell<'a> {
 
     /// What comes of accepting a connection, and its socket if somebody is there.
     fn next_at(&self, door: Door) -> (Arrival, Option<Stream>) {
-        for _ in 0..MOST_GONE {
-            match self.accepted(door) {
-                Ok(stream) => return (Arrival::Somebody, Some(stream)),
-                Err(error) if error.kind() == ErrorKind::WouldBlock => {
-                    return (Arrival::Nobody, None);
-                }
-                Err(error) if is_short(&error) => return (Arrival::Later, None),
-                Err(error) if passes(&error) || error.kind() == ErrorKind::Interrupted => {}
-                Err(_) => return (Arrival::Never, None),
+        for tried in 0..MOST_GONE {
+            let accepted = self.accepted(door);
+            let left = LAST_TRY.saturating_sub(tried);
+            if let Some(arrival) = arrival_of(attempt_of(&accepted), left) {
+                return (arrival, accepted.ok());
             }
         }
         (Arrival::Later, None)
@@ -102,6 +101,17 @@ impl<'a> Shell<'a> {
             peer.note(Err(Trouble::OfService(Fault::MEMORY)));
         }
         peer
+    }
+}
+
+/// What an attempt to accept a connection came to.
+fn attempt_of(accepted: &io::Result<Stream>) -> Attempt {
+    match accepted {
+        Ok(_) => Attempt::Connection,
+        Err(error) if error.kind() == ErrorKind::WouldBlock => Attempt::Empty,
+        Err(error) if is_short(error) => Attempt::Short,
+        Err(error) if passes(error) || error.kind() == ErrorKind::Interrupted => Attempt::Gone,
+        Err(_) => Attempt::Broken,
     }
 }
 

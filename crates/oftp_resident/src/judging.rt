@@ -1,11 +1,12 @@
 //! What a request asks of the schedule, how a session ended, and what becomes of an error.
 
 ghost use Rattle.std.specs.Prelude.{◌≡◌};
-ghost use Rattle.oftp_resident.specs.Judged.{asking_of, closing_of, declined, ended_for, farewell_of, result_at, result_of, trouble_of, trouble_within};
+ghost use Rattle.oftp_resident.specs.Judged.{asking_of, closing_of, declined, ended_for, farewell_of, office_after, office_within, result_at, result_of, trouble_of, trouble_within};
 
-use oftp_channel::Request;
+use oftp_channel::{Ending as Answered, Request};
 use oftp_engine::{End, RunFault};
 use oftp_life::Stage;
+use oftp_listing::OfficeState;
 use oftp_outcomes::{Fault, Trouble};
 use oftp_schedule::connection::{self as schedule, Reason, Status};
 use oftp_session::Ending;
@@ -72,7 +73,7 @@ pub(crate) fn result_of(stage: Option<Stage>) -> Result<End, Trouble>
         Some(Stage::Ended(ending)) => Ok(End::from(ending)),
         Some(Stage::Failed(fault)) => Err(trouble_within(fault)),
         Some(Stage::Lost) => Err(trouble_of(RunFault::Office)),
-        Some(Stage::Waits) | None => Err(trouble_of(RunFault::Write)),
+        Some(Stage::Waits | Stage::Sends) | None => Err(trouble_of(RunFault::Write)),
     }
 }
 
@@ -124,6 +125,27 @@ pub(crate) fn closing_of(trouble: Option<Trouble>, term: Term) -> Closing
         (Some(Trouble::OfJob(fault)), _) => Closing::Tell(fault),
         (Some(Trouble::OfService(fault)), Term::OfJob) => Closing::Fail(fault),
         (Some(Trouble::OfService(_)), Term::OfService) => Closing::Nothing,
+    }
+}
+
+/// Whether the office failed under a request that ended like this.
+pub(crate) fn office_after(ending: &Answered) -> OfficeState
+    ensures { result ≡ office_after ending.now }
+{
+    match ending {
+        Answered::Failed(Fault::Run(RunFault::Office)) => OfficeState::Failed,
+        _ => OfficeState::Working,
+    }
+}
+
+/// Whether the service's office failed, where a life lasts so long and the office of a look-up was so: what fails with a job is no matter of
+/// the service.
+pub(crate) fn office_within(term: Term, office: OfficeState) -> OfficeState
+    ensures { result ≡ office_within term office }
+{
+    match term {
+        Term::OfService => office,
+        Term::OfJob => OfficeState::Working,
     }
 }
 

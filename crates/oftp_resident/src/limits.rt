@@ -3,20 +3,12 @@
 use crate::service::Bench;
 use oftp_partners::{Book, Partner};
 use oftp_schedule::connection::{self as schedule, Limits};
+use oftp_schedule::durations::{self, millis};
 use oftp_sockets::Station;
 use std::time::Duration;
 
-/// The milliseconds of a second.
-const SECOND: u32 = 1_000;
-
 /// The octets that a partner sends before it answers: its greeting, which is SSRM in a frame (RFC 5024, section 5.3.1).
 const GREETING: u32 = 23;
-
-/// For how many seconds a caller waits if the station's code is less than that of the called partner.
-const LESSER: u64 = 1;
-
-/// The same if it isn't. In a circle of stations that wait for each other, some have to wait less than others.
-const GREATER: u64 = 4;
 
 /// How many partners, commands and clients over HTTP are connected at once. Whoever else comes waits in the system's queue.
 const PARTNERS: u32 = 128;
@@ -57,22 +49,6 @@ const HELD: u64 = 67_108_864;
 /// How often a call gives way, at most. After that it fails.
 const TIMES: u32 = 10;
 
-/// A number of seconds in milliseconds; the greatest number if there are more.
-pub(crate) fn millis(seconds: u64) -> u32 {
-    match u32::try_from(seconds) {
-        Ok(seconds) => seconds.saturating_mul(SECOND),
-        Err(_) => u32::MAX,
-    }
-}
-
-/// How long a partner may be idle, where 0 seconds are no limit.
-pub(crate) fn patience_in_millis(seconds: u64) -> u32 {
-    match seconds {
-        0 => u32::MAX,
-        _ => millis(seconds),
-    }
-}
-
 /// How long a partner may be idle in the sessions of a station.
 fn patience_of(station: &Station<'_>) -> u32 {
     match station.patience {
@@ -87,12 +63,7 @@ fn length_of(length: Duration) -> u32 {
 
 /// How long a caller waits before a call of this partner gives way, by the codes of both stations.
 pub(crate) fn pause_of(book: &Book, partner: &Partner) -> u32 {
-    let own = book.station().code.as_str();
-    if own < partner.code.as_str() {
-        millis(LESSER)
-    } else {
-        millis(GREATER)
-    }
+    durations::pause_of(book.station().code.as_str() < partner.code.as_str())
 }
 
 /// A partner that the clock calls, at a place of the list of codes.

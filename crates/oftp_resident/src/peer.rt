@@ -140,6 +140,15 @@ impl<'a> Peer<'a> {
         self.out.len().saturating_sub(self.sent) as u64
     }
 
+    /// How many octets are held for it: none once all went.
+    fn held(&self) -> u64 {
+        match (&self.task, self.left()) {
+            (_, 0) => 0,
+            (Task::Command(_) | Task::Visitor, _) => self.out.len() as u64,
+            (Task::Caller(_) | Task::Call(_), left) => left,
+        }
+    }
+
     /// Lets octets go to it after those that are to go already.
     ///
     /// # Errors
@@ -206,11 +215,10 @@ impl<'a> Peer<'a> {
             }
         }
         self.drop_sent();
-        let left = self.left();
-        if left == before {
+        if self.left() == before {
             None
         } else {
-            Some(Signal::Went(left))
+            Some(Signal::Went(self.held()))
         }
     }
 
@@ -236,7 +244,7 @@ impl<'a> Peer<'a> {
         }
     }
 
-    /// Forgets the octets that went, once they are as many as those that are left.
+    /// Forgets the octets that went, once they are as many as those that are left, and gives their memory back.
     fn drop_sent(&mut self) {
         let left = self.out.len().saturating_sub(self.sent);
         if left == 0 {
@@ -244,6 +252,7 @@ impl<'a> Peer<'a> {
             self.sent = 0;
         } else if self.sent >= left {
             let _ = self.out.drain(..self.sent);
+            self.out.shrink_to_fit();
             self.sent = 0;
         }
     }

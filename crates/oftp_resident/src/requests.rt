@@ -3,7 +3,7 @@
 use crate::answers::answer_of;
 use crate::asked::{Asked, Made};
 use crate::home::Home;
-use crate::judging::declined;
+use crate::judging::{declined, office_within};
 use crate::page::PAGE;
 use crate::peer::{Peer, Reading, Task};
 use crate::service::{Shell, peer_in};
@@ -14,7 +14,7 @@ use oftp_listing::{ListFault, OfficeState, Reply, Site, reply_at, reply_of_any, 
 use oftp_outcomes::{Fault, Outcome, Trouble};
 use oftp_register::Office;
 use oftp_schedule::connection::{Reason, Signal};
-use oftp_sockets::{Keeper, Term};
+use oftp_sockets::Keeper;
 use std::alloc::Global;
 use std::net::IpAddr;
 
@@ -41,8 +41,9 @@ impl Shell<'_> {
         if let Err(trouble) = home.open(rt, keeper) {
             peer.note(Err(trouble));
         }
-        let made = peer.look_at(alloc, site, home);
-        self.take_answer(id, within(keeper.term(), made))
+        let Made { octets, office } = peer.look_at(alloc, site, home);
+        let office = office_within(keeper.term(), office);
+        self.take_answer(id, Made { octets, office })
     }
 
     /// Makes a change, and tells the length of its answer.
@@ -253,14 +254,6 @@ fn reply_in<O: Office + Drop>(
         Home::Idle(life) => reply_at(alloc, site, PAGE, address, request, life),
         Home::Talking(session) => reply_at(alloc, site, PAGE, address, request, session),
         Home::Away => Err(ListFault::Memory),
-    }
-}
-
-/// An answer, where an office lasts as long: what fails with a job is no matter of the service.
-fn within(term: Term, made: Made) -> Made {
-    match term {
-        Term::OfService => made,
-        Term::OfJob => made.of_job(),
     }
 }
 

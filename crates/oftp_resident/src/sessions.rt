@@ -52,7 +52,7 @@ impl<'a> Shell<'a> {
             let piece = peer.take_heard(alloc);
             count = u32::try_from(piece.len()).unwrap_or(u32::MAX);
             let heard = session.hear(piece.as_slice());
-            if let (Err(fault), Stage::Waits) = (heard, session.stage()) {
+            if let (Err(fault), Stage::Waits | Stage::Sends) = (heard, session.stage()) {
                 peer.note(Err(trouble_of(fault)));
             }
         }
@@ -74,9 +74,8 @@ impl<'a> Shell<'a> {
         let stage = peer.take_said(alloc, home);
         // What fails there is noted.
         let _ = peer.send();
-        let waits = is_waiting(&stage);
-        if waits && peer.ended.is_none() {
-            let step = peer.step(heard);
+        if goes_on(&stage) && peer.ended.is_none() {
+            let step = peer.step(&stage, heard);
             return self.tell(id, Signal::Waits(step));
         }
         peer.note(result_of(stage));
@@ -171,11 +170,15 @@ impl<'a> Peer<'a> {
         Some(session.stage())
     }
 
-    /// What a step leaves that heard so many octets.
-    fn step(&mut self, heard: u32) -> Step {
+    /// What a step leaves that heard so many octets. A session that sends a file goes on without more octets.
+    fn step(&mut self, stage: &Option<Stage>, heard: u32) -> Step {
+        let input = match stage {
+            Some(Stage::Sends) => Input::Here,
+            _ => self.input(),
+        };
         Step {
             heard,
-            input: self.input(),
+            input,
             backlog: self.left(),
         }
     }
@@ -254,7 +257,7 @@ impl<'a> Peer<'a> {
     }
 }
 
-/// Whether a session waits for its partner.
-fn is_waiting(stage: &Option<Stage>) -> bool {
-    matches!(stage, Some(Stage::Waits))
+/// Whether a session goes on.
+fn goes_on(stage: &Option<Stage>) -> bool {
+    matches!(stage, Some(Stage::Waits | Stage::Sends))
 }

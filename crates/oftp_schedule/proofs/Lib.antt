@@ -10,10 +10,14 @@ pub mod Evicting
 pub mod Places
 pub mod Lives
 pub mod Tallies
+pub mod Keeping
 pub mod Still
+pub mod Settled
 pub mod Yielding
+pub mod Timely
 pub mod Deadlines
 pub mod Within
 pub mod Lengths
 pub mod Wakeups
+pub mod Turns
 pub mod Resting

@@ -334,7 +334,7 @@ broken_printed Unreached = refl
 broken_printed Orphaned = refl
 broken_printed Stopping = refl
 
-broken_closed : (why : Reason) → closed why Broken ≡ Broken
+pub broken_closed : (why : Reason) → closed why Broken ≡ Broken
 broken_closed Evicted = refl
 broken_closed Invalid = refl
 broken_closed TimedOut = refl
@@ -364,7 +364,7 @@ broken_ordered (Close i why) = broken_closed why
 broken_ordered (Decline i why) = broken_denied why
 broken_ordered a = refl
 
-broken_note : (id : ℕ) (n : Note) → life id Broken n ≡ Broken
+pub broken_note : (id : ℕ) (n : Note) → life id Broken n ≡ Broken
 broken_note id (Ordered a) = elim (is_about id a) as (λ b. (if b then ordered a Broken else Broken) ≡ Broken) [ true ↦ broken_ordered a | false ↦ refl ]
 broken_note id (Heard (Accepted i a)) = elim (i == id) as (λ b. (if b then entered Broken a else Broken) ≡ Broken) [ true ↦ refl | false ↦ refl ]
 broken_note id (Heard (Told i g)) = elim (i == id) as (λ b. (if b then heard Broken g else Broken) ≡ Broken) [ true ↦ refl | false ↦ refl ]
@@ -375,7 +375,7 @@ broken_notes id [] = refl
 broken_notes id (n ∷ ns) = ap (λ st. watch (life id) st ns) (broken_note id n) ∙ broken_notes id ns
 
 -- what is ordered may be ordered where a life stands
-may_be : (l : Limits) (ms : List Move) (id : ℕ) (a : Action) (before after : List Note) → is_about id a ≡ true → history (start l) ms ≡ before ++ Ordered a ∷ after
+pub may_be : (l : Limits) (ms : List Move) (id : ℕ) (a : Action) (before after : List Note) → is_about id a ≡ true → history (start l) ms ≡ before ++ Ordered a ∷ after
     → ordered a (watch (life id) Unbegun before) ≢ Broken
 may_be l ms id a before after y e b =
     never_broken l ms id

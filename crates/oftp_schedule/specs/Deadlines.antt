@@ -6,7 +6,7 @@ use Rattle.oftp_schedule.specs.declared.connection.Way.{Way}
 use Rattle.oftp_schedule.specs.declared.connection.Way.TheVariants.{In, Out, Unanswered}
 use Rattle.oftp_schedule.specs.declared.connection.Input.TheVariants.{Awaited}
 use Rattle.oftp_schedule.specs.declared.connection.Phase.{Phase}
-use Rattle.oftp_schedule.specs.declared.connection.Phase.TheVariants.{Stranger, Guest, Stepping, Between, Parting, Asking, Copying, Answered, Dialing, Connected}
+use Rattle.oftp_schedule.specs.declared.connection.Phase.TheVariants.{Stranger, Guest, Stepping, Between, Parting, Asking, Copying, Answered, Wanted, Dialing, Connected}
 use Rattle.oftp_schedule.specs.declared.connection.Call.{Call}
 use Rattle.oftp_schedule.specs.declared.connection.Session.{Session}
 use Rattle.oftp_schedule.specs.declared.connection.Connection.{Connection}
@@ -15,10 +15,12 @@ use Rattle.oftp_schedule.specs.declared.connection.Event.{Event}
 use Rattle.oftp_schedule.specs.declared.connection.Event.TheVariants.{Accepted, Told}
 use Rattle.oftp_schedule.specs.declared.connection.Gate.TheVariants.{Knocked, Resting}
 use Rattle.oftp_schedule.specs.declared.connection.Clock.TheVariants.{At}
-use Rattle.oftp_schedule.specs.declared.connection.Reply.TheVariants.{Yield}
+use Rattle.oftp_schedule.specs.declared.connection.Reply.TheVariants.{Refuse, Redial, Yield, Leave, Break}
+use Rattle.oftp_schedule.specs.declared.connection.Reply.{Reply}
+use Rattle.oftp_schedule.specs.declared.connection.Reason.TheVariants.{TimedOut, Stalled, Unreached}
 use Rattle.oftp_schedule.specs.declared.connection.Choice.{Choice}
 use Rattle.oftp_schedule.specs.declared.connection.Choice.TheVariants.{Nothing, Finish, Settle, Start, Proceed, Consult, Perform, Lend, Seek}
-use Rattle.oftp_schedule.specs.Rules.{answering, dialing_time, due, hurried_phase, owed_phase, shared_phase, in_phase, is_between_phase, is_guest_phase, is_ripe_phase, connection_at, phase_at}
+use Rattle.oftp_schedule.specs.Rules.{answering, dialing_time, due, hurried_phase, owed_phase, shared_phase, in_phase, is_between_phase, is_guest_phase, is_ripe_phase, is_late, call_at, once_less, connection_at, phase_at}
 use Rattle.oftp_schedule.specs.Machine.{State, gate, received, is_ending, consult, is_busy, choice, is_past, next_time, Move, step, Ask}
 
 -- 1. Limits
@@ -172,6 +174,39 @@ YieldsInTime s =
 -- and so is every moment that the shell is told: it never asks in vain (a door rests for some time, and times are as small as the shell tells them)
 abbrev pub IsToCome : State → Type 0
 IsToCome s = (t : ℕ) → IsStill s → 0 < s.limits.rest → s.now < 2 ^ 63 → next_time s ≡ Some t → s.now < t
+
+-- what is done to one whose time is over: it is closed, declined, or made again
+abbrev pub is_of_time : Reply → Bool
+is_of_time (Leave TimedOut) = true
+is_of_time (Leave Unreached) = true
+is_of_time (Refuse p TimedOut) = true
+is_of_time (Redial p) = true
+is_of_time (Break TimedOut) = true
+is_of_time (Break Stalled) = true
+is_of_time r = false
+
+-- its own time is over
+abbrev pub HasNoTime : State → ℕ → Type 0
+HasNoTime s id = (c : Connection) × (connection_at id s.connections ≡ Some c) × (is_late s.now c ≡ true)
+
+-- or it is a call that would give way, and gave way as often as it may
+abbrev pub HasNoMore : State → ℕ → Type 0
+HasNoMore s id = (x : Session) × (c : Call) × (k : ℕ) × (phase_at id s.connections ≡ Some (Between x)) × (x.way ≡ Unanswered c k) × (c.times ≡ 0)
+
+-- this is done to nobody before
+abbrev pub IsOfTime : State → Choice → Type 0
+IsOfTime s (Settle id r) = is_of_time r ≡ true → HasNoTime s id ⊎ HasNoMore s id
+IsOfTime s c = Unit {0}
+
+-- the call of connection id is made again in phase p: it may be so once less, and could be
+abbrev pub HasOneLess : State → ℕ → Phase → Type 0
+HasOneLess s id p = (c : Call) × (call_at (connection_at id s.connections) ≡ Some c) × (0 < c.times) × (p ≡ Wanted (once_less c))
+
+-- each time that a call hangs up or gives way it may do so once less, and none does so more often than it may
+abbrev pub IsOnceLess : State → Choice → Type 0
+IsOnceLess s (Settle id (Redial p)) = HasOneLess s id p
+IsOnceLess s (Settle id (Yield p)) = HasOneLess s id p
+IsOnceLess s c = Unit {0}
 
 -- 5. The end of the station
 

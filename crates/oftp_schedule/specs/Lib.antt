@@ -8,3 +8,4 @@ pub mod Doors
 pub mod Life
 pub mod Deadlines
 pub mod Wakeups
+pub mod Accepting

@@ -276,6 +276,11 @@ abbrev pub prints : Action → Bool
 prints (Print i why) = true
 prints a = false
 
+-- its peer is gone
+abbrev pub is_lost : Signal → Bool
+is_lost Lost = true
+is_lost g = false
+
 -- a request for this is whole
 abbrev pub asks_for : Request → Signal → Bool
 asks_for Query (Asked Query) = true

@@ -5,22 +5,24 @@ ghost use Rattle.oftp_schedule.specs.declared.connection.Limits.{Limits};
 ghost use Rattle.oftp_schedule.specs.Machine.{State, Move, start, run, step, choice, is_ending};
 ghost use Rattle.oftp_schedule.specs.Apart.{IsApart, ChosenApart, IsPaced, IsDated, IsBrief, IsRested};
 ghost use Rattle.oftp_schedule.specs.Doors.{evictions, leaver, number};
-ghost use Rattle.oftp_schedule.specs.Order.{IsFirst};
+ghost use Rattle.oftp_schedule.specs.Order.{IsFirst, IsTurn, IsRound};
 ghost use Rattle.oftp_schedule.specs.Ends.{BeginsNothing, Departs, IsOver};
 ghost use Rattle.oftp_schedule.specs.declared.connection.Request.{Request};
-ghost use Rattle.oftp_schedule.specs.declared.connection.Action.TheVariants.{Answer};
+ghost use Rattle.oftp_schedule.specs.declared.connection.Reason.{Reason};
+ghost use Rattle.oftp_schedule.specs.declared.connection.Action.TheVariants.{Answer, Close};
 ghost use Rattle.oftp_schedule.specs.History.{Note, Ordered, history, watch};
-ghost use Rattle.oftp_schedule.specs.Life.{Unbegun, Broken, life, stage_of, hands, answers, declines, refusals, prints, asks_for, wants_call, handing, times_ordered, times_told};
+ghost use Rattle.oftp_schedule.specs.Life.{Unbegun, Whole, Broken, life, stage_of, hands, answers, declines, refusals, prints, asks_for, wants_call, handing, is_lost, times_ordered, times_told};
 ghost use Rattle.oftp_schedule.specs.declared.connection.Event.{Event};
 ghost use Rattle.oftp_schedule.specs.declared.connection.Phase.{Phase};
-ghost use Rattle.oftp_schedule.specs.Deadlines.{IsWithin, SessionsEnd, KeepsEnds, KnowsDeadlines, KnowsClock, KnowsRests, KnowsRoom, KnowsQuiet, KnowsWay, IsUnmovedBy, IsUnmoved, IsKept, IsOnTime, GivesWay, YieldsInTime, IsHastened, IsToCome};
+ghost use Rattle.oftp_schedule.specs.Deadlines.{IsWithin, SessionsEnd, KeepsEnds, KnowsDeadlines, KnowsClock, KnowsRests, KnowsRoom, KnowsQuiet, KnowsWay, IsUnmovedBy, IsUnmoved, IsKept, IsOnTime, GivesWay, YieldsInTime, IsOfTime, IsOnceLess, IsHastened, IsToCome};
 ghost use Rattle.oftp_schedule.specs.Wakeups.{GuestsAreAwake, UpdatesAreAwake, UpsAreAwake, ClockIsAwake, QueriesAreAwake, SessionIsAwake, CallsAreAwake, CommandsAreAwake, DoorsAreAwake, EndIsAwake, EndComes};
 
 /// Each deadline lies within its limit, a session ends in its time, and nothing moves that. `Schedule::poll_timeout` is no later than any
 /// moment at which something is to be done. What is told of others, and what is chosen for them, moves no deadline: only the end of the
 /// station makes answers hurry, and from then on none of them gains time. And where the schedule says nothing more, no deadline is past,
 /// and `Schedule::poll_timeout` is to come, if a door rests for any time at all. A call gives way no earlier than after its partner's pause,
-/// and only while nothing of that partner is there to hear.
+/// and only while nothing of that partner is there to hear. Nobody is closed, declined or made again for its time before that is over, but a call
+/// that has given way as often as it may: each time that a call hangs up or gives way it may do so once less.
 pub fn gone_in_time()
     ensures within { (limits : Limits) (moves : List Move) → IsWithin limits (run (start limits) moves) }
     ensures ends { (limits : Limits) (moves : List Move) → SessionsEnd limits (run (start limits) moves) }
@@ -37,6 +39,8 @@ pub fn gone_in_time()
     ensures gone { (limits : Limits) (moves : List Move) → IsOnTime (run (start limits) moves) }
     ensures gives_way { (limits : Limits) (moves : List Move) → GivesWay (run (start limits) moves) }
     ensures yields { (limits : Limits) (moves : List Move) → YieldsInTime (run (start limits) moves) }
+    ensures early { (limits : Limits) (moves : List Move) → IsOfTime (run (start limits) moves) (choice (run (start limits) moves)) }
+    ensures fewer { (limits : Limits) (moves : List Move) → IsOnceLess (run (start limits) moves) (choice (run (start limits) moves)) }
     ensures hastens { (limits : Limits) (moves : List Move) (next : Move) → IsHastened (run (start limits) moves) next }
     ensures to_come { (limits : Limits) (moves : List Move) → IsToCome (run (start limits) moves) }
 {}
@@ -63,6 +67,7 @@ pub fn no_lost_wakeup()
 ///
 /// So a request is handed over once, and as what it is, and not if it is declined at the end of the station; it is answered once or
 /// declined, and not answered before it was handed over, unless it waits for a call; and one line at most is printed for a connection.
+/// Who asked, and whose request is whole, is closed only after its answer, a refusal, or the news that it is gone.
 pub fn at_most_once()
     ensures life { (limits : Limits) (moves : List Move) (id : ℕ) →
         watch (life id) Unbegun (history (start limits) moves) ≡ stage_of id (run (start limits) moves) }
@@ -79,6 +84,9 @@ pub fn at_most_once()
     ensures answer { (limits : Limits) (moves : List Move) (id : ℕ) (before after : List Note) →
         history (start limits) moves ≡ before ++ Ordered (Answer id) ∷ after →
         1 ≤ times_ordered hands id before + times_told wants_call id before }
+    ensures kept { (limits : Limits) (moves : List Move) (id : ℕ) (request : Request) (why : Reason) (before between after : List Note) →
+        history (start limits) moves ≡ (before ++ between) ++ Ordered (Close id why) ∷ after → watch (life id) Unbegun before ≡ Whole request →
+        1 ≤ times_ordered answers id between + (times_ordered declines id between + times_told is_lost id between) }
 {}
 
 /// One thing at a time. The office has one job at most: a step of a session, a request, or the clock's look-up. There is one session, or one
@@ -98,8 +106,13 @@ pub fn one_at_a_time()
 
 /// Of each kind the first in the table is served first, and a session begins only where no change or copy is owed that came within the last
 /// one. Who is let in, and whose request is whole, goes to the end of the table by the machine's definition (`Queue`, specs/Machine.antt).
+///
+/// While a guest waits, a change that isn't owed, a look-up or a call comes only in its turn: between two such changes a session begins, and no
+/// call is begun where the last session was a call's.
 pub fn in_order()
-    ensures { (limits : Limits) (moves : List Move) → IsFirst (run (start limits) moves) (choice (run (start limits) moves)) }
+    ensures first { (limits : Limits) (moves : List Move) → IsFirst (run (start limits) moves) (choice (run (start limits) moves)) }
+    ensures turn { (limits : Limits) (moves : List Move) → IsTurn (run (start limits) moves) (choice (run (start limits) moves)) }
+    ensures round { (limits : Limits) (before during : List Move) → IsRound (run (start limits) before) during }
 {}
 
 /// Once the station is to end, and a door that failed or a failed office is such a cause, it stays so and nothing new begins: nobody is

@@ -1,7 +1,9 @@
 //! The schedule: what was told, what is done next, and what is to be done for it.
 
 ghost use Rattle.std.specs.Prelude.{◌≡◌, ◌+◌, min, ◌++◌, ◌^◌, ◌<◌, ◌≤◌, ◌∷◌, [], OnOk, IfOk, IsTrue, OnErr, find, map, filter, count_by};
-ghost use Rattle.oftp_schedule.specs.declared.schedule.TheConstants.{MOST_RESERVED};
+ghost use Rattle.std.specs.Vec.{vec_capacity};
+ghost use Rattle.std.specs.VecDeque.{deque_capacity};
+ghost use Rattle.oftp_schedule.specs.declared.schedule.TheConstants.{MOST_RESERVED, RESERVED_ACTIONS};
 ghost use Rattle.oftp_schedule.specs.Rules.{call_at, connection_at};
 ghost use Rattle.oftp_schedule.specs.Machine.{start, step, Tell, Ask, IsInTime, and_then, polled, next_time};
 
@@ -82,6 +84,21 @@ fn reserved(limits: &Limits) -> usize
     (doors + u64::from(calls)).min(MOST_RESERVED) as usize
 }
 
+/// An empty table with room for so many.
+fn table_for(alloc: Global, limits: &Limits) -> Result<Vec<Connection>, AllocError>
+    ensures { IfOk result (λ table. (table.items ≡ []) ×
+        (min (limits.now.partners + limits.now.commands + limits.now.requests + limits.now.commands) MOST_RESERVED ≤ vec_capacity table)) }
+{
+    Vec::with_capacity(alloc, reserved(limits))
+}
+
+/// An empty list of actions with room for some.
+fn actions_reserved(alloc: Global) -> Result<VecDeque<Action>, AllocError>
+    ensures { IfOk result (λ actions. (actions.items ≡ []) × (RESERVED_ACTIONS ≤ deque_capacity actions)) }
+{
+    VecDeque::with_capacity(alloc, RESERVED_ACTIONS)
+}
+
 impl Schedule {
     /// A schedule with these limits, at moment 0 of the clock. It has room for as many connections as its doors have places, and for a call
     /// for each command, but for 4,096 at most. While no more are there at once, it allocates nothing for them later.
@@ -91,8 +108,8 @@ impl Schedule {
     pub fn new(alloc: Global, limits: Limits) -> Result<Schedule, AllocError>
         ensures { IfOk result (λ made. made ≡ (start limits, [])) }
     {
-        let connections = Vec::with_capacity(alloc, reserved(&limits))?;
-        let actions = VecDeque::with_capacity(alloc, RESERVED_ACTIONS)?;
+        let connections = table_for(alloc, &limits)?;
+        let actions = actions_reserved(alloc)?;
         let clock = if limits.interval > 0 {
             Clock::At(u64::from(limits.interval))
         } else {

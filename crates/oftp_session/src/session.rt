@@ -231,6 +231,16 @@ impl<'b> Session<'b> {
         }
     }
 
+    /// Whether the exchange buffers of a file are being sent (RFC 5024, section 5.3.6). It allocates nothing.
+    pub fn is_sending(&self) -> bool
+        ensures { result ≡ is_sending self.now.standing }
+    {
+        match &self.state {
+            Some(state) => state.is_sending(),
+            None => false,
+        }
+    }
+
     /// How the session ended, if it did. It allocates nothing.
     pub fn ended(&self) -> Option<Ending>
         ensures phase { (p : Phase) → Stands p self.now → result ≡ ending_of p }

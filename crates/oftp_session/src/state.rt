@@ -2,7 +2,7 @@
 
 ghost use Rattle.std.specs.Prelude.{◌≡◌, if◌then◌else◌, None, is_some, option_map};
 ghost use Rattle.oftp_session.specs.Phases.{fails, leaves, unexpected};
-ghost use Rattle.oftp_session.specs.Standings.{ended_as, is_closed, is_due, standing_of};
+ghost use Rattle.oftp_session.specs.Standings.{ended_as, is_closed, is_due, is_sending, standing_of};
 ghost use Rattle.oftp_session.specs.Callers.{code_of};
 ghost use Rattle.oftp_session.specs.Recalling.{recalled_of};
 ghost use Rattle.oftp_session.specs.Inside.{Goes};
@@ -144,6 +144,27 @@ impl State {
             | State::AwaitingSsid
             | State::ListenerIdle(_)
             | State::Receiving(_, _)
+            | State::AwaitingRtr(_, _)
+            | State::AwaitingStart(_, _)
+            | State::AwaitingEnd(_, _)
+            | State::EndedHere(_)
+            | State::EndedThere(_) => false,
+        }
+    }
+
+    /// Whether the buffers of a file are being sent.
+    pub(crate) fn is_sending(&self) -> bool
+        ensures { result ≡ is_sending (standing_of self.now) }
+    {
+        match self {
+            State::Sending(_, _) => true,
+            State::ResponderOpening
+            | State::InitiatorOpening
+            | State::AwaitingSsid
+            | State::ListenerIdle(_)
+            | State::Receiving(_, _)
+            | State::SpeakerIdle(_, _)
+            | State::GivingWay(_)
             | State::AwaitingRtr(_, _)
             | State::AwaitingStart(_, _)
             | State::AwaitingEnd(_, _)

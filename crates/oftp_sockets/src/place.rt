@@ -4,11 +4,17 @@ use std::fs::{self, File, Files};
 use std::io::{self, ErrorKind};
 use std::net::Net;
 use std::os::fd::{AsFd, AsRawFd};
-use std::os::unix::fs::FileTypeExt;
+use std::os::unix::fs::{FileTypeExt, MetadataExt};
 use std::os::unix::net::{SocketAddr, UnixListener, UnixStream};
 
 /// The ending of the socket's name after the database's name.
 const ENDING: &str = "-station";
+
+/// Up to how many octets of a database's name a socket's address has room for.
+const LONGEST_NAME: usize = 80;
+
+/// The beginning of the socket's name where the database's is longer. The number of the database's file follows.
+const INSTEAD: &str = ".oftp_station_of_";
 
 /// The mode of the socket's file: whoever may write it may connect.
 const MODE: u32 = 0o600;
@@ -35,9 +41,10 @@ impl SocketPlace {
         let (Some(folder), Some(name)) = (real.parent(), real.file_name()) else {
             return Err(io::Error::from(ErrorKind::NotFound));
         };
+        let own = socket_name(rt, real.as_str(), name)?;
         let folder = File::open(rt, folder.as_str())?;
         let fd = folder.as_raw_fd();
-        let path = format!(in rt.alloc(); "/proc/self/fd/{fd}/{name}{}", ENDING)?;
+        let path = format!(in rt.alloc(); "/proc/self/fd/{fd}/{own}")?;
         Ok(SocketPlace { folder, path })
     }
 
@@ -78,6 +85,15 @@ impl SocketPlace {
             _ => Ok(()),
         }
     }
+}
+
+/// The name of the socket of a database with this path and name.
+fn socket_name(rt: &HostRuntime, path: &str, name: &str) -> io::Result<String> {
+    if name.len() <= LONGEST_NAME {
+        return Ok(format!(in rt.alloc(); "{name}{}", ENDING)?);
+    }
+    let number = fs::metadata(rt, path)?.ino();
+    Ok(format!(in rt.alloc(); "{}{number}", INSTEAD)?)
 }
 
 /// The system's error, if a C function returned a negative number.

@@ -64,11 +64,11 @@ fn say<O: Office, W: Write>(
         Stage::Lost => Err(RunFault::Office),
         _ if !is_sent => Err(RunFault::Write),
         Stage::Ended(ending) => Ok(Some(End::from(ending))),
-        Stage::Waits => Ok(None),
+        Stage::Waits | Stage::Sends => Ok(None),
     }
 }
 
-/// Lets the session hear the next octets of its partner. Returns its end if there are no more.
+/// Lets the session hear the next octets of its partner, or go on if it sends a file. Returns its end if there are no more octets.
 ///
 /// # Errors
 /// The reader returned an error; or there is no memory for the octets.
@@ -77,17 +77,20 @@ fn hear<O: Office, R: Read>(
     reader: &mut Port<R>,
 ) -> Result<Option<End>, RunFault> {
     let mut piece = [0; PIECE];
-    match reader.read(&mut piece) {
-        None => Err(RunFault::Read),
-        Some(0) => Ok(Some(End::Input)),
-        Some(count) => {
-            let heard = session.hear(&piece[..count]);
-            match (heard, session.stage()) {
-                // There was no room for the octets.
-                (Err(fault), Stage::Waits) => Err(fault),
-                // How it stands is told once what it said was sent.
-                _ => Ok(None),
-            }
-        }
+    let count = match session.stage() {
+        // It goes on without more octets.
+        Stage::Sends => 0,
+        _ => match reader.read(&mut piece) {
+            None => return Err(RunFault::Read),
+            Some(0) => return Ok(Some(End::Input)),
+            Some(count) => count,
+        },
+    };
+    let heard = session.hear(&piece[..count]);
+    match (heard, session.stage()) {
+        // There was no room for the octets.
+        (Err(fault), Stage::Waits | Stage::Sends) => Err(fault),
+        // How it stands is told once what it said was sent.
+        _ => Ok(None),
     }
 }

@@ -5,8 +5,9 @@ mod perform;
 
 use oftp_outcomes::Output;
 use perform::{perform, tell_unread};
+use std::env;
+use std::io::{self, LineWriter, Write};
 use std::process::ExitCode;
-use std::{env, io};
 
 /// The arguments after the program's name.
 fn words_of(rt: &HostRuntime) -> io::Result<Vec<String>> {
@@ -17,15 +18,18 @@ fn words_of(rt: &HostRuntime) -> io::Result<Vec<String>> {
     Ok(words)
 }
 
+/// Carries out the command of the program's arguments. Returns the exit status.
+fn run(rt: &HostRuntime, err: &mut impl Write) -> io::Result<u8> {
+    let words = words_of(rt)?;
+    // A line goes out in one write, so that a command that is killed has printed all of its line or nothing.
+    let lines = LineWriter::new(rt.alloc(), rt.stdout())?;
+    Ok(perform(rt, words.as_slice(), &mut Output::new(lines), err))
+}
+
 fn main(rt: HostRuntime) -> ExitCode {
     let mut err = rt.stderr();
-    ExitCode::from(match words_of(&rt) {
-        Ok(words) => perform(
-            &rt,
-            words.as_slice(),
-            &mut Output::new(rt.stdout()),
-            &mut err,
-        ),
+    ExitCode::from(match run(&rt, &mut err) {
+        Ok(status) => status,
         Err(error) => tell_unread(&error, &mut err),
     })
 }

@@ -19,6 +19,7 @@ mod operators;
 mod refused;
 mod stations;
 mod third;
+mod three_stations;
 
 /// The partner's SSID and an EERP.
 const INPUT: &[u8] = b"\x10\0\0\x41X5O0177CARMAKER            CARPW   00128BNYN002N            \r\

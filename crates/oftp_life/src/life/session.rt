@@ -3,8 +3,7 @@
 ghost use Rattle.std.specs.Prelude.{◌≡◌, ◌≢◌, [], ◌∷◌, ◌++◌, true, false};
 ghost use Rattle.oftp_engine.specs.Served.{setting_of};
 ghost use Rattle.oftp_life.specs.Acts.{Conversed};
-ghost use Rattle.oftp_life.specs.Lives.{HasLeft, Heard, IsSession, answer_of, is_over_at};
-ghost use Rattle.oftp_life.specs.Looks.{has_ceased};
+ghost use Rattle.oftp_life.specs.Lives.{HasLeft, Heard, IsSession, answer_of, has_ceased, is_over_at};
 ghost use Rattle.oftp_life.specs.Outboxes.{octets_out};
 
 mod admitting;
@@ -92,9 +91,9 @@ impl<O: Office> Life<O> {
         let mut office = office;
         let mut out = out;
         let mut conversation = conversation;
-        let answer = conversation.go_on(&mut office, &mut out);
+        let went = conversation.go_on_in_parts(&mut office, &mut out);
         let history = history.then(&Note::Began(book, role, out.inner()));
-        let stage = stage_of(&answer);
+        let stage = stage_of(&went);
         LifeSession {
             office,
             began,
@@ -120,32 +119,31 @@ impl<O: Office> LifeSession<'_, O> {
         self.stage
     }
 
-    /// Hears the next octets of the partner, and goes on as far as they reach. It returns how the session ended, or `None` where it waits for
-    /// more. A session that doesn't wait returns the same again.
+    /// Hears the next octets of the partner, if there are any, and goes on as far as they reach. It returns how the session ended, or `None`
+    /// where it waits for more, or sends a file: then it made some exchange buffers, and makes the next ones once it is called again. A
+    /// session that can't go on returns the same again.
     ///
     /// # Errors
     ///
-    /// - [`RunFault::Memory`] where there is no room for the octets: the session is as it was, and waits.
-    /// - Those of [`Conversation::go_on`]. The session is then cut short; after [`RunFault::Office`] its life is over.
+    /// - [`RunFault::Memory`] where there is no room for the octets: the session is as it was, and waits or sends.
+    /// - Those of [`Conversation::go_on_in_parts`]. The session is then cut short; after [`RunFault::Office`] its life is over.
     pub fn hear(&mut self, octets: &[u8]) -> Result<Option<Ending>, RunFault>
         ensures began { self.new.began ≡ self.old.began }
-        ensures idle { self.old.stage ≢ Stage.Waits → (self.new ≡ self.old) × (result ≡ answer_of self.old.stage) }
-        ensures heard { self.old.stage ≡ Stage.Waits → Heard self.old self.new octets.now result }
+        ensures idle { has_ceased self.old.stage ≡ true → (self.new ≡ self.old) × (result ≡ answer_of self.old.stage) }
+        ensures heard { has_ceased self.old.stage ≡ false → Heard self.old self.new octets.now result }
         // The headline.
         ensures leaves { HasLeft O.view self.new.began self.new.acts (is_over_at self.new.stage) self.new.office }
         ensures clean { (O.view self.new.office).clean → (O.view self.old.office).clean }
     {
-        match self.stage {
-            Stage::Waits => self.take(octets),
-            Stage::Ended(ending) => Ok(Some(ending)),
-            Stage::Failed(fault) => Err(fault),
-            Stage::Lost => Err(RunFault::Office),
+        if self.stage.has_ceased() {
+            return self.stage.answer();
         }
+        self.take(octets)
     }
 
-    // Hears octets while it waits.
+    // Hears octets while it can go on.
     fn take(&mut self, octets: &[u8]) -> Result<Option<Ending>, RunFault>
-        requires { self.old.stage ≡ Stage.Waits }
+        requires { has_ceased self.old.stage ≡ false }
         ensures began { self.new.began ≡ self.old.began }
         ensures heard { Heard self.old self.new octets.now result }
         ensures leaves { HasLeft O.view self.new.began self.new.acts (is_over_at self.new.stage) self.new.office }
@@ -155,10 +153,12 @@ impl<O: Office> LifeSession<'_, O> {
             Ok(()) => {}
             Err(_) => return Err(RunFault::Memory),
         }
-        let answer = self.conversation.go_on(&mut self.office, &mut self.out);
+        let went = self
+            .conversation
+            .go_on_in_parts(&mut self.office, &mut self.out);
         self.history = self.history.then(&Note::Heard(octets, self.out.inner()));
-        self.stage = stage_of(&answer);
-        answer
+        self.stage = stage_of(&went);
+        self.stage.answer()
     }
 
     /// Takes the octets that are to go to the partner. The session stays as it is.
@@ -173,16 +173,6 @@ impl<O: Office> LifeSession<'_, O> {
         let taken = out.take(alloc);
         let _ = self.out.replace(out);
         taken
-    }
-
-    // Whether it doesn't wait.
-    fn has_ceased(&self) -> bool
-        ensures { result ≡ has_ceased self.now.stage }
-    {
-        match self.stage {
-            Stage::Waits => false,
-            Stage::Ended(_) | Stage::Failed(_) | Stage::Lost => true,
-        }
     }
 
     /// Ends the session where it stands, whatever the cause: it has ended, or its input has, or it is given up. Returns its life, and the

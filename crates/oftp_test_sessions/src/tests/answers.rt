@@ -58,7 +58,7 @@ fn answers(
     let submit = Operator::Submit(THREE_OCTETS);
     let told = call(alloc, &mut office, &book, &submit, &mut Vec::new(alloc));
     assert!(rt; told == Ok(Told::Done(1)));
-    let octets = joined(alloc, GREETING, answer.heard)?;
+    let octets = joined(alloc, &[GREETING, answer.heard])?;
     let line = Line {
         octets: octets.as_slice(),
         at_once,
@@ -67,16 +67,19 @@ fn answers(
     let role = caller(&book, b"O0177CARMAKER")?;
     let heard = hear(alloc, &mut office, &book, role, line, 1_000_000);
     assert!(rt; heard.end == Ok(answer.end));
-    let said = joined(alloc, OFFER, answer.said)?;
+    let said = joined(alloc, &[OFFER, answer.said])?;
     assert!(rt; heard.said.as_slice() == said.as_slice());
     let file = office.out_by_no(1)?;
     assert!(rt; file.is_some_and(|file| file.state == answer.state && file.mark == 0));
     Ok(())
 }
 
-pub(crate) fn joined(alloc: Global, first: &[u8], second: &[u8]) -> Result<Vec<u8>, AllocError> {
-    let mut all = first.to_vec(alloc)?;
-    all.extend_from_slice(second)?;
+/// Some parts in one.
+pub(crate) fn joined(alloc: Global, parts: &[&[u8]]) -> Result<Vec<u8>, AllocError> {
+    let mut all = Vec::new(alloc);
+    for part in parts {
+        all.extend_from_slice(part)?;
+    }
     Ok(all)
 }
 

@@ -78,10 +78,10 @@ fn jobs_as_they_come(rt: HostRuntime) -> Result<(), Fail> {
     let mut life = Life::new(Noting::new(alloc, None));
     let called = submit(alloc, &mut life, &book);
     assert!(rt; is_done(&called, 1, b"done: submit 1\n"));
-    let octets = joined(alloc, GREETING, TAKES)?;
+    let octets = joined(alloc, &[GREETING, TAKES])?;
     let role = caller(&book, b"O0177CARMAKER")?;
     let (mut life, talked) = talk(alloc, life, &book, role, octets.as_slice())?;
-    let said = joined(alloc, OFFER, SENT)?;
+    let said = joined(alloc, &[OFFER, SENT])?;
     assert!(rt; is_ended(&talked, said.as_slice()));
     let left = snapshot(alloc, &mut life)?;
     assert_eq!(rt; left.as_str(), HANDED);

@@ -1,47 +1,33 @@
 //! A life over an office in memory, and over one that fails. The octets are written by hand from RFC 5024.
 
+use super::answers::{GREETING, OFFER, SENT, TAKES, THREE_OCTETS, joined};
 use super::noting::{Noting, Stop};
-use crate::given::{BOOK, FILE, LIMITS};
-use oftp_engine::{Operator, Port, Role, RunFault, Submission, Told};
+use crate::given::{BOOK, LIMITS};
+use oftp_engine::{Operator, Port, Role, RunFault, Told};
 use oftp_life::{Life, LifeSession, Stage};
 use oftp_partners::{Book, read};
 use oftp_register::{Office, OutgoingState, PlainOffice};
 use std::alloc::Global;
 use std::test::Fail;
 
-/// The partner's SSRM and SSID.
-const GREETING: &[u8] =
-    b"\x10\0\0\x17IODETTE FTP READY \r\x10\0\0\x41X5O0177CARMAKER            CARPW   00128BNYN002N            \r";
-
-/// It takes the file from its first record, and whole.
-const TAKES: &[u8] = b"\x10\0\0\x16200000000000000000\x10\0\0\x064N\x10\0\0\x0bF00000\r";
-
-/// The station's SSID and SFID.
-const OFFER: &[u8] = b"\x10\0\0\x41X5O0013SUPPLIER            SUPPW   00128BNYN002N            \r\
-      \x10\0\0\xa9HABC                          202401311015300001        O0177CARMAKER            O0013SUPPLIER            U00000\
-      0000000000001000000000000100000000000000000\
-      00000\
-      0N000";
-
-/// DATA, EFID and CD.
-const SENT: &[u8] =
-    b"\x10\0\0\x09D\x83ABC\x10\0\0\x27T0000000000000000000000000000000003\x10\0\0\x05R";
-
-/// The file, without a description.
-const PLAIN: Submission<'static> = Submission {
-    description: "",
-    content: b"ABC",
-    ..FILE
-};
+/// Carries out an operator's call.
+pub(crate) fn order<O: Office>(
+    alloc: Global,
+    life: &mut Life<O>,
+    book: &Book,
+    call: &Operator<'_>,
+) -> Result<Told, RunFault> {
+    let mut line = Port::new(Vec::new(alloc), 0);
+    life.order(alloc, book, call, &mut line)
+}
 
 /// Hands the file in.
 fn submit<O: Office>(alloc: Global, life: &mut Life<O>, book: &Book) -> Result<Told, RunFault> {
-    let mut line = Port::new(Vec::new(alloc), 0);
-    life.order(alloc, book, &Operator::Submit(PLAIN), &mut line)
+    order(alloc, life, book, &Operator::Submit(THREE_OCTETS))
 }
 
 /// Lets a session hear these octets, some at once, and returns what it says. Between two pieces the file is looked up.
-fn converse<O: Office>(
+pub(crate) fn converse<O: Office>(
     alloc: Global,
     session: &mut LifeSession<'_, O>,
     octets: &[u8],
@@ -63,10 +49,8 @@ fn converse<O: Office>(
 fn file_out_in_pieces(rt: HostRuntime) -> Result<(), Fail> {
     let alloc = rt.alloc();
     let book = read(alloc, BOOK)?;
-    let mut heard = GREETING.to_vec(alloc)?;
-    heard.extend_from_slice(TAKES)?;
-    let mut said = OFFER.to_vec(alloc)?;
-    said.extend_from_slice(SENT)?;
+    let heard = joined(alloc, &[GREETING, TAKES])?;
+    let said = joined(alloc, &[OFFER, SENT])?;
     for at_once in [1, 7, 4_096] {
         let mut life = Life::new(PlainOffice::new(alloc, LIMITS));
         assert!(rt; submit(alloc, &mut life, &book) == Ok(Told::Done(1)));

@@ -103,7 +103,7 @@ fn has_taken(alloc: Global, session: LifeSession<'_, PlainOffice>) -> Result<boo
 fn caller_let_in_with_a_file(rt: HostRuntime) -> Result<(), Fail> {
     let alloc = rt.alloc();
     let book = read(alloc, BOOK)?;
-    let octets = joined(alloc, SSID, FILE)?;
+    let octets = joined(alloc, &[SSID, FILE])?;
     for at_once in [1, 7, 4_096] {
         let guest = let_in(alloc, &book, octets.as_slice(), at_once)?.ok_or("not let in")?;
         let is_so = has_taken(alloc, admit(alloc, guest))?;
@@ -132,7 +132,7 @@ fn hear_each(session: &mut LifeSession<'_, PlainOffice>, octets: &[u8]) {
 
 // Whether the session of a guest waits, goes on with the file, hands out SSRM and the answers, and was ended by the partner.
 fn goes_on(alloc: Global, guest: Guest<'_>) -> Result<bool, AllocError> {
-    let all = joined(alloc, GREETING, ANSWERS)?;
+    let all = joined(alloc, &[GREETING, ANSWERS])?;
     let mut session = admit(alloc, guest);
     let first = session.stage();
     hear_each(&mut session, FILE);
@@ -203,7 +203,7 @@ fn is_sent_away(
     at_once: usize,
 ) -> Result<bool, AllocError> {
     let away = Admission::SentAway(Ending::Own(caller.reason));
-    let all = joined(alloc, GREETING, caller.esid)?;
+    let all = joined(alloc, &[GREETING, caller.esid])?;
     let mut opening = Opening::new(alloc, book);
     let said = open(alloc, &mut opening, caller.octets, at_once)?;
     let told = opening.admission();

@@ -10,33 +10,46 @@ use oftp_wire::SessionReason;
 use std::test::Fail;
 
 /// The book of a supplier with two partners.
-const BOOK_OF_TWO: &str =
+pub(crate) const BOOK_OF_TWO: &str =
     "[station]\ncode = 'O0013SUPPLIER'\nbuffer = 128\ncredit = 2\nrestart = true\n\
       [[partner]]\ncode = 'O0177CARMAKER'\nexpects = 'CARPW'\nsends = 'SUPPW'\nmode = 'B'\naddress = '127.0.0.1:3305'\n\
       [[partner]]\ncode = 'O0099OTHER'\nexpects = 'OTHERPW'\nsends = 'SUPPW'\nmode = 'B'\naddress = '127.0.0.1:3306'\n";
 
-/// Its SSID, and SFID of a file that it says is the car maker's. SFID of the same file as its own, with DATA and EFID. EERP of the file that
-/// was sent to the car maker, as if it had been sent to the third partner, and then under the car maker's code.
-const THIRD: &[u8] = b"\x10\0\0\x41X5O0099OTHER               OTHERPW 00128BNYN002N            \r\
-      \x10\0\0\xa9HABC                          202401311015300001        O0013SUPPLIER            O0177CARMAKER            U00000\
+/// Its SSID.
+pub(crate) const THIRD: &[u8] =
+    b"\x10\0\0\x41X5O0099OTHER               OTHERPW 00128BNYN002N            \r";
+
+/// SFID of a file that it says is the car maker's.
+pub(crate) const ANOTHERS_FILE: &[u8] =
+    b"\x10\0\0\xa9HABC                          202401311015300001        O0013SUPPLIER            O0177CARMAKER            U00000\
       0000000000001000000000000100000000000000000\
       00000\
-      0N000\
-      \x10\0\0\xa9HABC                          202401311015300001        O0013SUPPLIER            O0099OTHER               U00000\
+      0N000";
+
+/// SFID of the same file as its own, with DATA and EFID, and EERP of the file that was sent to the car maker, as if it had been sent to the
+/// third partner.
+const OWN: &[u8] =
+    b"\x10\0\0\xa9HABC                          202401311015300001        O0013SUPPLIER            O0099OTHER               U00000\
       0000000000001000000000000100000000000000000\
       00000\
       0N000\
       \x10\0\0\x09D\x83ABC\x10\0\0\x27T0000000000000000000000000000000003\
-      \x10\0\0\x72EABC                          202401311015300001        O0013SUPPLIER            O0099OTHER               \0\0\0\0\
-      \x10\0\0\x72EABC                          202401311015300001        O0013SUPPLIER            O0177CARMAKER            \0\0\0\0";
+      \x10\0\0\x72EABC                          202401311015300001        O0013SUPPLIER            O0099OTHER               \0\0\0\0";
 
-/// The station's SSRM and its SSID, SFNA 03, SFPA from row 0 on, EFPA, RTR and ESID 06.
-const ANSWERS: &[u8] =
+/// EERP of the file that was sent to the car maker, under the car maker's code.
+pub(crate) const ANOTHERS_ANSWER: &[u8] =
+    b"\x10\0\0\x72EABC                          202401311015300001        O0013SUPPLIER            O0177CARMAKER            \0\0\0\0";
+
+/// The station's SSRM, its SSID and SFNA 03.
+pub(crate) const NOT_TAKEN: &[u8] =
     b"\x10\0\0\x17IODETTE FTP READY \r\x10\0\0\x41X5O0013SUPPLIER            SUPPW   00128BNYN002N            \r\
-      \x10\0\0\x0b303N000\
-      \x10\0\0\x16200000000000000000\x10\0\0\x064N\
-      \x10\0\0\x05P\
-      \x10\0\0\x0bF06000\r";
+      \x10\0\0\x0b303N000";
+
+/// SFPA from row 0 on, EFPA and RTR.
+const TAKEN: &[u8] = b"\x10\0\0\x16200000000000000000\x10\0\0\x064N\x10\0\0\x05P";
+
+/// ESID 06.
+pub(crate) const SENT_AWAY: &[u8] = b"\x10\0\0\x0bF06000\r";
 
 /// The file to the car maker is handed over and not delivered. The third partner's own file of its name is there, and so is its response.
 const LEFT: &str = "out Handed 0\nin Whole 1 1\nreceived EndResponse\n";
@@ -51,7 +64,7 @@ fn third_partner_between(rt: HostRuntime) -> Result<(), Fail> {
     let done = call(alloc, &mut office, &book, &submit, &mut Vec::new(alloc));
     assert!(rt; done == Ok(Told::Done(1)));
     let role = caller(&book, b"O0177CARMAKER")?;
-    let octets = joined(alloc, GREETING, TAKES)?;
+    let octets = joined(alloc, &[GREETING, TAKES])?;
     let _ = hear(
         alloc,
         &mut office,
@@ -60,16 +73,18 @@ fn third_partner_between(rt: HostRuntime) -> Result<(), Fail> {
         Line::of(octets.as_slice()),
         u64::MAX,
     );
+    let octets = joined(alloc, &[THIRD, ANOTHERS_FILE, OWN, ANOTHERS_ANSWER])?;
     let third = hear(
         alloc,
         &mut office,
         &book,
         Role::Responder,
-        Line::of(THIRD),
+        Line::of(octets.as_slice()),
         u64::MAX,
     );
     assert!(rt; third.end == Ok(End::Own(SessionReason::InvalidData)));
-    assert!(rt; third.said.as_slice() == ANSWERS);
+    let said = joined(alloc, &[NOT_TAKEN, TAKEN, SENT_AWAY])?;
+    assert!(rt; third.said.as_slice() == said.as_slice());
     let left = told(alloc, &mut office.office, THREE_OCTETS.content)?;
     assert_eq!(rt; left.as_str(), LEFT);
     Ok(())

@@ -54,9 +54,9 @@ impl<O: Office> Life<O> {
                 stage: Stage::Lost,
             };
         }
-        let answer = conversation.go_on(&mut office, &mut out);
+        let went = conversation.go_on_in_parts(&mut office, &mut out);
         let history = history.then(&Note::Admitted(book, &heard, out.inner()));
-        let stage = stage_of(&answer);
+        let stage = stage_of(&went);
         LifeSession {
             office,
             began,

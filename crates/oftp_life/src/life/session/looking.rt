@@ -1,11 +1,12 @@
-//! A session as an office that can only be looked at while it waits: it refuses each change.
+//! A session as an office that can only be looked at while it goes on: it refuses each change.
 
 ghost use Rattle.std.specs.Prelude.{◌≡◌, ◌≤◌, IfOk, IfSome, true};
 ghost use Rattle.oftp_register.specs.Register.{has_received};
 ghost use Rattle.oftp_register.specs.LookUps.{AreRowsWithin, IsIncomingWithin, IsItemWithin, IsOutgoingWithin, files_full, in_by_no, list_answered, list_in, list_issued, list_out, list_received, look_in, look_out, next_item, out_by_no, rows_of, units_of};
 ghost use Rattle.oftp_register.specs.Offices.{Commits, LooksUp};
 ghost use Rattle.oftp_register.specs.declared.fit.TheConstants.{MOST_UNITS};
-ghost use Rattle.oftp_life.specs.Looks.{IsSameSession, has_ceased, session_seen};
+ghost use Rattle.oftp_life.specs.Lives.{has_ceased};
+ghost use Rattle.oftp_life.specs.Looks.{IsSameSession, session_seen};
 
 use super::LifeSession;
 use crate::stage::{after_look, count, lost};
@@ -17,7 +18,8 @@ use oftp_vfile::{Limits, Rows};
 
 /// Whoever has a session as an office can look things up. Each change is refused as an error of the store.
 impl<O: Office> Office for LifeSession<'_, O> {
-    ghost use Rattle.oftp_life.specs.Looks.{has_ceased, shows};
+    ghost use Rattle.oftp_life.specs.Lives.{has_ceased};
+    ghost use Rattle.oftp_life.specs.Looks.{shows};
 
     ghost view = { λ t. shows (O.view t.office) t.faults (has_ceased t.stage) };
 
@@ -31,12 +33,12 @@ impl<O: Office> Office for LifeSession<'_, O> {
         ensures idle { has_ceased self.old.stage ≡ true → result ≡ Err OfficeFault.Store }
         ensures same { IsSameSession self.old self.new }
     {
-        if self.has_ceased() {
+        if self.stage.has_ceased() {
             return Err(lost(&mut self.faults));
         }
         let found = self.office.look_in(identity);
         count(&mut self.faults, &found);
-        self.stage = after_look(&found);
+        self.stage = after_look(self.stage, &found);
         found
     }
 
@@ -46,12 +48,12 @@ impl<O: Office> Office for LifeSession<'_, O> {
         ensures idle { has_ceased self.old.stage ≡ true → result ≡ Err OfficeFault.Store }
         ensures same { IsSameSession self.old self.new }
     {
-        if self.has_ceased() {
+        if self.stage.has_ceased() {
             return Err(lost(&mut self.faults));
         }
         let found = self.office.look_out(identity);
         count(&mut self.faults, &found);
-        self.stage = after_look(&found);
+        self.stage = after_look(self.stage, &found);
         found
     }
 
@@ -61,12 +63,12 @@ impl<O: Office> Office for LifeSession<'_, O> {
         ensures idle { has_ceased self.old.stage ≡ true → result ≡ Err OfficeFault.Store }
         ensures same { IsSameSession self.old self.new }
     {
-        if self.has_ceased() {
+        if self.stage.has_ceased() {
             return Err(lost(&mut self.faults));
         }
         let found = self.office.in_by_no(no);
         count(&mut self.faults, &found);
-        self.stage = after_look(&found);
+        self.stage = after_look(self.stage, &found);
         found
     }
 
@@ -76,12 +78,12 @@ impl<O: Office> Office for LifeSession<'_, O> {
         ensures idle { has_ceased self.old.stage ≡ true → result ≡ Err OfficeFault.Store }
         ensures same { IsSameSession self.old self.new }
     {
-        if self.has_ceased() {
+        if self.stage.has_ceased() {
             return Err(lost(&mut self.faults));
         }
         let found = self.office.out_by_no(no);
         count(&mut self.faults, &found);
-        self.stage = after_look(&found);
+        self.stage = after_look(self.stage, &found);
         found
     }
 
@@ -90,12 +92,12 @@ impl<O: Office> Office for LifeSession<'_, O> {
         ensures idle { has_ceased self.old.stage ≡ true → result ≡ Err OfficeFault.Store }
         ensures same { IsSameSession self.old self.new }
     {
-        if self.has_ceased() {
+        if self.stage.has_ceased() {
             return Err(lost(&mut self.faults));
         }
         let found = self.office.files_full(side);
         count(&mut self.faults, &found);
-        self.stage = after_look(&found);
+        self.stage = after_look(self.stage, &found);
         found
     }
 
@@ -104,12 +106,12 @@ impl<O: Office> Office for LifeSession<'_, O> {
         ensures idle { has_ceased self.old.stage ≡ true → result ≡ Err OfficeFault.Store }
         ensures same { IsSameSession self.old self.new }
     {
-        if self.has_ceased() {
+        if self.stage.has_ceased() {
             return Err(lost(&mut self.faults));
         }
         let found = self.office.has_received(kind, identity);
         count(&mut self.faults, &found);
-        self.stage = after_look(&found);
+        self.stage = after_look(self.stage, &found);
         found
     }
 
@@ -124,12 +126,12 @@ impl<O: Office> Office for LifeSession<'_, O> {
         ensures idle { has_ceased self.old.stage ≡ true → result ≡ Err OfficeFault.Store }
         ensures same { IsSameSession self.old self.new }
     {
-        if self.has_ceased() {
+        if self.stage.has_ceased() {
             return Err(lost(&mut self.faults));
         }
         let found = self.office.next_item(partner, cursor, files);
         count(&mut self.faults, &found);
-        self.stage = after_look(&found);
+        self.stage = after_look(self.stage, &found);
         found
     }
 
@@ -139,12 +141,12 @@ impl<O: Office> Office for LifeSession<'_, O> {
         ensures idle { has_ceased self.old.stage ≡ true → result ≡ Err OfficeFault.Store }
         ensures same { IsSameSession self.old self.new }
     {
-        if self.has_ceased() {
+        if self.stage.has_ceased() {
             return Err(lost(&mut self.faults));
         }
         let found = self.office.rows_of(side, no, from, most);
         count(&mut self.faults, &found);
-        self.stage = after_look(&found);
+        self.stage = after_look(self.stage, &found);
         found
     }
 
@@ -154,12 +156,12 @@ impl<O: Office> Office for LifeSession<'_, O> {
         ensures idle { has_ceased self.old.stage ≡ true → result ≡ Err OfficeFault.Store }
         ensures same { IsSameSession self.old self.new }
     {
-        if self.has_ceased() {
+        if self.stage.has_ceased() {
             return Err(lost(&mut self.faults));
         }
         let found = self.office.units_of(side, no);
         count(&mut self.faults, &found);
-        self.stage = after_look(&found);
+        self.stage = after_look(self.stage, &found);
         found
     }
 
@@ -168,12 +170,12 @@ impl<O: Office> Office for LifeSession<'_, O> {
         ensures idle { has_ceased self.old.stage ≡ true → result ≡ Err OfficeFault.Store }
         ensures same { IsSameSession self.old self.new }
     {
-        if self.has_ceased() {
+        if self.stage.has_ceased() {
             return Err(lost(&mut self.faults));
         }
         let found = self.office.list_in();
         count(&mut self.faults, &found);
-        self.stage = after_look(&found);
+        self.stage = after_look(self.stage, &found);
         found
     }
 
@@ -182,12 +184,12 @@ impl<O: Office> Office for LifeSession<'_, O> {
         ensures idle { has_ceased self.old.stage ≡ true → result ≡ Err OfficeFault.Store }
         ensures same { IsSameSession self.old self.new }
     {
-        if self.has_ceased() {
+        if self.stage.has_ceased() {
             return Err(lost(&mut self.faults));
         }
         let found = self.office.list_out();
         count(&mut self.faults, &found);
-        self.stage = after_look(&found);
+        self.stage = after_look(self.stage, &found);
         found
     }
 
@@ -196,12 +198,12 @@ impl<O: Office> Office for LifeSession<'_, O> {
         ensures idle { has_ceased self.old.stage ≡ true → result ≡ Err OfficeFault.Store }
         ensures same { IsSameSession self.old self.new }
     {
-        if self.has_ceased() {
+        if self.stage.has_ceased() {
             return Err(lost(&mut self.faults));
         }
         let found = self.office.list_issued();
         count(&mut self.faults, &found);
-        self.stage = after_look(&found);
+        self.stage = after_look(self.stage, &found);
         found
     }
 
@@ -210,12 +212,12 @@ impl<O: Office> Office for LifeSession<'_, O> {
         ensures idle { has_ceased self.old.stage ≡ true → result ≡ Err OfficeFault.Store }
         ensures same { IsSameSession self.old self.new }
     {
-        if self.has_ceased() {
+        if self.stage.has_ceased() {
             return Err(lost(&mut self.faults));
         }
         let found = self.office.list_received();
         count(&mut self.faults, &found);
-        self.stage = after_look(&found);
+        self.stage = after_look(self.stage, &found);
         found
     }
 
@@ -224,12 +226,12 @@ impl<O: Office> Office for LifeSession<'_, O> {
         ensures idle { has_ceased self.old.stage ≡ true → result ≡ Err OfficeFault.Store }
         ensures same { IsSameSession self.old self.new }
     {
-        if self.has_ceased() {
+        if self.stage.has_ceased() {
             return Err(lost(&mut self.faults));
         }
         let found = self.office.list_answered();
         count(&mut self.faults, &found);
-        self.stage = after_look(&found);
+        self.stage = after_look(self.stage, &found);
         found
     }
 

@@ -14,7 +14,7 @@ invariant_of-result-2 g c =
     let i = c.self.inside in
     let began = i.began.value in
     let acts = i.history.acts in
-    let went = c.go_on-answer in
+    let went = c.go_on_in_parts-went in
     let setting = setting_of c.args.book.now c.args.role in
     session_as view began i.office c.of-before.result.value went.new.office went.new.writer (Conversed setting [] (octets_out went.new.writer.inner) ∷ acts)
     c.then-history.result.acts went.new.self (stage_of went.result) c.stage_of-stage.result

@@ -1,5 +1,5 @@
 use Rattle.std.proofs.Common.{ap, ◌∙◌, refl}
-use Rattle.oftp_life.specs.Lives.{LifeSessionData, stage_of}
+use Rattle.oftp_life.specs.Lives.{LifeSessionData, has_ceased, stage_of}
 use Rattle.oftp_life.specs.Noted.{with_heard}
 use Rattle.oftp_life.specs.Outboxes.{octets_out}
 use Rattle.oftp_life.specs.declared.outbox.Outbox.{Outbox}
@@ -13,13 +13,13 @@ pub invariant_of-self-2 : goal.invariant_of-self-2
 invariant_of-self-2 g c =
     let view = g.O.Office.view in
     let i = c.self.inside in
-    let went = c.go_on-answer in
+    let went = c.go_on_in_parts-went in
     let octets = c.args.octets.now in
     session_as view i.began.value i.before.value i.before.value went.new.office went.new.writer
     (with_heard i.history.acts octets (octets_out went.new.writer.inner)) c.then-self-inside.result.acts went.new.self (stage_of went.result) c.stage_of-self-inside.result
     (c.then-self-inside.ensures ∙ ap (λ (b : Outbox). with_heard i.history.acts octets (octets_out b)) c.inner.ensures) refl c.stage_of-self-inside.ensures
     (take_session view i.began.value i.before.value i.office went.new.office i.out went.new.writer i.history.acts i.conversation c.hear.new.self went.new.self
-    i.stage octets c.self.invariant (ap (λ (t : LifeSessionData _). t.stage) c.self.view_is ∙ c.requires) c.in-Ok.ensures.heard
+    i.stage octets c.self.invariant (ap (λ (t : LifeSessionData _). has_ceased t.stage) c.self.view_is ∙ c.requires) c.in-Ok.ensures.heard
     went.result went.ensures.own went.ensures.unbroken went.ensures.clean went.ensures.goes)
 
 pub returns-clause-leaves : goal.returns-clause-leaves

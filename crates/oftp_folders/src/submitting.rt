@@ -1,8 +1,7 @@
 //! Submits files that were taken from a folder, and moves them away.
 
-use crate::endings::{GONE, number_in};
 use crate::folders::{
-    Room, Stamps, claim_name, followed, has_something, name_of, numbered, path_in, stamps_in,
+    Room, Stamps, claim_name, followed, has_something, keep, name_of, numbered, path_in, stamps_in,
 };
 use crate::judging::{Concern, Content, Held, Step, TakenBy, concern_of, step_of};
 use crate::stamps::Moment;
@@ -11,7 +10,7 @@ use oftp_command_line::{Offer, Submit};
 use oftp_engine::{Operator, Refusal, Submission};
 use oftp_files::{content_of, file_fault, open_regular};
 use oftp_outcomes::{Carried, Fault, Why, write_line};
-use oftp_requests::{Backend, FileList};
+use oftp_requests::{Backend, FileList, GONE, number_in};
 use std::alloc::Global;
 use std::collections::BTreeMap;
 use std::fs::{self, File};
@@ -40,18 +39,18 @@ const UNREAD: Why = Why::Failed(Fault::File);
 
 /// The subfolders.
 #[derive(Drop)]
-pub(super) struct Rooms {
+pub(super) struct Subfolders {
     pub(super) taken: Room,
     sent: Room,
     refused: Room,
 }
 
-impl Rooms {
+impl Subfolders {
     /// The subfolders of a folder. Those that don't exist are created. Nobody else may write in that of the files that are taken.
-    pub(super) fn made(rt: &HostRuntime, folder: &Room) -> Result<Rooms, Fault> {
+    pub(super) fn made(rt: &HostRuntime, folder: &Room) -> Result<Subfolders, Fault> {
         let taken = folder.made(rt, TAKEN)?;
         taken.close_to_others()?;
-        Ok(Rooms {
+        Ok(Subfolders {
             taken,
             sent: folder.made(rt, SENT)?,
             refused: folder.made(rt, REFUSED)?,
@@ -81,10 +80,10 @@ enum Tried {
 
 /// The submission of a folder's files to a partner.
 #[derive(Drop)]
-pub(super) struct Handing<'a, B> {
+pub(super) struct Submitting<'a, B> {
     rt: &'a HostRuntime,
     line: &'a Offer<'a>,
-    pub(super) rooms: &'a Rooms,
+    pub(super) subfolders: &'a Subfolders,
     book: &'a [u8],
     backend: B,
     // The dataset names of the files.
@@ -95,19 +94,19 @@ pub(super) struct Handing<'a, B> {
     given: BTreeMap<Vec<u8>, bool>,
 }
 
-impl<'a, B: Backend> Handing<'a, B> {
+impl<'a, B: Backend> Submitting<'a, B> {
     /// A submission that hasn't looked anything up.
     pub(super) fn new(
         rt: &'a HostRuntime,
         line: &'a Offer<'a>,
-        rooms: &'a Rooms,
+        subfolders: &'a Subfolders,
         book: &'a [u8],
         backend: B,
-    ) -> Handing<'a, B> {
-        Handing {
+    ) -> Submitting<'a, B> {
+        Submitting {
             rt,
             line,
-            rooms,
+            subfolders,
             book,
             backend,
             wanted: BTreeMap::new(rt.alloc()),
@@ -194,8 +193,8 @@ impl<'a, B: Backend> Handing<'a, B> {
         }
         let refused = name_of(self.rt.alloc(), stamps, self.line.to)?;
         Ok(
-            self.is_there(&self.rooms.taken, claim)?
-                || self.is_there(&self.rooms.refused, refused.as_str())?,
+            self.is_there(&self.subfolders.taken, claim)?
+                || self.is_there(&self.subfolders.refused, refused.as_str())?,
         )
     }
 
@@ -230,7 +229,7 @@ impl<'a, B: Backend> Handing<'a, B> {
         changed: Moment,
     ) -> Result<Option<String>, Fault> {
         let claim = self.free_claim(name, changed)?;
-        let to = path_in(self.rt, self.rooms.taken.path(), claim.as_str())?;
+        let to = path_in(self.rt, self.subfolders.taken.path(), claim.as_str())?;
         match fs::rename(self.rt, from, to.as_str()) {
             Ok(()) => {}
             Err(error) if error.kind() == ErrorKind::NotFound => return Ok(None),
@@ -288,12 +287,13 @@ impl<'a, B: Backend> Handing<'a, B> {
         Ok(handed)
     }
 
-    /// Reads a taken file. Whatever error its open or its reading has may pass, so the file isn't refused for it. Returns `None` if it is no
-    /// regular file.
+    /// Reads a taken file, once its content is durable: the next call compares what is here with what the register has. Whatever error its open or
+    /// its reading has may pass, so the file isn't refused for it. Returns `None` if it is no regular file.
     fn read(&self, claim: &str) -> Result<Option<Vec<u8>>, Fault> {
-        let path = path_in(self.rt, self.rooms.taken.path(), claim)?;
+        let path = path_in(self.rt, self.subfolders.taken.path(), claim)?;
         match open_regular(self.rt, path.as_str())? {
             Some(file) => {
+                keep(&file)?;
                 let content = content_of(self.rt, &submission_of(self.line, claim), &file)?;
                 Ok(Some(content))
             }
@@ -351,14 +351,14 @@ impl<'a, B: Backend> Handing<'a, B> {
 
     /// Gives a taken file the next free date and time. They are durable before the file is submitted under them.
     fn moved_on(&mut self, claim: &str) -> Result<String, Fault> {
-        let from = path_in(self.rt, self.rooms.taken.path(), claim)?;
+        let from = path_in(self.rt, self.subfolders.taken.path(), claim)?;
         let about = fs::symlink_metadata(self.rt, from.as_str()).map_err(|error| file_fault(
             &error,
         ))?;
         let dataset = stamps_of(claim).dataset;
         match self.take(from.as_str(), dataset, Moment::of(&about))? {
             Some(claim) => {
-                self.rooms.taken.keep()?;
+                self.subfolders.taken.keep()?;
                 Ok(claim)
             }
             None => Err(Fault::File),
@@ -401,36 +401,44 @@ impl<'a, B: Backend> Handing<'a, B> {
     fn put_to_sent(&self, claim: &str, no: u64) -> Result<(), Fault> {
         let name = name_of(self.rt.alloc(), stamps_of(claim), self.line.to)?;
         let name = numbered(self.rt.alloc(), no, name.as_str())?;
-        let name = self.unused_name(&self.rooms.sent, name)?;
-        self.put(claim, &self.rooms.sent, name.as_str())
+        let name = self.unused_name(&self.subfolders.sent, name)?;
+        self.put(claim, &self.subfolders.sent, name.as_str())
     }
 
     /// Moves a refused file to `refused`, after its line was written there. If the file can't be moved, its line is removed.
     fn put_to_refused(&self, claim: &str, why: Why) -> Result<(), Fault> {
         let name = self.refused_name(claim)?;
-        let path = path_in(self.rt, self.rooms.refused.path(), name.as_str())?;
+        let path = path_in(self.rt, self.subfolders.refused.path(), name.as_str())?;
         write_beside(self.rt, path.as_str(), why)?;
-        let moved = self.put(claim, &self.rooms.refused, name.as_str());
+        let moved = self.moved_to_line(claim, name.as_str());
         if moved.is_err() {
             self.clear_line(claim)?;
         }
         moved
     }
 
+    /// Moves a taken file to `refused`, once the name of its line there is durable.
+    fn moved_to_line(&self, claim: &str, name: &str) -> Result<(), Fault> {
+        self.subfolders.refused.keep()?;
+        self.put(claim, &self.subfolders.refused, name)
+    }
+
     /// Removes the line that this taken file would have in `refused`: a call that was killed before it moved the file there may have left one. If
     /// it can't be removed, it stays.
     fn clear_line(&self, claim: &str) -> Result<(), Fault> {
         let name = self.refused_name(claim)?;
-        let path = path_in(self.rt, self.rooms.refused.path(), name.as_str())?;
+        let path = path_in(self.rt, self.subfolders.refused.path(), name.as_str())?;
         let line = line_path(self.rt.alloc(), path.as_str())?;
-        let _ = fs::remove_file(self.rt, line.as_str());
+        if fs::remove_file(self.rt, line.as_str()).is_ok() {
+            self.subfolders.refused.keep()?;
+        }
         Ok(())
     }
 
     /// The name that a taken file gets in `refused` if it is refused.
     fn refused_name(&self, claim: &str) -> Result<String, Fault> {
         let name = name_of(self.rt.alloc(), stamps_of(claim), self.line.to)?;
-        self.unused_name(&self.rooms.refused, name)
+        self.unused_name(&self.subfolders.refused, name)
     }
 
     /// A name in a folder that nothing has: this one, or the first of those with a number behind it, from 2 on.
@@ -449,7 +457,7 @@ impl<'a, B: Backend> Handing<'a, B> {
 
     /// Moves a taken file to another folder, under a new name.
     fn put(&self, claim: &str, folder: &Room, name: &str) -> Result<(), Fault> {
-        let from = path_in(self.rt, self.rooms.taken.path(), claim)?;
+        let from = path_in(self.rt, self.subfolders.taken.path(), claim)?;
         let to = path_in(self.rt, folder.path(), name)?;
         fs::rename(self.rt, from.as_str(), to.as_str()).map_err(|error| file_fault(&error))
     }
