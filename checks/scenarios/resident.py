@@ -217,6 +217,10 @@ def long_name(room):
         with Resident(folder) as service:
             expect(given(service, "release", "1"), (0, b"done: release 1\n", b""), "release by a station that takes over the socket")
         expect(given(service, "report", "in")[0], 0, "a report beside no station")
+        socket_of.unlink()
+        for words in (("fetch", "1", socket_of), ("backup", socket_of)):
+            expect(given(service, *words), (1, b"", b"fault: 7 file\n"), f"{words[0]} under the name of the socket at {length}")
+            expect(socket_of.exists(), False, "whether a file has that name")
 
 
 def second_station_takes_over(room):

@@ -29,6 +29,7 @@ MEBI = 1024 * 1024
 MOST_OCTETS = 64 * MEBI
 MOST_ROWS = 1_000_000
 MOST_FILES = 10_000
+LONGEST_BOOK = 16 * MEBI
 CAR_MAKER, SUPPLIER = "O0177CARMAKER", "O0013SUPPLIER"
 PASSWORDS = {CAR_MAKER: "CARPW", SUPPLIER: "SUPPW"}
 STAMP = {"date": "20240131", "time": "1015300001"}
@@ -251,7 +252,7 @@ def texts(room):
 
 
 def partners(room):
-    """A book of 1,000 partners, the last of which calls; one of 1,001 is refused."""
+    """A book of 1,000 partners, the last of which calls; one of 1,001 is refused, and so is one of more than 16 MiB, or without an end."""
     station = Station(room, SUPPLIER, CAR_MAKER)
     usual = station.book.read_text()
     station_part, partner = usual.split("[[partner]]")
@@ -262,6 +263,11 @@ def partners(room):
     taken.append(station.feed(room / "given", room / "answer", "end: partner 00"))
     station.book.write_text("\n".join([station_part, *more, f"[[partner]]{partner}"]))
     taken.append(station.give("check", line="fault: 5 book 7", database=False))
+    for length, line in ((LONGEST_BOOK - 1, "ok: 1 partners"), (LONGEST_BOOK, "ok: 1 partners"), (LONGEST_BOOK + 1, "fault: 7 file")):
+        station.book.write_text(usual + "\n#".ljust(length - len(usual.encode()), "-"))
+        taken.append(station.give("check", line=line, database=False))
+    station.book = Path("/dev/zero")
+    taken.append(station.give("check", line="fault: 7 file", database=False))
     return taken
 
 

@@ -144,7 +144,7 @@ fn name_of(rt: &HostRuntime, line: &Backup<'_>) -> Result<Name, Fault> {
 fn refuse_logged(rt: &HostRuntime, name: &Name) -> Result<(), Fault> {
     for ending in READ_WITH_IT {
         let path = name.path();
-        let beside = format!(in rt.alloc(); "{path}{ending}").map_err(|_| Fault::MEMORY)?;
+        let beside = format!(in rt.alloc(); "{path}{ending}")?;
         if is_there(rt, beside.as_str())? {
             return Err(Fault::File);
         }

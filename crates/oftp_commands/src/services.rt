@@ -149,7 +149,7 @@ fn call_by(
 fn call_alone(rt: &HostRuntime, line: &Call<'_>, book: &Book) -> Result<Outcome, Fault> {
     let trace = trace_of(rt, &line.files, &line.terms)?;
     let station = station_of(book, &line.terms, trace.as_ref());
-    let code = String::from_str(rt.alloc(), line.partner).map_err(|_| Fault::MEMORY)?;
+    let code = String::from_str(rt.alloc(), line.partner)?;
     let bench = Bench {
         dialing: station.longest,
         codes: &[code],

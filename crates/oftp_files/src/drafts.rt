@@ -61,10 +61,8 @@ pub(super) fn folder_of<'a>(path: Path<'a>) -> &'a str {
 /// A random path for a draft beside a path.
 fn draft_path(rt: &HostRuntime, beside: Path<'_>) -> Result<PathBuf, Fault> {
     let number = drawn(rt).map_err(|error| file_fault(&error))?;
-    let name = format!(in rt.alloc(); "{}{number}", PREFIX).map_err(|_| Fault::MEMORY)?;
-    beside
-        .with_file_name(rt.alloc(), name.as_str())
-        .map_err(|_| Fault::MEMORY)
+    let name = format!(in rt.alloc(); "{}{number}", PREFIX)?;
+    Ok(beside.with_file_name(rt.alloc(), name.as_str())?)
 }
 
 /// A random number, so that nobody can take the names beforehand.
@@ -127,7 +125,7 @@ fn remove_left(rt: &HostRuntime, path: &str) {
 /// # Errors
 /// [`Fault::MEMORY`].
 pub fn log_of(rt: &HostRuntime, path: &str) -> Result<String, Fault> {
-    format!(in rt.alloc(); "{path}-wal").map_err(|_| Fault::MEMORY)
+    Ok(format!(in rt.alloc(); "{path}-wal")?)
 }
 
 /// Removes the write-ahead log of a draft, if there is one. If it can't be removed, it stays.

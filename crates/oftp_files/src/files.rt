@@ -9,7 +9,16 @@ use std::path::Path;
 use std::rt::Files;
 
 /// The endings of the files beside a database: its log, those that sqlite3 makes, and the socket of its station.
-const BESIDE: [&str; 4] = ["-wal", "-shm", "-journal", "-station"];
+const BESIDE: [&str; 4] = ["-wal", "-shm", "-journal", SOCKET];
+
+/// The ending of the name of the socket of a database's station.
+const SOCKET: &str = "-station";
+
+/// Up to how many octets of a database's name the address of a socket has room for.
+const LONGEST_NAME: usize = 80;
+
+/// The beginning of the socket's name where the database's is longer. The number of the database's file follows.
+const INSTEAD: &str = ".oftp_station_of_";
 
 /// The error for a failed file operation: [`Fault::MEMORY`] if memory ran out, which isn't an error of the file, or [`Fault::File`].
 pub fn file_fault(error: &io::Error) -> Fault {
@@ -105,7 +114,7 @@ pub fn is_of_database<R: Files + AllocGlobal>(
     database: &str,
 ) -> Result<bool, Fault> {
     let real = fs::canonicalize(rt, database).map_err(|error| file_fault(&error))?;
-    let log = format!(in rt.alloc(); "{}-wal", real.as_str()).map_err(|_| Fault::MEMORY)?;
+    let log = format!(in rt.alloc(); "{}-wal", real.as_str())?;
     Ok(is_at(rt, about, real.as_str())? || is_at(rt, about, log.as_str())?)
 }
 
@@ -121,10 +130,23 @@ pub(super) fn is_beside_database(
     if folder.as_str() != folder_of(real) {
         return Ok(false);
     }
-    Ok(match (path.file_name(), real.file_name()) {
-        (Some(name), Some(own)) => is_behind(name, own),
-        _ => false,
-    })
+    let (Some(name), Some(own)) = (path.file_name(), real.file_name()) else {
+        return Ok(false);
+    };
+    let socket = socket_name(rt, real.as_str(), own).map_err(|error| file_fault(&error))?;
+    Ok(is_behind(name, own) || socket.as_str() == name)
+}
+
+/// The name of the socket beside a database with this path and name, neither of which is a link's.
+///
+/// # Errors
+/// The file can't be examined; out of memory.
+pub fn socket_name(rt: &HostRuntime, path: &str, name: &str) -> io::Result<String> {
+    if name.len() <= LONGEST_NAME {
+        return Ok(format!(in rt.alloc(); "{name}{}", SOCKET)?);
+    }
+    let number = fs::metadata(rt, path)?.ino();
+    Ok(format!(in rt.alloc(); "{}{number}", INSTEAD)?)
 }
 
 /// Whether a name is the database's name with the ending of a file beside it.

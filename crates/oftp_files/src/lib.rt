@@ -20,7 +20,7 @@ pub use content::{content_of, read_content, read_to_compare};
 pub use drafts::{Draft, bears, is_free, log_of, remove_log, sweep};
 pub use files::{
     are_of_one_file, file_fault, is_at, is_of_database, is_ours, open_at_once, open_input,
-    open_regular,
+    open_regular, socket_name,
 };
 pub use limits::LIMITS;
 pub use replacing::{

@@ -92,7 +92,7 @@ fn free_path(rt: &HostRuntime, path: &str, database: &str) -> Result<PathBuf, Fa
         Err(error) if error.kind() == ErrorKind::NotFound => {}
         Err(error) => return Err(file_fault(&error)),
     }
-    let path = PathBuf::from_str(rt.alloc(), path).map_err(|_| Fault::MEMORY)?;
+    let path = PathBuf::from_str(rt.alloc(), path)?;
     if is_beside_database(rt, path.as_path(), database)? {
         return Err(Fault::File);
     }

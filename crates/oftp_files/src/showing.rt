@@ -21,9 +21,7 @@ pub fn show(rt: &HostRuntime, input: &str, out: &mut impl Write) -> Result<bool,
     let mut piece = [0; PIECE];
     for _ in 0..u64::MAX {
         let count = input.read(&mut piece).map_err(|error| file_fault(&error))?;
-        let Ok(lines) = lines_of(rt, &mut transcript, &piece[..count]) else {
-            return Err(Fault::MEMORY);
-        };
+        let lines = lines_of(rt, &mut transcript, &piece[..count])?;
         if out.write_all(lines.as_bytes()).is_err() {
             return Err(Fault::Run(RunFault::Write));
         }

@@ -142,7 +142,7 @@ pub(super) fn keep(file: &File) -> Result<(), Fault> {
 
 /// The path of a name in a folder.
 pub(super) fn path_in(rt: &HostRuntime, folder: &str, name: &str) -> Result<String, Fault> {
-    format!(in rt.alloc(); "{folder}/{name}").map_err(|_| Fault::MEMORY)
+    Ok(format!(in rt.alloc(); "{folder}/{name}")?)
 }
 
 /// Whether something is at a path, be it a link that leads nowhere.
@@ -165,14 +165,14 @@ pub(super) fn names_in(rt: &HostRuntime, folder: &Room) -> Result<Vec<String>, F
             Err(error) => return Err(file_fault(&error)),
         }
     }
-    names.sort().map_err(|_| Fault::MEMORY)?;
+    names.sort()?;
     Ok(names)
 }
 
 /// Adds a name.
 fn add_name(rt: &HostRuntime, names: &mut Vec<String>, name: &str) -> Result<(), Fault> {
-    let name = String::from_str(rt.alloc(), name).map_err(|_| Fault::MEMORY)?;
-    names.push(name).map_err(|_| Fault::MEMORY)
+    let name = String::from_str(rt.alloc(), name)?;
+    Ok(names.push(name)?)
 }
 
 /// What identifies a virtual file between two partners: its dataset name, date and time.
@@ -201,7 +201,7 @@ pub(super) fn name_of(alloc: Global, stamps: Stamps<'_>, code: &str) -> Result<S
         date,
         time,
     } = stamps;
-    joined(alloc, [dataset, date, time, code]).map_err(|_| Fault::MEMORY)
+    Ok(joined(alloc, [dataset, date, time, code])?)
 }
 
 /// The name of a file while it is submitted. Sorted by name, such files are in the order of their times.
@@ -211,7 +211,7 @@ pub(super) fn claim_name(alloc: Global, stamps: Stamps<'_>, code: &str) -> Resul
         date,
         time,
     } = stamps;
-    joined(alloc, [date, time, dataset, code]).map_err(|_| Fault::MEMORY)
+    Ok(joined(alloc, [date, time, dataset, code])?)
 }
 
 /// The dataset name, date and time in the name of a file that is submitted.
@@ -228,12 +228,12 @@ pub(super) fn stamps_in<'a>(claim: &'a str) -> Option<Stamps<'a>> {
 
 /// A name with the file's number in the register in front.
 pub(super) fn numbered(alloc: Global, no: u64, name: &str) -> Result<String, Fault> {
-    format!(in alloc; "{no:07}{}{name}", BETWEEN).map_err(|_| Fault::MEMORY)
+    Ok(format!(in alloc; "{no:07}{}{name}", BETWEEN)?)
 }
 
 /// A name with a number behind it, for a file whose name another one has already.
 pub(super) fn followed(alloc: Global, name: &str, number: u32) -> Result<String, Fault> {
-    format!(in alloc; "{name}{}{number}", BETWEEN).map_err(|_| Fault::MEMORY)
+    Ok(format!(in alloc; "{name}{}{number}", BETWEEN)?)
 }
 
 /// Joins the parts of a name.

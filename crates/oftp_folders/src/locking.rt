@@ -35,7 +35,7 @@ impl FolderLock {
     /// # Errors
     /// [`Fault::File`] if the lock's file can't be created, is a link, another user's or open to others, or stays locked; [`Fault::MEMORY`].
     pub(super) fn held(rt: &HostRuntime, folder: &str) -> Result<FolderLock, Fault> {
-        let path = format!(in rt.alloc(); "{folder}/{}", LOCK).map_err(|_| Fault::MEMORY)?;
+        let path = format!(in rt.alloc(); "{folder}/{}", LOCK)?;
         for _ in 0..TRIES {
             if let Some(file) = tried(rt, path.as_str())? {
                 return Ok(FolderLock { file, path });

@@ -67,7 +67,7 @@ fn hand_in<B: Backend + Drop>(
     let mut submitting = submitting;
     let mut claims = claims;
     let mut is_done = true;
-    claims.sort().map_err(|_| Fault::MEMORY)?;
+    claims.sort()?;
     for claim in claims {
         if !submitting.hand_in(claim, out)? {
             is_done = false;
@@ -81,7 +81,7 @@ fn offered(rt: &HostRuntime, folder: &Room) -> Result<Vec<String>, Fault> {
     let mut names = Vec::new(rt.alloc());
     for name in names_in(rt, folder)? {
         if is_dataset_name(name.as_str()) && is_file(rt, folder, name.as_str())? {
-            names.push(name).map_err(|_| Fault::MEMORY)?;
+            names.push(name)?;
         }
     }
     Ok(names)
@@ -110,7 +110,7 @@ fn claimed(rt: &HostRuntime, line: &Offer<'_>, folder: &Room) -> Result<Vec<Stri
     };
     for name in names_in(rt, &taken)? {
         if is_for(rt, line.to, name.as_str())? {
-            claims.push(name).map_err(|_| Fault::MEMORY)?;
+            claims.push(name)?;
         }
     }
     Ok(claims)
@@ -137,7 +137,7 @@ fn take_all<B: Backend>(
     for name in files {
         let name = name.as_str();
         match take(rt, folder, submitting, name) {
-            Ok(Some(claim)) => claims.push(claim).map_err(|_| Fault::MEMORY)?,
+            Ok(Some(claim)) => claims.push(claim)?,
             Ok(None) => {}
             Err(fault) => {
                 tell_left(fault, name, out)?;

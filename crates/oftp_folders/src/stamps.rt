@@ -63,8 +63,8 @@ impl Moment {
             return Err(Fault::File);
         };
         let tick = self.tick;
-        let text = format!(in alloc; "{second} {tick:04}").map_err(|_| Fault::MEMORY)?;
-        digits_of(alloc, text.as_str()).map_err(|_| Fault::MEMORY)
+        let text = format!(in alloc; "{second} {tick:04}")?;
+        Ok(digits_of(alloc, text.as_str())?)
     }
 }
 

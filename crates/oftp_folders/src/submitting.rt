@@ -137,10 +137,8 @@ impl<'a, B: Backend> Submitting<'a, B> {
     /// Adds a dataset name to those that are looked up.
     fn want(&mut self, dataset: &str) -> Result<(), Fault> {
         let name = octets_of(self.rt.alloc(), dataset)?;
-        match self.wanted.insert(name, true) {
-            Ok(_) => Ok(()),
-            Err(_) => Err(Fault::MEMORY),
-        }
+        self.wanted.insert(name, true)?;
+        Ok(())
     }
 
     /// Looks up what the register has now.
@@ -163,10 +161,8 @@ impl<'a, B: Backend> Submitting<'a, B> {
         }
         let claim = claim_name(self.rt.alloc(), Stamps::of(file), self.line.to)?;
         let claim = octets_of(self.rt.alloc(), claim.as_str())?;
-        match self.known.insert(claim, file.no) {
-            Ok(_) => Ok(()),
-            Err(_) => Err(Fault::MEMORY),
-        }
+        self.known.insert(claim, file.no)?;
+        Ok(())
     }
 
     /// The name under which a file is taken if it is given this time. `None` if a file with this time is in the register, taken or refused.
@@ -236,10 +232,8 @@ impl<'a, B: Backend> Submitting<'a, B> {
             Err(error) => return Err(file_fault(&error)),
         }
         let given = octets_of(self.rt.alloc(), claim.as_str())?;
-        match self.given.insert(given, true) {
-            Ok(_) => Ok(Some(claim)),
-            Err(_) => Err(Fault::MEMORY),
-        }
+        self.given.insert(given, true)?;
+        Ok(Some(claim))
     }
 
     /// The name under which a file is taken. It has the time of the file's last change, or the first later one that no file with this name to
@@ -495,13 +489,13 @@ pub(super) fn tell_left(fault: Fault, name: &str, out: &mut impl Write) -> Resul
 fn write_beside(rt: &HostRuntime, path: &str, why: Why) -> Result<(), Fault> {
     let alloc = rt.alloc();
     let path = line_path(alloc, path)?;
-    let line = format!(in alloc; "{why}\n").map_err(|_| Fault::MEMORY)?;
+    let line = format!(in alloc; "{why}\n")?;
     write_anew(rt, path.as_str(), line.as_bytes()).map_err(|error| file_fault(&error))
 }
 
 /// The path of the file with the line of a refused file.
 fn line_path(alloc: Global, path: &str) -> Result<String, Fault> {
-    format!(in alloc; "{path}{}", LINE).map_err(|_| Fault::MEMORY)
+    Ok(format!(in alloc; "{path}{}", LINE)?)
 }
 
 /// Writes a new file in place of what is at a path, and syncs it. A link there isn't followed.
@@ -527,10 +521,10 @@ fn stamps_of<'a>(claim: &'a str) -> Stamps<'a> {
 
 /// The dataset name in the name of a file that is taken for the partner.
 fn dataset_of(alloc: Global, claim: &str) -> Result<String, Fault> {
-    String::from_str(alloc, stamps_of(claim).dataset).map_err(|_| Fault::MEMORY)
+    Ok(String::from_str(alloc, stamps_of(claim).dataset)?)
 }
 
 /// A text as a key of a map.
 fn octets_of(alloc: Global, text: &str) -> Result<Vec<u8>, Fault> {
-    Vec::from_slice(alloc, text.as_bytes()).map_err(|_| Fault::MEMORY)
+    Ok(Vec::from_slice(alloc, text.as_bytes())?)
 }

@@ -36,6 +36,10 @@ fault_line (Store store.WrongSchema) = codes "fault: 6 store 3"
 fault_line File = codes "fault: 7 file"
 fault_line Socket = codes "fault: 8 socket"
 
+-- the error of a call for which there is no memory
+abbrev pub out_of_memory : Fault
+out_of_memory = Run Memory
+
 -- the error of a failed write
 abbrev pub write_fault : Fault
 write_fault = Run Write

@@ -1,12 +1,13 @@
 //! The results of commands, as they are printed.
 
 ghost use Rattle.std.specs.Prelude.{◌≡◌, IfErr, OnOk, Some};
-ghost use Rattle.oftp_outcomes.specs.Printed.{TakesLine, fault_in_memory, fault_line, fault_of_report, is_refusal, outcome_line, outcome_of, verb_text, write_fault};
+ghost use Rattle.oftp_outcomes.specs.Printed.{TakesLine, fault_in_memory, fault_line, fault_of_report, is_refusal, outcome_line, outcome_of, out_of_memory, verb_text, write_fault};
 
 use oftp_engine::{End, Refusal, RunFault, Told};
 use oftp_listing::ListFault;
 use oftp_partners::BookFault;
 use oftp_tables::StoreFault;
+use std::alloc::{AllocError, AllocFailed};
 use std::fmt;
 use std::io::{self, Write};
 
@@ -37,6 +38,22 @@ impl Fault {
             Fault::Run(RunFault::Write) => Fault::MEMORY,
             other => other,
         }
+    }
+}
+
+impl From<AllocError> for Fault {
+    ghost from_gives = { λ _ fault. fault ≡ out_of_memory };
+
+    fn from(_error: AllocError) -> Fault {
+        Fault::MEMORY
+    }
+}
+
+impl<T: Drop> From<AllocFailed<T>> for Fault {
+    ghost from_gives = { λ _ fault. fault ≡ out_of_memory };
+
+    fn from(_error: AllocFailed<T>) -> Fault {
+        Fault::MEMORY
     }
 }
 

@@ -1,20 +1,12 @@
 //! The socket beside a database: its path, and how it is created, replaced and connected to.
 
+use oftp_files::socket_name;
 use std::fs::{self, File, Files};
 use std::io::{self, ErrorKind};
 use std::net::Net;
 use std::os::fd::{AsFd, AsRawFd};
-use std::os::unix::fs::{FileTypeExt, MetadataExt};
+use std::os::unix::fs::FileTypeExt;
 use std::os::unix::net::{SocketAddr, UnixListener, UnixStream};
-
-/// The ending of the socket's name after the database's name.
-const ENDING: &str = "-station";
-
-/// Up to how many octets of a database's name a socket's address has room for.
-const LONGEST_NAME: usize = 80;
-
-/// The beginning of the socket's name where the database's is longer. The number of the database's file follows.
-const INSTEAD: &str = ".oftp_station_of_";
 
 /// The mode of the socket's file: whoever may write it may connect.
 const MODE: u32 = 0o600;
@@ -85,15 +77,6 @@ impl SocketPlace {
             _ => Ok(()),
         }
     }
-}
-
-/// The name of the socket of a database with this path and name.
-fn socket_name(rt: &HostRuntime, path: &str, name: &str) -> io::Result<String> {
-    if name.len() <= LONGEST_NAME {
-        return Ok(format!(in rt.alloc(); "{name}{}", ENDING)?);
-    }
-    let number = fs::metadata(rt, path)?.ino();
-    Ok(format!(in rt.alloc(); "{}{number}", INSTEAD)?)
 }
 
 /// The system's error, if a C function returned a negative number.

@@ -29,10 +29,7 @@ pub(super) fn run(rt: &HostRuntime, line: &Run<'_>, out: &mut impl Write) -> Res
 /// A copy of a name, if there is one.
 fn name_of(alloc: Global, name: Option<&str>) -> Result<Option<String>, Fault> {
     match name {
-        Some(name) => match String::from_str(alloc, name) {
-            Ok(name) => Ok(Some(name)),
-            Err(_) => Err(Fault::MEMORY),
-        },
+        Some(name) => Ok(Some(String::from_str(alloc, name)?)),
         None => Ok(None),
     }
 }
