@@ -53,7 +53,7 @@ impl<T: Drop> From<AllocFailed<T>> for Fault {
     ghost from_gives = { λ _ fault. fault ≡ out_of_memory };
 
     fn from(_error: AllocFailed<T>) -> Fault {
-        Fault::MEMORY
+        Fault::from(AllocError)
     }
 }
 
