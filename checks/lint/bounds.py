@@ -118,7 +118,7 @@ BOUNDS = [
     ("docs/COMMANDS.md", rf"A command has {N} seconds to send its request, and {N}\s+seconds without progress", (LIMITS["ASKING"], LIMITS["ASKING"])),
     ("docs/COMMANDS.md", rf"one for each {N} octets", (LIMITS["SHARE"],)),
     ("docs/COMMANDS.md", rf"hears nothing more while {N} MiB", (LIMITS["BACKLOG"] // MIB,)),
-    ("docs/COMMANDS.md", rf"Answers that wait to be taken hold {N} MiB", (LIMITS["HELD"] // MIB,)),
+    ("docs/COMMANDS.md", rf"Where answers of {N} MiB or more wait to be taken", (LIMITS["HELD"] // MIB,)),
     ("docs/COMMANDS.md", rf"within {N} seconds, or within `--patience`", (DIALING,)),
     ("docs/COMMANDS.md", rf"can't begin within {N} seconds", (LIMITS["STANDING"],)),
     ("docs/COMMANDS.md", rf"\(`--sessions`, `--requests`\) is 1 by default, and {N}\s+at most", (CALLERS,)),
