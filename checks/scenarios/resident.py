@@ -652,6 +652,24 @@ def who_waits_at_the_last_job(room):
         service.ends()
 
 
+def who_comes_at_the_last_job(room):
+    """Of five commands that come at once to a station of one job each is done or told that the station ends, also one that was never accepted."""
+    file = room / "file"
+    file.write_bytes(b"A")
+    for number in range(8):
+        folder = room / str(number)
+        folder.mkdir()
+        with Resident(folder, "--jobs", "1") as service:
+            words = [["submit", "--book", BOOK, f"--dataset=INV.{it}", *IDENTITY[2:], file] for it in range(5)]
+            told_of = [told(program) for program in [begun(service, *it) for it in words]]
+            service.ends()
+            kinds = [(status, out.partition(b": ")[0], err) for status, out, err in told_of]
+            done = kinds.count((0, b"done", b""))
+            expect(kinds.count((1, b"", b"fault: 8 socket\n")) + done, 5, f"how many are done or told of the end, of {kinds}")
+            report = given(service, "report", "out")[1].splitlines()
+            expect(len(report) - 1, done, "how many the register has")
+
+
 def callers_in_their_order(room):
     """Callers who come during a session and are ready to be let in are served in the order in which they came, and one who isn't keeps none of
     those behind him waiting."""
@@ -1665,7 +1683,7 @@ def with_files(room, count):
 
 
 def killed_before_it_hears_a_command(room):
-    """Each command whose station is killed before it has heard the request says so, and has done nothing."""
+    """Each command whose station is killed before it would hear a request says that nothing was asked, and has done nothing."""
     file, fetched = room / "file", room / "fetched"
     file.write_bytes(b"A")
     with_files(room, 2)
@@ -1683,7 +1701,7 @@ def killed_before_it_hears_a_command(room):
         until_connected(asked)
         service.program.kill()
         for program in asked:
-            expect(told(program), (1, b"", b"fault: 3 office\n"), f"{program.args[1]} of a station that is killed")
+            expect(told(program), (1, b"", b"fault: 8 socket\n"), f"{program.args[1]} of a station that is killed")
     expect_untouched(room, service.database)
 
 
@@ -1875,6 +1893,7 @@ CASES = [
     many_changes_behind_a_session,
     called_one_after_another,
     who_waits_at_the_last_job,
+    who_comes_at_the_last_job,
     stale_socket,
     file_in_the_place_of_the_socket,
     two_stations,

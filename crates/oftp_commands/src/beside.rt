@@ -55,9 +55,10 @@ fn connected(rt: &HostRuntime, database: &str) -> Option<UnixStream> {
     SocketPlace::beside(rt, database).ok()?.connect(rt).ok()
 }
 
-/// Sends a request, once the station will read it.
+/// Sends a request, once the station will read it. Of a station that ends before that nothing is asked.
 fn send(alloc: Global, stream: &UnixStream, request: &Request<'_>) -> Result<(), Fault> {
-    read_ready(alloc, &mut Port::new(stream, u64::MAX)).map_err(fault_of)?;
+    let ready = read_ready(alloc, &mut Port::new(stream, u64::MAX));
+    ready.map_err(|fault| fault_of(fault, Fault::Socket))?;
     if !fits(request) {
         return Err(Fault::MEMORY);
     }
@@ -77,7 +78,7 @@ fn receive(
 ) -> Result<Ending, Fault> {
     let mut reader = Port::new(stream, u64::MAX);
     for _ in 0..u64::MAX {
-        match read_part(alloc, &mut reader).map_err(fault_of)? {
+        match read_part(alloc, &mut reader).map_err(|fault| fault_of(fault, GONE))? {
             AnswerPart::End(Ending::Failed(fault)) => return Err(fault),
             AnswerPart::End(ending) => return Ok(ending),
             AnswerPart::Piece(_, octets) => {
@@ -105,10 +106,10 @@ fn take_piece(
     Ok(())
 }
 
-/// The error for an answer that can't be read.
-fn fault_of(fault: HearFault) -> Fault {
+/// The error for octets that can't be read, where the station is gone with this one.
+fn fault_of(fault: HearFault, gone: Fault) -> Fault {
     match fault {
         HearFault::Memory => Fault::MEMORY,
-        HearFault::Input | HearFault::Form => GONE,
+        HearFault::Input | HearFault::Form => gone,
     }
 }

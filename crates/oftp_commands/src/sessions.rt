@@ -4,8 +4,8 @@ use oftp_command_line::{Feed, Side};
 use oftp_database::{self as database, DatabaseOffice, PATIENCE};
 use oftp_engine::{End, Port, Refusal, Role, serve_in_memory};
 use oftp_files::{
-    LIMITS, Trace, Traced, are_of_one_file, file_fault, is_at, is_of_database, open_input,
-    open_trace, read_book,
+    LIMITS, Trace, Traced, are_of_one_file, file_fault, is_at, is_beside_database, is_of_database,
+    open_input, open_trace, read_book,
 };
 use oftp_life::Life;
 use oftp_outcomes::{Fault, Outcome};
@@ -102,6 +102,7 @@ fn ports<'a>(
     trace: Option<&'a Trace<'a>>,
 ) -> Result<(Port<Traced<'a, File>>, Port<Traced<'a, File>>), Fault> {
     check_output(rt, line, &input)?;
+    check_name(rt, line)?;
     let output = fs::create(rt, line.output).map_err(|error| file_fault(&error))?;
     Ok(ports_of(Traced::reader(input, trace), Traced::writer(output, trace)))
 }
@@ -122,6 +123,14 @@ fn check_output<R: Files + AllocGlobal>(
         return Err(Fault::File);
     }
     Ok(())
+}
+
+/// Refuses an output with the name of a file that may appear beside the database.
+fn check_name(rt: &HostRuntime, line: &Feed<'_>) -> Result<(), Fault> {
+    match line.database {
+        Some(database) if is_beside_database(rt, line.output, database)? => Err(Fault::File),
+        _ => Ok(()),
+    }
 }
 
 /// Whether the output is the input, the book, the trace or a file of the database.

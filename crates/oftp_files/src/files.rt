@@ -5,7 +5,7 @@ use oftp_outcomes::Fault;
 use std::fs::{self, File, Metadata, OpenFile, OpenOptions};
 use std::io::{self, ErrorKind};
 use std::os::unix::fs::MetadataExt;
-use std::path::Path;
+use std::path::PathBuf;
 use std::rt::Files;
 
 /// The endings of the files beside a database: its log, those that sqlite3 makes, and the socket of its station.
@@ -119,11 +119,12 @@ pub fn is_of_database<R: Files + AllocGlobal>(
 }
 
 /// Whether a path has the name of a file beside a database, even if that file doesn't exist yet.
-pub(super) fn is_beside_database(
-    rt: &HostRuntime,
-    path: Path<'_>,
-    database: &str,
-) -> Result<bool, Fault> {
+///
+/// # Errors
+/// [`Fault::File`] if the database or the path's folder doesn't exist, or can't be examined; [`Fault::MEMORY`].
+pub fn is_beside_database(rt: &HostRuntime, path: &str, database: &str) -> Result<bool, Fault> {
+    let path = PathBuf::from_str(rt.alloc(), path)?;
+    let path = path.as_path();
     let real = fs::canonicalize(rt, database).map_err(|error| file_fault(&error))?;
     let folder = fs::canonicalize(rt, folder_of(path)).map_err(|error| file_fault(&error))?;
     let real = real.as_path();

@@ -19,8 +19,8 @@ pub use book::{book_of, read_book, read_book_octets};
 pub use content::{content_of, read_content, read_to_compare};
 pub use drafts::{Draft, bears, is_free, log_of, remove_log, sweep};
 pub use files::{
-    are_of_one_file, file_fault, is_at, is_of_database, is_ours, open_at_once, open_input,
-    open_regular, socket_name,
+    are_of_one_file, file_fault, is_at, is_beside_database, is_of_database, is_ours, open_at_once,
+    open_input, open_regular, socket_name,
 };
 pub use limits::LIMITS;
 pub use replacing::{

@@ -92,11 +92,10 @@ fn free_path(rt: &HostRuntime, path: &str, database: &str) -> Result<PathBuf, Fa
         Err(error) if error.kind() == ErrorKind::NotFound => {}
         Err(error) => return Err(file_fault(&error)),
     }
-    let path = PathBuf::from_str(rt.alloc(), path)?;
-    if is_beside_database(rt, path.as_path(), database)? {
+    if is_beside_database(rt, path, database)? {
         return Err(Fault::File);
     }
-    Ok(path)
+    Ok(PathBuf::from_str(rt.alloc(), path)?)
 }
 
 /// The place of an existing file. If the path leads over links, its target is replaced and the links stay.

@@ -1,13 +1,13 @@
 //! The traces that command lines ask for.
 
-use crate::files::{file_fault, is_at, is_of_database};
+use crate::files::{file_fault, is_at, is_beside_database, is_of_database};
 use crate::tracing::Trace;
 use oftp_outcomes::Fault;
 use std::fs::{self, Metadata};
 use std::io::ErrorKind;
 
-/// Opens the trace at a path, if there is one. A file that the session needs may not be traced to: one of `needed`, or one of the database.
-/// A device may.
+/// Opens the trace at a path, if there is one. A file that the session needs may not be traced to: one of `needed`, one of the database, or one
+/// that may appear beside that. A device may.
 ///
 /// # Errors
 /// [`Fault::File`] if it is such a file, or can't be created or written; [`Fault::MEMORY`].
@@ -20,6 +20,11 @@ pub fn open_trace<'a>(
     let Some(path) = path else {
         return Ok(None);
     };
+    if let Some(database) = database
+        && is_beside_database(rt, path, database)?
+    {
+        return Err(Fault::File);
+    }
     match fs::metadata(rt, path) {
         Ok(about) if about.is_file() && is_needed(rt, &about, needed, database)? => {
             return Err(Fault::File);
