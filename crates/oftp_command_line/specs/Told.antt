@@ -1,4 +1,4 @@
--- The declarations of the code to the parser, and the names of values. Only private functions cite it.
+-- The declarations of the code to the parser, and the names of values. Of the public functions only `declarations` cites it.
 use Rattle.std.specs.Prelude.{◌≡◌, ℕ, Bool, IsSome, List, Option, None, Some, codes, false, fold, map, true}
 use Rattle.std.specs.Borrow.{Bor}
 use Rattle.clap.specs.Words.{App, Row, Rule, Text, first_of, new_app, with_rule}

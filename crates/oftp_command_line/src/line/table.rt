@@ -13,7 +13,7 @@ use super::commands::Name;
 /// A command of the table.
 #[derive(Clone, Copy)]
 pub struct Declaration {
-    // Which command it is.
+    // Which command it is: this says how its values are read.
     pub(super) name: Name,
     /// The word that names it.
     pub word: &'static str,
@@ -29,6 +29,7 @@ pub struct Declaration {
 // if it takes numbers; or as `Shared(..)`.
 macro_rules! argument {
     (Shared($($shared:tt)*)) => { shared!(argument {} {} $($shared)*) };
+    (Flag($id:literal, $help:literal)) => { argument!(Kind::Flag, $id, $id, $help) };
     (Defaulted($id:literal, $shown:literal, $help:literal, $value:literal $(, $low:literal, $high:ident)?)) => {
         argument!(Kind::Defaulted($value), $id, $shown, $help $(, $low, $high)?)
     };
@@ -98,289 +99,144 @@ macro_rules! declaration {
     };
 }
 
-const INIT: Declaration = declaration!(
-    Init,
-    "init",
-    "Opens the database and makes its tables",
-    [Shared(database)]
-);
+// The commands, in their order in texts.
+const INIT: Declaration =
+    declaration! { Init, "init", "Opens the database and makes its tables", [Shared(database)] };
 
-const MIGRATE: Declaration = declaration!(
-    Migrate,
-    "migrate",
-    "Brings a database of schema 1 to schema 2",
-    [Shared(database)]
-);
+const MIGRATE: Declaration =
+    declaration! { Migrate, "migrate", "Brings a database of schema 1 to schema 2", [Shared(database)] };
 
-const CHECK: Declaration = declaration!(
-    Check,
-    "check",
-    "Reads the book and counts its partners",
-    [Shared(book)]
-);
+const CHECK: Declaration =
+    declaration! { Check, "check", "Reads the book and counts its partners", [Shared(book)] };
 
-const SUBMIT: Declaration = declaration!(
-    Submit,
-    "submit",
-    "Hands over file FILE, which is to be sent to a partner",
-    [
+const SUBMIT: Declaration =
+    declaration! { Submit, "submit", "Hands over file FILE, which is to be sent to a partner", [
         Shared(database),
         Shared(book),
         Needed("dataset", "NAME", "The virtual file's dataset name"),
         Needed("date", "DATE", "Its date stamp, as 20240131"),
         Needed("time", "TIME", "Its time stamp, as 1015300001"),
         Needed("to", "CODE", "The code of the partner that it goes to"),
-        Needed(
-            "format",
-            "FORMAT",
-            "The format of its records: F, V, U or T"
-        ),
-        Defaulted(
-            "longest",
-            "OCTETS",
-            "The length of its records in F, or of the longest in V, 1 to 16384",
-            "0",
-            0,
-            MOST_LONGEST
-        ),
+        Needed("format", "FORMAT", "The format of its records: F, V, U or T"),
+        Defaulted("longest", "OCTETS", "The length of its records in F, or of the longest in V, 1 to 16384", "0", 0, MOST_LONGEST),
         Defaulted("description", "TEXT", "What it is, in words", ""),
         Word("file", "FILE", "The file that holds it in its local form"),
-    ]
-);
+    ] };
 
-const OFFER: Declaration = declaration!(
-    Offer,
-    "offer",
-    "Hands over the files in folder FOLDER, which are to be sent to a partner",
-    [
+const OFFER: Declaration =
+    declaration! { Offer, "offer", "Hands over the files in folder FOLDER, which are to be sent to a partner", [
         Shared(database),
         Shared(book),
         Needed("to", "CODE", "The code of the partner that they go to"),
-        Needed(
-            "from",
-            "FOLDER",
-            "The folder that holds them in their local form"
-        ),
-        Defaulted(
-            "format",
-            "FORMAT",
-            "The format of their records: F, V, U or T",
-            "U"
-        ),
-        Defaulted(
-            "longest",
-            "OCTETS",
-            "The length of their records in F, or of the longest in V, 1 to 16384",
-            "0",
-            0,
-            MOST_LONGEST
-        ),
-    ]
-);
+        Needed("from", "FOLDER", "The folder that holds them in their local form"),
+        Defaulted("format", "FORMAT", "The format of their records: F, V, U or T", "U"),
+        Defaulted("longest", "OCTETS", "The length of their records in F, or of the longest in V, 1 to 16384", "0", 0, MOST_LONGEST),
+    ] };
 
-const RELEASE: Declaration = declaration!(
-    Release,
-    "release",
-    "Says that an incoming file was delivered",
-    [Shared(database), Shared(book), Shared(number)]
-);
+const RELEASE: Declaration =
+    declaration! { Release, "release", "Says that an incoming file was delivered", [
+        Shared(database),
+        Shared(book),
+        Shared(number),
+    ] };
 
-const REFUSE: Declaration = declaration!(
-    Refuse,
-    "refuse",
-    "Says that an incoming file wasn't delivered",
-    [
+const REFUSE: Declaration =
+    declaration! { Refuse, "refuse", "Says that an incoming file wasn't delivered", [
         Shared(database),
         Shared(book),
         Shared(number),
         Word("reason", "REASON", "Why it wasn't, 0 to 99", 0, MOST_REASON),
         Word("text", "TEXT", "The reason in words"),
-    ]
-);
+    ] };
 
-const FETCH: Declaration = declaration!(
-    Fetch,
-    "fetch",
-    "Writes an incoming file in its local form to file FILE",
-    [
+const FETCH: Declaration =
+    declaration! { Fetch, "fetch", "Writes an incoming file in its local form to file FILE", [
         Shared(database),
         Shared(number),
         Word("file", "FILE", "The file that is given its local form"),
-    ]
-);
+    ] };
 
-const COLLECT: Declaration = declaration!(
-    Collect,
-    "collect",
-    "Writes the incoming files that are whole and not answered to folder FOLDER",
-    [
+const COLLECT: Declaration =
+    declaration! { Collect, "collect", "Writes the incoming files that are whole and not answered to folder FOLDER", [
         Shared(database),
         Shared(book),
         Needed("to", "FOLDER", "The folder that is given their local forms"),
-        Flag("release", "release", "Releases each file once it is there"),
-    ]
-);
+        Flag("release", "Releases each file once it is there"),
+    ] };
 
-const REPORT: Declaration = declaration!(
-    Report,
-    "report",
-    "Tells what the database holds, as comma-separated values",
-    [
+const REPORT: Declaration =
+    declaration! { Report, "report", "Tells what the database holds, as comma-separated values", [
         Shared(database),
-        Word(
-            "kind",
-            "KIND",
-            "What is reported: in, out, issued or received"
-        ),
-    ]
-);
+        Word("kind", "KIND", "What is reported: in, out, issued or received"),
+    ] };
 
-const BACKUP: Declaration = declaration!(
-    Backup,
-    "backup",
-    "Copies the database as it stands to file TO",
-    [
+const BACKUP: Declaration =
+    declaration! { Backup, "backup", "Copies the database as it stands to file TO", [
         Shared(database),
         Word("to", "TO", "The file that is given the copy"),
-    ]
-);
+    ] };
 
-const SHOW: Declaration = declaration!(
-    Show,
-    "show",
-    "Prints the commands in file IN, a line each, up to the first fault",
-    [Word(
-        "in",
-        "IN",
-        "The file that holds what one side of a session sent"
-    ),]
-);
+const SHOW: Declaration =
+    declaration! { Show, "show", "Prints the commands in file IN, a line each, up to the first fault", [
+        Word("in", "IN", "The file that holds what one side of a session sent"),
+    ] };
 
-const FEED: Declaration = declaration!(
-    Feed,
-    "feed",
-    "Plays one session from the octets of file IN to file OUT",
-    [
+const FEED: Declaration =
+    declaration! { Feed, "feed", "Plays one session from the octets of file IN to file OUT", [
         Optional("db", "DATABASE", "The file that holds the database"),
         Shared(book),
-        Defaulted(
-            "role",
-            "ROLE",
-            "The side that the station plays: responder or initiator",
-            "responder"
-        ),
-        Optional(
-            "partner",
-            "CODE",
-            "The code of the partner that an initiator calls"
-        ),
+        Defaulted("role", "ROLE", "The side that the station plays: responder or initiator", "responder"),
+        Optional("partner", "CODE", "The code of the partner that an initiator calls"),
         Shared(trace),
         Word("in", "IN", "The file that holds what the partner sends"),
-        Word(
-            "out",
-            "OUT",
-            "The file that is given what the station sends"
-        ),
-    ]
-);
+        Word("out", "OUT", "The file that is given what the station sends"),
+    ] };
 
-const RUN: Declaration = declaration!(
-    Run,
-    "run",
-    "Serves partners and commands by day and night, one after another",
-    [
+const RUN: Declaration =
+    declaration! { Run, "run", "Serves partners and commands by day and night, one after another", [
         Shared(database),
         Shared(book),
         Shared(port, "3305"),
         Shared(address),
-        Defaulted(
-            "http-port",
-            "PORT",
-            "The port where requests by HTTP are awaited, 0 to 65535, 0 for none",
-            "0",
-            0,
-            MOST_PORT
-        ),
+        Defaulted("http-port", "PORT", "The port where requests by HTTP are awaited, 0 to 65535, 0 for none", "0", 0, MOST_PORT),
         Optional("host", "NAME", "A name by which browsers find this machine"),
-        Defaulted(
-            "call-every",
-            "SECONDS",
-            "After how many seconds each partner for whom something waits is called, 0 to 86400, 0 for never",
-            "0",
-            0,
-            MOST_INTERVAL
-        ),
+        Defaulted("call-every", "SECONDS", "After how many seconds each partner for whom something waits is called, 0 to 86400, 0 for never", "0", 0, MOST_INTERVAL),
         Shared(admission),
         Shared(patience),
         Shared(duration),
         Shared(trace),
-        Defaulted(
-            "jobs",
-            "COUNT",
-            "After how many jobs it ends, 0 to 1000000, 0 for never",
-            "0",
-            0,
-            MOST_JOBS
-        ),
-    ]
-);
+        Defaulted("jobs", "COUNT", "After how many jobs it ends, 0 to 1000000, 0 for never", "0", 0, MOST_JOBS),
+    ] };
 
-const LISTEN: Declaration = declaration!(
-    Listen,
-    "listen",
-    "Serves sessions of partners who call, one after another",
-    [
+const LISTEN: Declaration =
+    declaration! { Listen, "listen", "Serves sessions of partners who call, one after another", [
         Shared(database),
         Shared(book),
         Shared(port, "3305"),
         Shared(address),
-        Defaulted(
-            "sessions",
-            "COUNT",
-            "How many sessions are served, 1 to 1000000",
-            "1",
-            1,
-            MOST_CALLERS
-        ),
+        Defaulted("sessions", "COUNT", "How many sessions are served, 1 to 1000000", "1", 1, MOST_CALLERS),
         Shared(admission),
         Shared(patience),
         Shared(duration),
         Shared(trace),
-    ]
-);
+    ] };
 
-const CALL: Declaration = declaration!(
-    Call,
-    "call",
-    "Calls a partner for one session",
-    [
-        Shared(database),
-        Shared(book),
-        Needed("partner", "CODE", "The code of the partner that is called"),
-        Shared(patience),
-        Shared(duration),
-        Shared(trace),
-    ]
-);
+const CALL: Declaration = declaration! { Call, "call", "Calls a partner for one session", [
+    Shared(database),
+    Shared(book),
+    Needed("partner", "CODE", "The code of the partner that is called"),
+    Shared(patience),
+    Shared(duration),
+    Shared(trace),
+] };
 
-const HTTP: Declaration = declaration!(
-    Http,
-    "http",
-    "Answers requests for what the database holds, one after another",
-    [
+const HTTP: Declaration =
+    declaration! { Http, "http", "Answers requests for what the database holds, one after another", [
         Shared(database),
         Shared(port, "8080"),
         Shared(address),
-        Defaulted(
-            "requests",
-            "COUNT",
-            "How many requests are answered, 1 to 1000000",
-            "1",
-            1,
-            MOST_CALLERS
-        ),
-    ]
-);
+        Defaulted("requests", "COUNT", "How many requests are answered, 1 to 1000000", "1", 1, MOST_CALLERS),
+    ] };
 
 #[tactic(auto, unfolding(crate::specs::FeedLine::feed_app, crate::specs::FolderLines::collect_app, crate::specs::FolderLines::offer_app, crate::specs::OperatorLines::submit_app, crate::specs::OperatorLines::release_app, crate::specs::OperatorLines::refuse_app, crate::specs::RegisterLines::fetch_app, crate::specs::RegisterLines::report_app, crate::specs::RegisterLines::backup_app, crate::specs::ServiceLines::run_app, crate::specs::ServiceLines::listen_app, crate::specs::ServiceLines::call_app, crate::specs::ServiceLines::http_app))]
 impl Name {
