@@ -3,7 +3,6 @@ ghost use Rattle.std.specs.Prelude.{◌≡◌, IfErr, IfOk, None, Some, map, opt
 ghost use Rattle.std.specs.String.{string_bytes};
 ghost use Rattle.oftp_command_line.specs.Fault.{is_bad};
 ghost use Rattle.oftp_command_line.specs.Line.{asked_by, line_named, line_of_words, only_prints, said};
-ghost use Rattle.oftp_command_line.specs.Told.{IsTold};
 ghost use Rattle.oftp_command_line.specs.declared.line.LineFault.TheVariants.{Memory};
 
 mod arguments;
@@ -14,6 +13,7 @@ mod values;
 
 use arguments::command;
 pub use arguments::{Argument, Kind};
+use commands::Name;
 pub use commands::feed::{Feed, Side};
 pub use commands::files::Files;
 pub use commands::folders::{Collect, Offer};
@@ -22,7 +22,6 @@ pub use commands::registers::{Backup, Fetch, Report};
 pub use commands::services::{Call, Http, Listen, Run};
 pub use commands::terms::{Entrance, SessionTerms};
 use std::alloc::{AllocError, Global};
-use table::command_named;
 pub use table::{Declaration, declarations};
 pub use usage::{VERSION, help};
 use usage::{unknown_command, usage_after};
@@ -144,24 +143,19 @@ pub fn line_of<'a>(alloc: Global, words: &'a [String]) -> Result<Line<'a>, LineF
     if let Some(line) = asked(first.as_str()) {
         return Ok(line);
     }
-    let Some(declaration) = command_named(first.as_str()) else {
+    let Some(name) = Name::of(first.as_str()) else {
         return Err(LineFault::Bad(unknown_command(alloc, first.as_str())?));
     };
-    read_command(alloc, declaration, words)
+    read_command(alloc, name, words)
 }
 
-/// Parses the options and words of a command of the table. The parser takes the first word as the name.
-fn read_command<'a>(
-    alloc: Global,
-    declaration: Declaration,
-    words: &'a [String],
-) -> Result<Line<'a>, LineFault>
-    requires { IsTold declaration }
-    ensures ok { IfOk result (λ l. line_named declaration.name (map string_bytes words.entry.now) ≡ Some (said l)) }
+/// Parses the options and words of the command with this name. The parser takes the first word as the name.
+fn read_command<'a>(alloc: Global, name: Name, words: &'a [String]) -> Result<Line<'a>, LineFault>
+    ensures ok { IfOk result (λ l. line_named name (map string_bytes words.entry.now) ≡ Some (said l)) }
     ensures bad { IfErr result (λ e. is_bad e ≡ true
-        → line_named declaration.name (map string_bytes words.entry.now) ≡ None) }
+        → line_named name (map string_bytes words.entry.now) ≡ None) }
 {
-    let command = command(alloc, declaration)?;
+    let command = command(alloc, name.declaration())?;
     let matches = matched(alloc, command, words)?;
-    declaration.name.read(alloc, &matches)
+    name.read(alloc, &matches)
 }

@@ -1,8 +1,8 @@
 //! The table of the commands: the name of each, what it does, and its options and words. The parser, the usage and the help take them from here.
-ghost use Rattle.std.specs.Prelude.{◌≡◌, IfSome, map, option_map};
+ghost use Rattle.std.specs.Prelude.{◌≡◌, map};
 ghost use Rattle.std.specs.List.{All};
-ghost use Rattle.oftp_command_line.specs.Line.{command_names, name_of};
-ghost use Rattle.oftp_command_line.specs.Told.{IsTold, with_name, word_of};
+ghost use Rattle.oftp_command_line.specs.Line.{app_named, command_names, name_of};
+ghost use Rattle.oftp_command_line.specs.Told.{IsTold, app_told, with_name, word_of};
 
 use super::arguments::{
     Argument, Kind, MOST_ADMISSION, MOST_CALLERS, MOST_DURATION, MOST_INTERVAL, MOST_JOBS,
@@ -238,13 +238,13 @@ const HTTP: Declaration =
         Defaulted("requests", "COUNT", "How many requests are answered, 1 to 1000000", "1", 1, MOST_CALLERS),
     ] };
 
-#[tactic(auto, unfolding(crate::specs::FeedLine::feed_app, crate::specs::FolderLines::collect_app, crate::specs::FolderLines::offer_app, crate::specs::OperatorLines::submit_app, crate::specs::OperatorLines::release_app, crate::specs::OperatorLines::refuse_app, crate::specs::RegisterLines::fetch_app, crate::specs::RegisterLines::report_app, crate::specs::RegisterLines::backup_app, crate::specs::ServiceLines::run_app, crate::specs::ServiceLines::listen_app, crate::specs::ServiceLines::call_app, crate::specs::ServiceLines::http_app))]
 impl Name {
     /// The command with this name, as it is declared.
-    fn declaration(self) -> Declaration
+    #[tactic(auto, unfolding(crate::specs::Told::each_app))]
+    pub(super) fn declaration(self) -> Declaration
         ensures name { result.name ≡ self }
         ensures word { result.word.now ≡ word_of self }
-        ensures told { IsTold result }
+        ensures told { app_told result.word.now result.arguments.now ≡ app_named self }
     {
         match self {
             Name::Init => INIT,
@@ -265,6 +265,19 @@ impl Name {
             Name::Call => CALL,
             Name::Http => HTTP,
         }
+    }
+
+    /// The command that this word names.
+    pub(super) fn of(word: &str) -> Option<Name>
+        ensures { result ≡ name_of word.now }
+    {
+        let all = declarations();
+        for declaration in &all {
+            if word == declaration.word {
+                return Some(declaration.name);
+            }
+        }
+        None
     }
 }
 
@@ -292,18 +305,4 @@ pub fn declarations() -> [Declaration; 17]
         Name::Call.declaration(),
         Name::Http.declaration(),
     ]
-}
-
-/// The command with this name.
-pub(super) fn command_named(word: &str) -> Option<Declaration>
-    ensures name { option_map (λ d. d.name) result ≡ name_of word.now }
-    ensures told { IfSome result IsTold }
-{
-    let all = declarations();
-    for declaration in &all {
-        if word == declaration.word {
-            return Some(*declaration);
-        }
-    }
-    None
 }

@@ -7,7 +7,7 @@ use Rattle.oftp_command_line.specs.Line.{command_names}
 use Rattle.oftp_command_line.specs.Told.{with_name}
 use Rattle.oftp_command_line.specs.declared.line.commands.Name.{Name}
 use Rattle.oftp_command_line.specs.declared.line.table.Declaration.{Declaration}
-use Rattle.oftp_command_line.proofs.line.table.command_named.Goals as goal
+use Rattle.oftp_command_line.proofs.line.commands.Name.of.Goals as goal
 
 -- one more command
 next_command : (all : List Declaration) (text : Text) (i : ℕ) (d : Declaration) → map with_name all ≡ command_names → i < 17
@@ -34,8 +34,8 @@ missed all text i d o names within is so_far =
 pub loop-declaration-init : goal.loop-declaration-init
 loop-declaration-init c = ap (λ names. named names c.args.word.now) c.declarations-all.ensures.names
 
-pub returns-then-eq-clause-name : goal.returns-then-eq-clause-name
-returns-then-eq-clause-name c =
+pub returns-then-eq : goal.returns-then-eq
+returns-then-eq c =
     hit c.declarations-all.result c.args.word.now c.loop-declaration.declaration-index _ _ c.declarations-all.ensures.names c.loop-declaration-test.true
     (sym c.eq.ensures ∙ c.if-eq.true) c.loop-declaration.invariant
 

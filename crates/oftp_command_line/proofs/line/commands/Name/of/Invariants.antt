@@ -2,7 +2,7 @@ use Rattle.std.proofs.Common.{◌≡◌, drop, map}
 use Rattle.oftp_command_line.specs.Arguments.{named}
 use Rattle.oftp_command_line.specs.Line.{name_of}
 use Rattle.oftp_command_line.specs.Told.{with_name}
-use Rattle.oftp_command_line.proofs.line.table.command_named.Given as goal
+use Rattle.oftp_command_line.proofs.line.commands.Name.of.Given as goal
 
 -- the commands so far don't have the name
 abbrev pub invariant-loop-declaration : goal.invariant-loop-declaration
