@@ -30,8 +30,8 @@ def constant(path, name):
 
 def default(name):
     """The number that an option of the command line has where it isn't given."""
-    path = "oftp_command_line/src/line/arguments.rt"
-    found = re.search(rf'defaulted\({name}, "(\d+)"', (ROOT / "crates" / path).read_text(encoding="utf-8"))
+    path = "oftp_command_line/src/line/table.rt"
+    found = re.search(rf'Defaulted\("{name}", "\w+", "[^"]*", "(\d+)"', (ROOT / "crates" / path).read_text(encoding="utf-8"))
     if not found:
         raise LookupError(f"crates/{path} has no default of {name}")
     return int(found[1])
@@ -122,13 +122,13 @@ BOUNDS = [
     ("docs/COMMANDS.md", rf"within {N} seconds, or within `--patience`", (DIALING,)),
     ("docs/COMMANDS.md", rf"can't begin within {N} seconds", (LIMITS["STANDING"],)),
     ("docs/COMMANDS.md", rf"\(`--sessions`, `--requests`\) is 1 by default, and {N}\s+at most", (CALLERS,)),
-    ("docs/COMMANDS.md", rf"The default is {N}, and 1 to {N} \({N}\) are allowed", (default('"admission"'), ADMISSION, 86_400)),
+    ("docs/COMMANDS.md", rf"The default is {N}, and 1 to {N} \({N}\) are allowed", (default("admission"), ADMISSION, 86_400)),
     ("docs/COMMANDS.md", rf"Up to {N} callers are connected side by side", (LIMITS["PARTNERS"],)),
-    ("docs/COMMANDS.md", rf"The default is {N} and the most is {N}; 0 is no timeout", (default('"patience"'), PATIENCE)),
-    ("docs/COMMANDS.md", rf"to 1 to {N} seconds, by default {N}\.", (DURATION, default('"longest"'))),
+    ("docs/COMMANDS.md", rf"The default is {N} and the most is {N}; 0 is no timeout", (default("patience"), PATIENCE)),
+    ("docs/COMMANDS.md", rf"to 1 to {N} seconds, by default {N}\.", (DURATION, default("longest"))),
     ("docs/COMMANDS.md", rf"still sends, {N} seconds at most", (LIMITS["FAREWELL"],)),
     ("docs/COMMANDS.md", rf"must arrive within {N} seconds, and its reply must be out within another {N}\.", (LIMITS["REQUESTING"], LIMITS["REQUESTING"])),
-    ("docs/OPERATING.md", rf"then has {N} seconds to send a code and a password", (default('"admission"'),)),
+    ("docs/OPERATING.md", rf"then has {N} seconds to send a code and a password", (default("admission"),)),
     ("docs/OPERATING.md", rf"as long as no more than {N} of them wait. A partner who comes after {N} waits", (LIMITS["PARTNERS"], LIMITS["PARTNERS"])),
     ("docs/PARTNER.md", rf"{N} octets and {N} records at most", (OCTETS, RECORDS)),
     ("docs/PARTNER.md", rf"Records of F and V have up to {N} octets", (RECORD,)),

@@ -7,7 +7,7 @@ use Rattle.oftp_command_line.specs.Files.{FilesSaid, files_said, files_with}
 use Rattle.oftp_command_line.specs.OperatorLines.{format_of}
 use Rattle.oftp_command_line.specs.declared.line.commands.folders.Collect.{Collect}
 use Rattle.oftp_command_line.specs.declared.line.commands.folders.Offer.{Offer}
-use Rattle.oftp_command_line.specs.declared.line.commands.operators.TheConstants.{MOST_LONGEST}
+use Rattle.oftp_command_line.specs.declared.line.arguments.TheConstants.{MOST_LONGEST}
 
 -- the options of `collect`
 pub record CollectSaid : Type 0 where

@@ -63,15 +63,19 @@ abbrev pub asked_by : Text → Option Said
 asked_by = named ((codes "help", said_help) ∷ (codes "--help", said_help) ∷ (codes "-h", said_help)
     ∷ (codes "version", said_version) ∷ (codes "--version", said_version) ∷ (codes "-V", said_version) ∷ [])
 
--- the command with this name
-abbrev pub name_of : Text → Option Name
-name_of = named ((codes "init", name.Init) ∷ (codes "migrate", name.Migrate)
+-- all commands, by their names
+abbrev pub command_names : List (Text × Name)
+command_names = (codes "init", name.Init) ∷ (codes "migrate", name.Migrate)
     ∷ (codes "check", name.Check) ∷ (codes "submit", name.Submit) ∷ (codes "offer", name.Offer)
     ∷ (codes "release", name.Release) ∷ (codes "refuse", name.Refuse)
     ∷ (codes "fetch", name.Fetch) ∷ (codes "collect", name.Collect) ∷ (codes "report", name.Report)
     ∷ (codes "backup", name.Backup) ∷ (codes "show", name.Show)
     ∷ (codes "feed", name.Feed) ∷ (codes "run", name.Run)
-    ∷ (codes "listen", name.Listen) ∷ (codes "call", name.Call) ∷ (codes "http", name.Http) ∷ [])
+    ∷ (codes "listen", name.Listen) ∷ (codes "call", name.Call) ∷ (codes "http", name.Http) ∷ []
+
+-- the command with this name
+abbrev pub name_of : Text → Option Name
+name_of = named command_names
 
 -- the declaration of the command with this name to the parser
 abbrev pub app_named : Name → App

@@ -8,7 +8,7 @@ use Rattle.oftp_command_line.specs.Files.{FilesSaid, files_said, files_with}
 use Rattle.oftp_command_line.specs.declared.line.commands.operators.Refuse.{Refuse}
 use Rattle.oftp_command_line.specs.declared.line.commands.operators.Release.{Release}
 use Rattle.oftp_command_line.specs.declared.line.commands.operators.Submit.{Submit}
-use Rattle.oftp_command_line.specs.declared.line.commands.operators.TheConstants.{MOST_LONGEST, MOST_REASON}
+use Rattle.oftp_command_line.specs.declared.line.arguments.TheConstants.{MOST_LONGEST, MOST_REASON}
 
 -- the options and words of `submit`
 pub record SubmitSaid : Type 0 where

@@ -1,17 +1,24 @@
--- The declarations of the code to the parser, and the names of values. Only private functions cite it.
-use Rattle.std.specs.Prelude.{ℕ, Bool, IsSome, List, Option, None, Some, codes, false, fold, map, true}
+-- The declarations of the code to the parser, and the names of values. Of the public functions only `declarations` cites it.
+use Rattle.std.specs.Prelude.{◌≡◌, ⊤, ℕ, Bool, IsSome, List, Option, None, Some, codes, false, fold, map, true}
 use Rattle.std.specs.Borrow.{Bor}
 use Rattle.clap.specs.Words.{App, Row, Rule, Text, first_of, new_app, with_rule}
 use Rattle.clap.specs.declared.builder.ArgAction.{ArgAction}
 use Rattle.clap.specs.declared.builder.ArgAction.TheVariants.{Set, SetTrue}
 use Rattle.oftp_command_line.specs.Arguments as spec
 use Rattle.oftp_command_line.specs.Arguments.{IsNumber}
+use Rattle.oftp_command_line.specs.FeedLine.{feed_app}
+use Rattle.oftp_command_line.specs.FolderLines.{collect_app, offer_app}
+use Rattle.oftp_command_line.specs.Line.{app_named}
+use Rattle.oftp_command_line.specs.OperatorLines.{refuse_app, release_app, submit_app}
+use Rattle.oftp_command_line.specs.RegisterLines.{backup_app, fetch_app, report_app}
+use Rattle.oftp_command_line.specs.ServiceLines.{call_app, http_app, listen_app, run_app}
 use Rattle.oftp_command_line.specs.declared.line.arguments.Argument.{Argument}
 use Rattle.oftp_command_line.specs.declared.line.arguments.Kind.{Kind}
 use Rattle.oftp_command_line.specs.declared.line.arguments.Kind.TheVariants.{Word, Needed, Optional, Flag, Defaulted}
 use Rattle.oftp_command_line.specs.declared.line.arguments.TheConstants.{MOST_ADMISSION, MOST_DURATION, MOST_PATIENCE, MOST_PORT}
 use Rattle.oftp_command_line.specs.declared.line.commands.Name.{Name}
 use Rattle.oftp_command_line.specs.declared.line.commands.Name.TheVariants as name
+use Rattle.oftp_command_line.specs.declared.line.table.Declaration.{Declaration}
 
 -- whether an argument of a kind is required
 abbrev pub is_required : Kind → Bool
@@ -73,6 +80,19 @@ word_of name.Run = codes "run"
 word_of name.Listen = codes "listen"
 word_of name.Call = codes "call"
 word_of name.Http = codes "http"
+
+-- what a proof unfolds to compute the declaration of any command
+unfoldable pub each_app : ⊤
+unfolding backup_app call_app collect_app feed_app fetch_app http_app listen_app offer_app refuse_app release_app report_app run_app submit_app
+each_app = tt
+
+-- a command of the table, with its name
+abbrev pub with_name : Declaration → Text × Name
+with_name declaration = (declaration.word.now, declaration.name)
+
+-- a command of the table is declared to the parser as the command with its name
+abbrev pub IsTold : Declaration → Type 0
+IsTold declaration = app_told declaration.word.now declaration.arguments.now ≡ app_named declaration.name
 
 -- names with their values, as texts
 abbrev pub names_in : {X : Type 0} → List (Bor Text × X) → List (Text × X)

@@ -4,6 +4,7 @@
 mod line;
 
 pub use line::{
-    Backup, Call, Collect, Entrance, Feed, Fetch, Files, Http, Line, LineFault, Listen, Offer,
-    Refuse, Release, Report, Run, SessionTerms, Side, Submit, VERSION, help, line_of,
+    Argument, Backup, Call, Collect, Declaration, Entrance, Feed, Fetch, Files, Http, Kind, Line,
+    LineFault, Listen, Offer, Refuse, Release, Report, Run, SessionTerms, Side, Submit, VERSION,
+    declarations, help, line_of,
 };

@@ -7,9 +7,12 @@ ghost use Rattle.oftp_command_line.specs.declared.line.LineFault.TheVariants.{Me
 
 mod arguments;
 mod commands;
+mod table;
 mod usage;
 mod values;
 
+use arguments::command;
+pub use arguments::{Argument, Kind};
 use commands::Name;
 pub use commands::feed::{Feed, Side};
 pub use commands::files::Files;
@@ -19,6 +22,7 @@ pub use commands::registers::{Backup, Fetch, Report};
 pub use commands::services::{Call, Http, Listen, Run};
 pub use commands::terms::{Entrance, SessionTerms};
 use std::alloc::{AllocError, Global};
+pub use table::{Declaration, declarations};
 pub use usage::{VERSION, help};
 use usage::{unknown_command, usage_after};
 use values::matched;
@@ -151,7 +155,7 @@ fn read_command<'a>(alloc: Global, name: Name, words: &'a [String]) -> Result<Li
     ensures bad { IfErr result (λ e. is_bad e ≡ true
         → line_named name (map string_bytes words.entry.now) ≡ None) }
 {
-    let command = name.command(alloc)?;
+    let command = command(alloc, name.declaration())?;
     let matches = matched(alloc, command, words)?;
     name.read(alloc, &matches)
 }

@@ -1,6 +1,6 @@
 //! The texts about the program: its version, and the usage of each command.
 
-use super::commands::NAMES;
+use super::table::declarations;
 use std::alloc::{AllocError, Global};
 
 /// The line of the program's version, which CHANGELOG.md has too, with the schema of its databases.
@@ -12,9 +12,9 @@ pub const VERSION: &str = "oftp_station 1.0.0, schema 2";
 /// Out of memory.
 pub fn help(alloc: Global) -> Result<String, AllocError> {
     let mut text = String::from_str(alloc, "Usage:\n")?;
-    for name in NAMES {
-        let usage = name.usage();
-        let about = name.about();
+    for command in declarations() {
+        let usage = command.usage;
+        let about = command.about;
         write!(text, "  {usage}\n      {about}\n")?;
     }
     text.push_str("  oftp_station help\n      Prints this\n")?;
@@ -32,8 +32,8 @@ pub(super) fn unknown_command(alloc: Global, name: &str) -> Result<String, Alloc
 /// An error with the usage of each command.
 pub(super) fn usage_after(alloc: Global, error: &str) -> Result<String, AllocError> {
     let mut text = format!(in alloc; "{error}\n\nUsage:\n")?;
-    for name in NAMES {
-        let usage = name.usage();
+    for command in declarations() {
+        let usage = command.usage;
         write!(text, "  {usage}\n")?;
     }
     Ok(text)

@@ -1,12 +1,12 @@
 //! Runs the parser, and reads the values of the arguments.
-ghost use Rattle.std.specs.Prelude.{◌≡◌, ℕ, IfErr, IfOk, IsSome, None, Some, codes, map, option_map, true};
+ghost use Rattle.std.specs.Prelude.{◌≡◌, ℕ, IfErr, IfOk, IsSome, None, Some, map, option_map, true};
 ghost use Rattle.std.specs.String.{string_bytes};
 ghost use Rattle.clap.specs.Words.{app_of, first_of, is_simple_and_free, kind_of};
 ghost use Rattle.oftp_command_line.specs.Arguments as spec;
 ghost use Rattle.oftp_command_line.specs.Arguments.{HasValues, IsNumber, taken, values_in};
 ghost use Rattle.oftp_command_line.specs.Fault.{is_bad};
 ghost use Rattle.oftp_command_line.specs.Told.{names_in};
-ghost use Rattle.oftp_command_line.specs.declared.line.arguments.TheConstants.{MOST_ADMISSION, MOST_CALLERS, MOST_DURATION, MOST_INTERVAL, MOST_JOBS, MOST_NO, MOST_PATIENCE, MOST_PORT};
+ghost use Rattle.oftp_command_line.specs.declared.line.arguments.TheConstants.{MOST_PORT};
 
 use super::LineFault;
 use clap::error::ErrorKind;
@@ -78,98 +78,12 @@ pub(super) fn number(matches: &ArgMatches<'_>, id: &str) -> u64
     matches.get_one::<u64>(id).unwrap()
 }
 
-/// The incoming file's number.
-pub(super) fn no_of(matches: &ArgMatches<'_>) -> u64
-    requires { IsNumber 1 MOST_NO (codes "no") (values_in matches.now) }
-    ensures { result ≡ spec.number (codes "no") (values_in matches.now) }
-{
-    number(matches, "no")
-}
-
-/// The port to listen on.
-pub(super) fn port_of(matches: &ArgMatches<'_>) -> u16
-    requires { IsNumber 1 MOST_PORT (codes "port") (values_in matches.now) }
-    ensures { result ≡ spec.number (codes "port") (values_in matches.now) }
-{
-    number(matches, "port") as u16
-}
-
-/// The address to listen on.
-pub(super) fn address_of<'a>(matches: &ArgMatches<'a>) -> &'a str
-    requires { IsSome (first_of (codes "address") (values_in matches.now)) }
-    ensures { result.now ≡ spec.given (codes "address") (values_in matches.now) }
-{
-    given(matches, "address")
-}
-
-/// How many callers are served, from the option with this id.
-pub(super) fn callers_of(matches: &ArgMatches<'_>, id: &str) -> u64
-    requires { IsNumber 1 MOST_CALLERS id.now (values_in matches.now) }
+/// The value of an argument that takes ports, and is required or has a default.
+pub(super) fn port(matches: &ArgMatches<'_>, id: &str) -> u16
+    requires { (low : ℕ) × IsNumber low MOST_PORT id.now (values_in matches.now) }
     ensures { result ≡ spec.number id.now (values_in matches.now) }
 {
-    number(matches, id)
-}
-
-/// How many seconds a partner may be idle; 0 is no limit.
-pub(super) fn patience_of(matches: &ArgMatches<'_>) -> u64
-    requires { IsNumber 0 MOST_PATIENCE (codes "patience") (values_in matches.now) }
-    ensures { result ≡ spec.number (codes "patience") (values_in matches.now) }
-{
-    number(matches, "patience")
-}
-
-/// How many seconds a caller has to be admitted.
-pub(super) fn admission_of(matches: &ArgMatches<'_>) -> u64
-    requires { IsNumber 1 MOST_ADMISSION (codes "admission") (values_in matches.now) }
-    ensures { result ≡ spec.number (codes "admission") (values_in matches.now) }
-{
-    number(matches, "admission")
-}
-
-/// How many seconds a session may take.
-pub(super) fn duration_of(matches: &ArgMatches<'_>) -> u64
-    requires { IsNumber 1 MOST_DURATION (codes "longest") (values_in matches.now) }
-    ensures { result ≡ spec.number (codes "longest") (values_in matches.now) }
-{
-    number(matches, "longest")
-}
-
-/// The HTTP port; 0 is none.
-pub(super) fn http_port_of(matches: &ArgMatches<'_>) -> u16
-    requires { IsNumber 0 MOST_PORT (codes "http-port") (values_in matches.now) }
-    ensures { result ≡ spec.number (codes "http-port") (values_in matches.now) }
-{
-    number(matches, "http-port") as u16
-}
-
-/// Another host name that HTTP requests may use, if there is one.
-pub(super) fn host_of<'a>(matches: &ArgMatches<'a>) -> Option<&'a str>
-    ensures { option_map (λ s. s.now) result ≡ first_of (codes "host") (values_in matches.now) }
-{
-    value_of(matches, "host")
-}
-
-/// The interval in seconds between the calls of a partner that something waits for; 0 is never.
-pub(super) fn interval_of(matches: &ArgMatches<'_>) -> u64
-    requires { IsNumber 0 MOST_INTERVAL (codes "call-every") (values_in matches.now) }
-    ensures { result ≡ spec.number (codes "call-every") (values_in matches.now) }
-{
-    number(matches, "call-every")
-}
-
-/// The number of jobs after which a station ends; 0 is never.
-pub(super) fn jobs_of(matches: &ArgMatches<'_>) -> u64
-    requires { IsNumber 0 MOST_JOBS (codes "jobs") (values_in matches.now) }
-    ensures { result ≡ spec.number (codes "jobs") (values_in matches.now) }
-{
-    number(matches, "jobs")
-}
-
-/// The file to which a session's commands are appended as text, if there is one.
-pub(super) fn trace_of<'a>(matches: &ArgMatches<'a>) -> Option<&'a str>
-    ensures { option_map (λ s. s.now) result ≡ first_of (codes "trace") (values_in matches.now) }
-{
-    value_of(matches, "trace")
+    number(matches, id) as u16
 }
 
 /// The value with this name.

@@ -5,11 +5,9 @@ ghost use Rattle.std.specs.Prelude.{◌≡◌, IfErr, IfOk, None, Some, codes, t
 ghost use Rattle.oftp_command_line.specs.Arguments.{HasValues, values_in};
 ghost use Rattle.oftp_command_line.specs.Fault.{is_bad};
 ghost use Rattle.oftp_command_line.specs.FeedLine.{feed_app, feed_in, feed_said};
-ghost use Rattle.oftp_command_line.specs.Told.{app_told};
 
 use crate::line::LineFault;
-use crate::line::arguments::{Argument, defaulted, optional, own_book, own_trace, word};
-use crate::line::values::{choice, given, trace_of, value_of};
+use crate::line::values::{choice, given, value_of};
 use clap::ArgMatches;
 use std::alloc::Global;
 
@@ -47,25 +45,6 @@ const SIDES: &[(&str, Side)] = &[
     ("initiator", Side::Initiator),
 ];
 
-/// The arguments of `feed`.
-pub(super) fn feed_arguments<'a>() -> [Argument<'a>; 7]
-    ensures { app_told (codes "feed") result ≡ feed_app }
-{
-    let role = "The side that the station plays: responder or initiator";
-    let partner = "The code of the partner that an initiator calls";
-    let input = "The file that holds what the partner sends";
-    let output = "The file that is given what the station sends";
-    [
-        optional("db", "DATABASE", "The file that holds the database"),
-        own_book(),
-        defaulted("role", "responder", "ROLE", role),
-        optional("partner", "CODE", partner),
-        own_trace(),
-        word("in", "IN", input),
-        word("out", "OUT", output),
-    ]
-}
-
 /// Reads the values of the options and words of `feed`.
 pub(super) fn feed_read<'a>(alloc: Global, matches: &ArgMatches<'a>) -> Result<Feed<'a>, LineFault>
     requires { HasValues feed_app (values_in matches.now) }
@@ -78,7 +57,7 @@ pub(super) fn feed_read<'a>(alloc: Global, matches: &ArgMatches<'a>) -> Result<F
         book: given(matches, "book"),
         role,
         partner: value_of(matches, "partner"),
-        trace: trace_of(matches),
+        trace: value_of(matches, "trace"),
         input: given(matches, "in"),
         output: given(matches, "out"),
     })

@@ -5,12 +5,10 @@ ghost use Rattle.std.specs.Prelude.{◌≡◌, IfErr, IfOk, None, Some, codes, t
 ghost use Rattle.oftp_command_line.specs.Arguments.{HasValues, values_in};
 ghost use Rattle.oftp_command_line.specs.Fault.{is_bad};
 ghost use Rattle.oftp_command_line.specs.FolderLines.{collect_app, collect_said, collect_with, offer_app, offer_in, offer_said};
-ghost use Rattle.oftp_command_line.specs.Told.{app_told};
 
 use super::files::{Files, files_read};
-use super::operators::{FORMATS, MOST_LONGEST};
+use super::operators::FORMATS;
 use crate::line::LineFault;
-use crate::line::arguments::{Argument, defaulted, flag, needed, numbered, own_book, own_database};
 use crate::line::values::{choice, given, has_flag, number};
 use clap::ArgMatches;
 use oftp_vfile::Format;
@@ -25,20 +23,6 @@ pub struct Collect<'a> {
     pub folder: &'a str,
     /// Whether each is released once it is there.
     pub releases: bool,
-}
-
-/// The arguments of `collect`.
-pub(super) fn collect_arguments<'a>() -> [Argument<'a>; 4]
-    ensures { app_told (codes "collect") result ≡ collect_app }
-{
-    let to = "The folder that is given their local forms";
-    let release = "Releases each file once it is there";
-    [
-        own_database(),
-        own_book(),
-        needed("to", "FOLDER", to),
-        flag("release", release),
-    ]
 }
 
 /// Reads the values of the options of `collect`.
@@ -66,25 +50,6 @@ pub struct Offer<'a> {
     pub format: Format,
     /// Their longest record in octets, 0 to 99,999.
     pub longest: u32,
-}
-
-/// The arguments of `offer`.
-pub(super) fn offer_arguments<'a>() -> [Argument<'a>; 6]
-    ensures { app_told (codes "offer") result ≡ offer_app }
-{
-    let to = "The code of the partner that they go to";
-    let from = "The folder that holds them in their local form";
-    let format = "The format of their records: F, V, U or T";
-    let longest = "The length of their records in F, or of the longest in V, 1 to 16384";
-    let longest = defaulted("longest", "0", "OCTETS", longest);
-    [
-        own_database(),
-        own_book(),
-        needed("to", "CODE", to),
-        needed("from", "FOLDER", from),
-        defaulted("format", "U", "FORMAT", format),
-        numbered(longest, 0, MOST_LONGEST),
-    ]
 }
 
 /// Reads the values of the options of `offer`.

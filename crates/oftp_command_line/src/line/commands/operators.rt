@@ -5,23 +5,13 @@ ghost use Rattle.std.specs.Prelude.{◌≡◌, IfErr, IfOk, None, Some, codes, t
 ghost use Rattle.oftp_command_line.specs.Arguments.{HasValues, values_in};
 ghost use Rattle.oftp_command_line.specs.Fault.{is_bad};
 ghost use Rattle.oftp_command_line.specs.OperatorLines.{refuse_app, refuse_said, refuse_with, release_app, release_said, release_with, submit_app, submit_in, submit_said};
-ghost use Rattle.oftp_command_line.specs.Told.{app_told};
 
 use super::files::{Files, files_read};
 use crate::line::LineFault;
-use crate::line::arguments::{
-    Argument, defaulted, file_number, needed, numbered, own_book, own_database, word,
-};
-use crate::line::values::{choice, given, no_of, number};
+use crate::line::values::{choice, given, number};
 use clap::ArgMatches;
 use oftp_vfile::Format;
 use std::alloc::Global;
-
-/// The greatest longest record, in octets.
-pub(super) const MOST_LONGEST: u64 = 99_999;
-
-/// The greatest reason.
-const MOST_REASON: u64 = 99;
 
 /// The formats, by their letters for `submit` and `offer`.
 pub(super) const FORMATS: &[(&str, Format)] = &[
@@ -52,30 +42,6 @@ pub struct Submit<'a> {
     pub description: &'a str,
     /// The file with its local form.
     pub file: &'a str,
-}
-
-/// The arguments of `submit`.
-pub(super) fn submit_arguments<'a>() -> [Argument<'a>; 10]
-    ensures { app_told (codes "submit") result ≡ submit_app }
-{
-    let dataset = "The virtual file's dataset name";
-    let to = "The code of the partner that it goes to";
-    let format = "The format of its records: F, V, U or T";
-    let longest = "The length of its records in F, or of the longest in V, 1 to 16384";
-    let longest = defaulted("longest", "0", "OCTETS", longest);
-    let file = "The file that holds it in its local form";
-    [
-        own_database(),
-        own_book(),
-        needed("dataset", "NAME", dataset),
-        needed("date", "DATE", "Its date stamp, as 20240131"),
-        needed("time", "TIME", "Its time stamp, as 1015300001"),
-        needed("to", "CODE", to),
-        needed("format", "FORMAT", format),
-        numbered(longest, 0, MOST_LONGEST),
-        defaulted("description", "", "TEXT", "What it is, in words"),
-        word("file", "FILE", file),
-    ]
 }
 
 /// Reads the values of the options and words of `submit`.
@@ -110,13 +76,6 @@ pub struct Release<'a> {
     pub no: u64,
 }
 
-/// The arguments of `release`.
-pub(super) fn release_arguments<'a>() -> [Argument<'a>; 3]
-    ensures { app_told (codes "release") result ≡ release_app }
-{
-    [own_database(), own_book(), file_number()]
-}
-
 /// Reads the values of the options and words of `release`.
 pub(super) fn release_read<'a>(matches: &ArgMatches<'a>) -> Release<'a>
     requires { HasValues release_app (values_in matches.now) }
@@ -124,7 +83,7 @@ pub(super) fn release_read<'a>(matches: &ArgMatches<'a>) -> Release<'a>
 {
     Release {
         files: files_read(matches),
-        no: no_of(matches),
+        no: number(matches, "no"),
     }
 }
 
@@ -141,20 +100,6 @@ pub struct Refuse<'a> {
     pub text: &'a str,
 }
 
-/// The arguments of `refuse`.
-pub(super) fn refuse_arguments<'a>() -> [Argument<'a>; 5]
-    ensures { app_told (codes "refuse") result ≡ refuse_app }
-{
-    let reason = word("reason", "REASON", "Why it wasn't, 0 to 99");
-    [
-        own_database(),
-        own_book(),
-        file_number(),
-        numbered(reason, 0, MOST_REASON),
-        word("text", "TEXT", "The reason in words"),
-    ]
-}
-
 /// Reads the values of the options and words of `refuse`.
 pub(super) fn refuse_read<'a>(matches: &ArgMatches<'a>) -> Refuse<'a>
     requires { HasValues refuse_app (values_in matches.now) }
@@ -162,7 +107,7 @@ pub(super) fn refuse_read<'a>(matches: &ArgMatches<'a>) -> Refuse<'a>
 {
     Refuse {
         files: files_read(matches),
-        no: no_of(matches),
+        no: number(matches, "no"),
         reason: number(matches, "reason"),
         text: given(matches, "text"),
     }

@@ -5,11 +5,9 @@ ghost use Rattle.std.specs.Prelude.{◌≡◌, IfErr, IfOk, None, Some, codes, t
 ghost use Rattle.oftp_command_line.specs.Arguments.{HasValues, values_in};
 ghost use Rattle.oftp_command_line.specs.Fault.{is_bad};
 ghost use Rattle.oftp_command_line.specs.RegisterLines.{backup_app, backup_said, backup_with, fetch_app, fetch_said, fetch_with, report_app, report_in, report_said};
-ghost use Rattle.oftp_command_line.specs.Told.{app_told};
 
 use crate::line::LineFault;
-use crate::line::arguments::{Argument, file_number, own_database, word};
-use crate::line::values::{choice, given, no_of};
+use crate::line::values::{choice, given, number};
 use clap::ArgMatches;
 use oftp_listing::ReportKind;
 use std::alloc::Global;
@@ -25,14 +23,6 @@ pub struct Fetch<'a> {
     pub file: &'a str,
 }
 
-/// The arguments of `fetch`.
-pub(super) fn fetch_arguments<'a>() -> [Argument<'a>; 3]
-    ensures { app_told (codes "fetch") result ≡ fetch_app }
-{
-    let file = "The file that is given its local form";
-    [own_database(), file_number(), word("file", "FILE", file)]
-}
-
 /// Reads the values of the options and words of `fetch`.
 pub(super) fn fetch_read<'a>(matches: &ArgMatches<'a>) -> Fetch<'a>
     requires { HasValues fetch_app (values_in matches.now) }
@@ -40,7 +30,7 @@ pub(super) fn fetch_read<'a>(matches: &ArgMatches<'a>) -> Fetch<'a>
 {
     Fetch {
         database: given(matches, "db"),
-        no: no_of(matches),
+        no: number(matches, "no"),
         file: given(matches, "file"),
     }
 }
@@ -60,14 +50,6 @@ pub struct Report<'a> {
     pub database: &'a str,
     /// The kind of report.
     pub kind: ReportKind,
-}
-
-/// The arguments of `report`.
-pub(super) fn report_arguments<'a>() -> [Argument<'a>; 2]
-    ensures { app_told (codes "report") result ≡ report_app }
-{
-    let kind = "What is reported: in, out, issued or received";
-    [own_database(), word("kind", "KIND", kind)]
 }
 
 /// Reads the values of the options and words of `report`.
@@ -92,14 +74,6 @@ pub struct Backup<'a> {
     pub database: &'a str,
     /// The file to which the copy is written.
     pub to: &'a str,
-}
-
-/// The arguments of `backup`.
-pub(super) fn backup_arguments<'a>() -> [Argument<'a>; 2]
-    ensures { app_told (codes "backup") result ≡ backup_app }
-{
-    let to = "The file that is given the copy";
-    [own_database(), word("to", "TO", to)]
 }
 
 /// Reads the values of the options and words of `backup`.

@@ -3,17 +3,10 @@
 ghost use Rattle.std.specs.Prelude.{◌≡◌, codes};
 ghost use Rattle.oftp_command_line.specs.Arguments.{HasValues, values_in};
 ghost use Rattle.oftp_command_line.specs.ServiceLines.{call_app, call_said, call_with, http_app, http_said, http_with, listen_app, listen_said, listen_with, run_app, run_said, run_with};
-ghost use Rattle.oftp_command_line.specs.Told.{app_told};
 
 use super::files::{Files, files_read};
 use super::terms::{Entrance, SessionTerms, entrance_read, terms_read};
-use crate::line::arguments::{
-    Argument, callers, needed, own_address, own_admission, own_book, own_database, own_duration,
-    own_host, own_http_port, own_interval, own_jobs, own_patience, own_port, own_trace,
-};
-use crate::line::values::{
-    address_of, callers_of, given, host_of, http_port_of, interval_of, jobs_of, port_of,
-};
+use crate::line::values::{given, number, port, value_of};
 use clap::ArgMatches;
 
 /// The command `run`, which serves partners and commands until it is stopped.
@@ -35,27 +28,6 @@ pub struct Run<'a> {
     pub jobs: u64,
 }
 
-/// The arguments of `run`.
-#[tactic(auto, unfolding(crate::specs::ServiceLines::run_app))]
-pub(super) fn run_arguments<'a>() -> [Argument<'a>; 12]
-    ensures { app_told (codes "run") result ≡ run_app }
-{
-    [
-        own_database(),
-        own_book(),
-        own_port("3305"),
-        own_address(),
-        own_http_port(),
-        own_host(),
-        own_interval(),
-        own_admission(),
-        own_patience(),
-        own_duration(),
-        own_trace(),
-        own_jobs(),
-    ]
-}
-
 /// Reads the values of the options of `run`.
 #[tactic(auto, using(crate::proofs::Values::has_text), unfolding(crate::specs::ServiceLines::run_app))]
 pub(super) fn run_read<'a>(matches: &ArgMatches<'a>) -> Run<'a>
@@ -65,11 +37,11 @@ pub(super) fn run_read<'a>(matches: &ArgMatches<'a>) -> Run<'a>
     Run {
         files: files_read(matches),
         entrance: entrance_read(matches),
-        http_port: http_port_of(matches),
-        host: host_of(matches),
-        interval: interval_of(matches),
+        http_port: port(matches, "http-port"),
+        host: value_of(matches, "host"),
+        interval: number(matches, "call-every"),
         terms: terms_read(matches),
-        jobs: jobs_of(matches),
+        jobs: number(matches, "jobs"),
     }
 }
 
@@ -86,25 +58,6 @@ pub struct Listen<'a> {
     pub terms: SessionTerms<'a>,
 }
 
-/// The arguments of `listen`.
-#[tactic(auto, unfolding(crate::specs::ServiceLines::listen_app))]
-pub(super) fn listen_arguments<'a>() -> [Argument<'a>; 9]
-    ensures { app_told (codes "listen") result ≡ listen_app }
-{
-    let sessions = "How many sessions are served, 1 to 1000000";
-    [
-        own_database(),
-        own_book(),
-        own_port("3305"),
-        own_address(),
-        callers("sessions", sessions),
-        own_admission(),
-        own_patience(),
-        own_duration(),
-        own_trace(),
-    ]
-}
-
 /// Reads the values of the options of `listen`.
 #[tactic(auto, using(crate::proofs::Values::has_text), unfolding(crate::specs::ServiceLines::listen_app))]
 pub(super) fn listen_read<'a>(matches: &ArgMatches<'a>) -> Listen<'a>
@@ -114,7 +67,7 @@ pub(super) fn listen_read<'a>(matches: &ArgMatches<'a>) -> Listen<'a>
     Listen {
         files: files_read(matches),
         entrance: entrance_read(matches),
-        sessions: callers_of(matches, "sessions"),
+        sessions: number(matches, "sessions"),
         terms: terms_read(matches),
     }
 }
@@ -128,22 +81,6 @@ pub struct Call<'a> {
     pub partner: &'a str,
     /// The limits and the trace of its session.
     pub terms: SessionTerms<'a>,
-}
-
-/// The arguments of `call`.
-#[tactic(auto, unfolding(crate::specs::ServiceLines::call_app))]
-pub(super) fn call_arguments<'a>() -> [Argument<'a>; 6]
-    ensures { app_told (codes "call") result ≡ call_app }
-{
-    let partner = "The code of the partner that is called";
-    [
-        own_database(),
-        own_book(),
-        needed("partner", "CODE", partner),
-        own_patience(),
-        own_duration(),
-        own_trace(),
-    ]
 }
 
 /// Reads the values of the options of `call`.
@@ -172,20 +109,6 @@ pub struct Http<'a> {
     pub requests: u64,
 }
 
-/// The arguments of `http`.
-#[tactic(auto, unfolding(crate::specs::ServiceLines::http_app))]
-pub(super) fn http_arguments<'a>() -> [Argument<'a>; 4]
-    ensures { app_told (codes "http") result ≡ http_app }
-{
-    let requests = "How many requests are answered, 1 to 1000000";
-    [
-        own_database(),
-        own_port("8080"),
-        own_address(),
-        callers("requests", requests),
-    ]
-}
-
 /// Reads the values of the options of `http`.
 #[tactic(auto, using(crate::proofs::Values::has_text), unfolding(crate::specs::ServiceLines::http_app))]
 pub(super) fn http_read<'a>(matches: &ArgMatches<'a>) -> Http<'a>
@@ -194,8 +117,8 @@ pub(super) fn http_read<'a>(matches: &ArgMatches<'a>) -> Http<'a>
 {
     Http {
         database: given(matches, "db"),
-        port: port_of(matches),
-        address: address_of(matches),
-        requests: callers_of(matches, "requests"),
+        port: port(matches, "port"),
+        address: given(matches, "address"),
+        requests: number(matches, "requests"),
     }
 }

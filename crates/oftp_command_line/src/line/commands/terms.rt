@@ -5,7 +5,7 @@ ghost use Rattle.oftp_command_line.specs.Arguments.{values_in};
 ghost use Rattle.oftp_command_line.specs.Terms.{entrance_said, entrance_with, terms_said, terms_with};
 ghost use Rattle.oftp_command_line.specs.Told.{HasEntrance, HasTerms};
 
-use crate::line::values::{address_of, admission_of, duration_of, patience_of, port_of, trace_of};
+use crate::line::values::{given, number, port, value_of};
 use clap::ArgMatches;
 
 /// Where a service listens, and how long a caller has to be admitted.
@@ -25,9 +25,9 @@ pub(super) fn entrance_read<'a>(matches: &ArgMatches<'a>) -> Entrance<'a>
     ensures { entrance_said result ≡ entrance_with (values_in matches.now) }
 {
     Entrance {
-        port: port_of(matches),
-        address: address_of(matches),
-        admission: admission_of(matches),
+        port: port(matches, "port"),
+        address: given(matches, "address"),
+        admission: number(matches, "admission"),
     }
 }
 
@@ -48,8 +48,8 @@ pub(super) fn terms_read<'a>(matches: &ArgMatches<'a>) -> SessionTerms<'a>
     ensures { terms_said result ≡ terms_with (values_in matches.now) }
 {
     SessionTerms {
-        patience: patience_of(matches),
-        longest: duration_of(matches),
-        trace: trace_of(matches),
+        patience: number(matches, "patience"),
+        longest: number(matches, "longest"),
+        trace: value_of(matches, "trace"),
     }
 }

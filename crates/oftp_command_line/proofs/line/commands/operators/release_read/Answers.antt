@@ -3,6 +3,6 @@ use Rattle.oftp_command_line.specs.OperatorLines.{release_app}
 use Rattle.oftp_command_line.specs.declared.line.arguments.TheConstants.{MOST_NO}
 use Rattle.oftp_command_line.proofs.line.commands.operators.release_read.Goals as goal
 
-pub no_of-requires : goal.no_of-requires
+pub number-requires : goal.number-requires
 unfolding release_app
-no_of-requires c = c.requires.numbers 1 MOST_NO (codes "no") refl
+number-requires c = (1, (MOST_NO, c.requires.numbers 1 MOST_NO (codes "no") refl))

@@ -1,6 +1,6 @@
 use Rattle.std.proofs.Common.{arith, codes, refl}
 use Rattle.oftp_command_line.specs.OperatorLines.{submit_app}
-use Rattle.oftp_command_line.specs.declared.line.commands.operators.TheConstants.{MOST_LONGEST}
+use Rattle.oftp_command_line.specs.declared.line.arguments.TheConstants.{MOST_LONGEST}
 use Rattle.oftp_command_line.proofs.line.commands.operators.submit_read.Goals as goal
 
 pub number-requires : goal.number-requires

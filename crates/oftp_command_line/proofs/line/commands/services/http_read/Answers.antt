@@ -3,10 +3,10 @@ use Rattle.oftp_command_line.specs.ServiceLines.{http_app}
 use Rattle.oftp_command_line.specs.declared.line.arguments.TheConstants.{MOST_CALLERS, MOST_PORT}
 use Rattle.oftp_command_line.proofs.line.commands.services.http_read.Goals as goal
 
-pub port_of-requires : goal.port_of-requires
+pub port-requires : goal.port-requires
 unfolding http_app
-port_of-requires c = c.requires.numbers 1 MOST_PORT (codes "port") refl
+port-requires c = (1, c.requires.numbers 1 MOST_PORT (codes "port") refl)
 
-pub callers_of-requires : goal.callers_of-requires
+pub number-requires : goal.number-requires
 unfolding http_app
-callers_of-requires c = c.requires.numbers 1 MOST_CALLERS (codes "requests") refl
+number-requires c = (1, (MOST_CALLERS, c.requires.numbers 1 MOST_CALLERS (codes "requests") refl))

@@ -11,9 +11,9 @@ entrance_read-requires c = record {
   admission = c.requires.numbers 1 MOST_ADMISSION (codes "admission") refl;
 }
 
-pub callers_of-requires : goal.callers_of-requires
+pub number-requires : goal.number-requires
 unfolding listen_app
-callers_of-requires c = c.requires.numbers 1 MOST_CALLERS (codes "sessions") refl
+number-requires c = (1, (MOST_CALLERS, c.requires.numbers 1 MOST_CALLERS (codes "sessions") refl))
 
 pub terms_read-requires : goal.terms_read-requires
 unfolding listen_app

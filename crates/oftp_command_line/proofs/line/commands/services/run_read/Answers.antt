@@ -18,14 +18,14 @@ terms_read-requires c = record {
   longest = c.requires.numbers 1 MOST_DURATION (codes "longest") refl;
 }
 
-pub jobs_of-requires : goal.jobs_of-requires
+pub number-requires-2 : goal.number-requires-2
 unfolding run_app
-jobs_of-requires c = c.requires.numbers 0 MOST_JOBS (codes "jobs") refl
+number-requires-2 c = (0, (MOST_JOBS, c.requires.numbers 0 MOST_JOBS (codes "jobs") refl))
 
-pub http_port_of-requires : goal.http_port_of-requires
+pub port-requires : goal.port-requires
 unfolding run_app
-http_port_of-requires c = c.requires.numbers 0 MOST_PORT (codes "http-port") refl
+port-requires c = (0, c.requires.numbers 0 MOST_PORT (codes "http-port") refl)
 
-pub interval_of-requires : goal.interval_of-requires
+pub number-requires : goal.number-requires
 unfolding run_app
-interval_of-requires c = c.requires.numbers 0 MOST_INTERVAL (codes "call-every") refl
+number-requires c = (0, (MOST_INTERVAL, c.requires.numbers 0 MOST_INTERVAL (codes "call-every") refl))

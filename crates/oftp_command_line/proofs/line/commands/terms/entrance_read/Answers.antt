@@ -1,10 +1,11 @@
+use Rattle.oftp_command_line.specs.declared.line.arguments.TheConstants.{MOST_ADMISSION}
 use Rattle.oftp_command_line.proofs.line.commands.terms.entrance_read.Goals as goal
 
-pub port_of-requires : goal.port_of-requires
-port_of-requires c = c.requires.port
+pub port-requires : goal.port-requires
+port-requires c = (1, c.requires.port)
 
-pub address_of-requires : goal.address_of-requires
-address_of-requires c = c.requires.address
+pub given-requires : goal.given-requires
+given-requires c = c.requires.address
 
-pub admission_of-requires : goal.admission_of-requires
-admission_of-requires c = c.requires.admission
+pub number-requires : goal.number-requires
+number-requires c = (1, (MOST_ADMISSION, c.requires.admission))

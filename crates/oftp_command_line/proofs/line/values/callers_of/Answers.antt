@@ -1,5 +1,0 @@
-use Rattle.oftp_command_line.specs.declared.line.arguments.TheConstants.{MOST_CALLERS}
-use Rattle.oftp_command_line.proofs.line.values.callers_of.Goals as goal
-
-pub number-requires : goal.number-requires
-number-requires c = (1, (MOST_CALLERS, c.requires))

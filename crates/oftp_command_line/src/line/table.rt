@@ -1,0 +1,308 @@
+//! The table of the commands: the name of each, what it does, and its options and words. The parser, the usage and the help take them from here.
+ghost use Rattle.std.specs.Prelude.{◌≡◌, map};
+ghost use Rattle.std.specs.List.{All};
+ghost use Rattle.oftp_command_line.specs.Line.{app_named, command_names, name_of};
+ghost use Rattle.oftp_command_line.specs.Told.{IsTold, app_told, with_name, word_of};
+
+use super::arguments::{
+    Argument, Kind, MOST_ADMISSION, MOST_CALLERS, MOST_DURATION, MOST_INTERVAL, MOST_JOBS,
+    MOST_LONGEST, MOST_NO, MOST_PATIENCE, MOST_PORT, MOST_REASON,
+};
+use super::commands::Name;
+
+/// A command of the table.
+#[derive(Clone, Copy)]
+pub struct Declaration {
+    // Which command it is: this says how its values are read.
+    pub(super) name: Name,
+    /// The word that names it.
+    pub word: &'static str,
+    /// Its usage: a line, without its end.
+    pub usage: &'static str,
+    /// What it does, in a line without its end.
+    pub about: &'static str,
+    /// Its options and words, in their order in texts.
+    pub arguments: &'static [Argument],
+}
+
+// An argument. The table has it as `KIND(ID, PLACEHOLDER, HELP)`, with its default if it has one, and with the least and the greatest number
+// if it takes numbers; or as `Shared(..)`.
+macro_rules! argument {
+    (Shared($($shared:tt)*)) => { shared!(argument {} {} $($shared)*) };
+    (Flag($id:literal, $help:literal)) => { argument!(Kind::Flag, $id, $id, $help) };
+    (Defaulted($id:literal, $shown:literal, $help:literal, $value:literal $(, $low:literal, $high:ident)?)) => {
+        argument!(Kind::Defaulted($value), $id, $shown, $help $(, $low, $high)?)
+    };
+    ($kind:ident($id:literal, $shown:literal, $help:literal $(, $low:literal, $high:ident)?)) => {
+        argument!(Kind::$kind, $id, $shown, $help $(, $low, $high)?)
+    };
+    ($kind:expr, $id:literal, $shown:literal, $help:literal) => {
+        Argument { id: $id, shown: $shown, help: $help, kind: $kind, numbers: None }
+    };
+    ($kind:expr, $id:literal, $shown:literal, $help:literal, $low:literal, $high:ident) => {
+        Argument { id: $id, shown: $shown, help: $help, kind: $kind, numbers: Some(($low, $high)) }
+    };
+}
+
+// The usage of a command: its beginning in brackets, followed by each argument.
+macro_rules! usage {
+    ([$($text:literal)*]) => { concat!($($text),*) };
+    ([$($text:literal)*] Shared($($shared:tt)*) $($rest:tt)*) => { shared!(usage {[$($text)*]} {$($rest)*} $($shared)*) };
+    ([$($text:literal)*] Word($id:literal, $shown:literal $($more:tt)*) $($rest:tt)*) => { usage!([$($text)* " <" $shown ">"] $($rest)*) };
+    ([$($text:literal)*] Needed($id:literal, $shown:literal $($more:tt)*) $($rest:tt)*) => {
+        usage!([$($text)* " --" $id " <" $shown ">"] $($rest)*)
+    };
+    ([$($text:literal)*] Flag($id:literal $($more:tt)*) $($rest:tt)*) => { usage!([$($text)* " [--" $id "]"] $($rest)*) };
+    ([$($text:literal)*] $kind:ident($id:literal, $shown:literal $($more:tt)*) $($rest:tt)*) => {
+        usage!([$($text)* " [--" $id " <" $shown ">]"] $($rest)*)
+    };
+}
+
+// An argument that several commands have, handed to the macro `to` between `head` and `tail`.
+macro_rules! shared {
+    ($to:ident $head:tt $tail:tt database) => { shared!($to $head $tail = Needed("db", "DATABASE", "The file that holds the database")) };
+    ($to:ident $head:tt $tail:tt book) => { shared!($to $head $tail = Needed("book", "BOOK", "The file that holds the book")) };
+    ($to:ident $head:tt $tail:tt number) => {
+        shared!($to $head $tail = Word("no", "NO", "The incoming file's number, 1 to 9999999", 1, MOST_NO))
+    };
+    ($to:ident $head:tt $tail:tt port, $port:literal) => {
+        shared!($to $head $tail = Defaulted("port", "PORT", "The port where callers are awaited, 1 to 65535", $port, 1, MOST_PORT))
+    };
+    ($to:ident $head:tt $tail:tt address) => {
+        shared!($to $head $tail = Defaulted("address", "ADDRESS", "The machine's address where callers are awaited", "127.0.0.1"))
+    };
+    ($to:ident $head:tt $tail:tt admission) => {
+        shared!($to $head $tail = Defaulted("admission", "SECONDS", "How many seconds a caller has in all to be let in, 1 to 86400", "30", 1, MOST_ADMISSION))
+    };
+    ($to:ident $head:tt $tail:tt patience) => {
+        shared!($to $head $tail = Defaulted("patience", "SECONDS", "How many seconds the partner may keep still, 0 to 86400, 0 for ever", "300", 0, MOST_PATIENCE))
+    };
+    ($to:ident $head:tt $tail:tt duration) => {
+        shared!($to $head $tail = Defaulted("longest", "SECONDS", "How many seconds a session may take in all, 1 to 86400", "86400", 1, MOST_DURATION))
+    };
+    ($to:ident $head:tt $tail:tt trace) => {
+        shared!($to $head $tail = Optional("trace", "FILE", "The file to which what goes over the connection is appended in words"))
+    };
+    ($to:ident {$($head:tt)*} {$($tail:tt)*} = $($argument:tt)*) => { $to!($($head)* $($argument)* $($tail)*) };
+}
+
+// A command with its arguments.
+macro_rules! declaration {
+    ($name:ident, $word:literal, $about:literal, [$($kind:ident $parts:tt),* $(,)?]) => {
+        Declaration {
+            name: Name::$name,
+            word: $word,
+            usage: usage!(["oftp_station " $word] $($kind $parts)*),
+            about: $about,
+            arguments: &[$(argument!($kind $parts)),*],
+        }
+    };
+}
+
+// The commands, in their order in texts.
+const INIT: Declaration =
+    declaration! { Init, "init", "Opens the database and makes its tables", [Shared(database)] };
+
+const MIGRATE: Declaration =
+    declaration! { Migrate, "migrate", "Brings a database of schema 1 to schema 2", [Shared(database)] };
+
+const CHECK: Declaration =
+    declaration! { Check, "check", "Reads the book and counts its partners", [Shared(book)] };
+
+const SUBMIT: Declaration =
+    declaration! { Submit, "submit", "Hands over file FILE, which is to be sent to a partner", [
+        Shared(database),
+        Shared(book),
+        Needed("dataset", "NAME", "The virtual file's dataset name"),
+        Needed("date", "DATE", "Its date stamp, as 20240131"),
+        Needed("time", "TIME", "Its time stamp, as 1015300001"),
+        Needed("to", "CODE", "The code of the partner that it goes to"),
+        Needed("format", "FORMAT", "The format of its records: F, V, U or T"),
+        Defaulted("longest", "OCTETS", "The length of its records in F, or of the longest in V, 1 to 16384", "0", 0, MOST_LONGEST),
+        Defaulted("description", "TEXT", "What it is, in words", ""),
+        Word("file", "FILE", "The file that holds it in its local form"),
+    ] };
+
+const OFFER: Declaration =
+    declaration! { Offer, "offer", "Hands over the files in folder FOLDER, which are to be sent to a partner", [
+        Shared(database),
+        Shared(book),
+        Needed("to", "CODE", "The code of the partner that they go to"),
+        Needed("from", "FOLDER", "The folder that holds them in their local form"),
+        Defaulted("format", "FORMAT", "The format of their records: F, V, U or T", "U"),
+        Defaulted("longest", "OCTETS", "The length of their records in F, or of the longest in V, 1 to 16384", "0", 0, MOST_LONGEST),
+    ] };
+
+const RELEASE: Declaration =
+    declaration! { Release, "release", "Says that an incoming file was delivered", [
+        Shared(database),
+        Shared(book),
+        Shared(number),
+    ] };
+
+const REFUSE: Declaration =
+    declaration! { Refuse, "refuse", "Says that an incoming file wasn't delivered", [
+        Shared(database),
+        Shared(book),
+        Shared(number),
+        Word("reason", "REASON", "Why it wasn't, 0 to 99", 0, MOST_REASON),
+        Word("text", "TEXT", "The reason in words"),
+    ] };
+
+const FETCH: Declaration =
+    declaration! { Fetch, "fetch", "Writes an incoming file in its local form to file FILE", [
+        Shared(database),
+        Shared(number),
+        Word("file", "FILE", "The file that is given its local form"),
+    ] };
+
+const COLLECT: Declaration =
+    declaration! { Collect, "collect", "Writes the incoming files that are whole and not answered to folder FOLDER", [
+        Shared(database),
+        Shared(book),
+        Needed("to", "FOLDER", "The folder that is given their local forms"),
+        Flag("release", "Releases each file once it is there"),
+    ] };
+
+const REPORT: Declaration =
+    declaration! { Report, "report", "Tells what the database holds, as comma-separated values", [
+        Shared(database),
+        Word("kind", "KIND", "What is reported: in, out, issued or received"),
+    ] };
+
+const BACKUP: Declaration =
+    declaration! { Backup, "backup", "Copies the database as it stands to file TO", [
+        Shared(database),
+        Word("to", "TO", "The file that is given the copy"),
+    ] };
+
+const SHOW: Declaration =
+    declaration! { Show, "show", "Prints the commands in file IN, a line each, up to the first fault", [
+        Word("in", "IN", "The file that holds what one side of a session sent"),
+    ] };
+
+const FEED: Declaration =
+    declaration! { Feed, "feed", "Plays one session from the octets of file IN to file OUT", [
+        Optional("db", "DATABASE", "The file that holds the database"),
+        Shared(book),
+        Defaulted("role", "ROLE", "The side that the station plays: responder or initiator", "responder"),
+        Optional("partner", "CODE", "The code of the partner that an initiator calls"),
+        Shared(trace),
+        Word("in", "IN", "The file that holds what the partner sends"),
+        Word("out", "OUT", "The file that is given what the station sends"),
+    ] };
+
+const RUN: Declaration =
+    declaration! { Run, "run", "Serves partners and commands by day and night, one after another", [
+        Shared(database),
+        Shared(book),
+        Shared(port, "3305"),
+        Shared(address),
+        Defaulted("http-port", "PORT", "The port where requests by HTTP are awaited, 0 to 65535, 0 for none", "0", 0, MOST_PORT),
+        Optional("host", "NAME", "A name by which browsers find this machine"),
+        Defaulted("call-every", "SECONDS", "After how many seconds each partner for whom something waits is called, 0 to 86400, 0 for never", "0", 0, MOST_INTERVAL),
+        Shared(admission),
+        Shared(patience),
+        Shared(duration),
+        Shared(trace),
+        Defaulted("jobs", "COUNT", "After how many jobs it ends, 0 to 1000000, 0 for never", "0", 0, MOST_JOBS),
+    ] };
+
+const LISTEN: Declaration =
+    declaration! { Listen, "listen", "Serves sessions of partners who call, one after another", [
+        Shared(database),
+        Shared(book),
+        Shared(port, "3305"),
+        Shared(address),
+        Defaulted("sessions", "COUNT", "How many sessions are served, 1 to 1000000", "1", 1, MOST_CALLERS),
+        Shared(admission),
+        Shared(patience),
+        Shared(duration),
+        Shared(trace),
+    ] };
+
+const CALL: Declaration = declaration! { Call, "call", "Calls a partner for one session", [
+    Shared(database),
+    Shared(book),
+    Needed("partner", "CODE", "The code of the partner that is called"),
+    Shared(patience),
+    Shared(duration),
+    Shared(trace),
+] };
+
+const HTTP: Declaration =
+    declaration! { Http, "http", "Answers requests for what the database holds, one after another", [
+        Shared(database),
+        Shared(port, "8080"),
+        Shared(address),
+        Defaulted("requests", "COUNT", "How many requests are answered, 1 to 1000000", "1", 1, MOST_CALLERS),
+    ] };
+
+impl Name {
+    /// The command with this name, as it is declared.
+    #[tactic(auto, unfolding(crate::specs::Told::each_app))]
+    pub(super) fn declaration(self) -> Declaration
+        ensures name { result.name ≡ self }
+        ensures word { result.word.now ≡ word_of self }
+        ensures told { app_told result.word.now result.arguments.now ≡ app_named self }
+    {
+        match self {
+            Name::Init => INIT,
+            Name::Migrate => MIGRATE,
+            Name::Check => CHECK,
+            Name::Submit => SUBMIT,
+            Name::Offer => OFFER,
+            Name::Release => RELEASE,
+            Name::Refuse => REFUSE,
+            Name::Fetch => FETCH,
+            Name::Collect => COLLECT,
+            Name::Report => REPORT,
+            Name::Backup => BACKUP,
+            Name::Show => SHOW,
+            Name::Feed => FEED,
+            Name::Run => RUN,
+            Name::Listen => LISTEN,
+            Name::Call => CALL,
+            Name::Http => HTTP,
+        }
+    }
+
+    /// The command that this word names.
+    pub(super) fn of(word: &str) -> Option<Name>
+        ensures { result ≡ name_of word.now }
+    {
+        let all = declarations();
+        for declaration in &all {
+            if word == declaration.word {
+                return Some(declaration.name);
+            }
+        }
+        None
+    }
+}
+
+/// All commands, in their order in texts.
+pub fn declarations() -> [Declaration; 17]
+    ensures names { map with_name result ≡ command_names }
+    ensures told { All IsTold result }
+{
+    [
+        Name::Init.declaration(),
+        Name::Migrate.declaration(),
+        Name::Check.declaration(),
+        Name::Submit.declaration(),
+        Name::Offer.declaration(),
+        Name::Release.declaration(),
+        Name::Refuse.declaration(),
+        Name::Fetch.declaration(),
+        Name::Collect.declaration(),
+        Name::Report.declaration(),
+        Name::Backup.declaration(),
+        Name::Show.declaration(),
+        Name::Feed.declaration(),
+        Name::Run.declaration(),
+        Name::Listen.declaration(),
+        Name::Call.declaration(),
+        Name::Http.declaration(),
+    ]
+}
