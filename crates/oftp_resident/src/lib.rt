@@ -12,7 +12,6 @@ mod home;
 mod judging;
 mod kept;
 mod limits;
-mod page;
 mod peer;
 mod requests;
 mod service;
