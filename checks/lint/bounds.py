@@ -61,8 +61,9 @@ RECORDS = constant("oftp_vfile/src/format.rt", "MOST_ROWS")
 RECORD = constant("oftp_vfile/src/format.rt", "LONGEST_RECORD")
 LINE = "oftp_command_line/src/line/arguments.rt"
 LOCKED = constant("oftp_database/src/opening.rt", "PATIENCE") * constant("oftp_database/src/opening.rt", "PAUSE") // 1000
-SIZES = {name: constant("oftp_schedule/src/sizes.rt", name) for name in "partners commands requests times share backlog held".split()}
-SECONDS = {name: constant("oftp_schedule/src/sizes.rt", name) // 1000 for name in "shelter asking requesting farewell copying standing".split()}
+LIMITS = {name: constant("oftp_schedule/src/sizes.rt", name.lower()) for name in "PARTNERS COMMANDS REQUESTS TIMES SHARE BACKLOG HELD".split()}
+# These are in milliseconds there.
+LIMITS |= {name: constant("oftp_schedule/src/sizes.rt", name.lower()) // 1000 for name in "SHELTER ASKING REQUESTING FAREWELL COPYING STANDING".split()}
 PAUSES = tuple(constant("oftp_schedule/src/durations.rt", name) // 1000 for name in ("LESSER", "GREATER"))
 DIALING = constant("oftp_station/src/perform/residence.rt", "DIALING")
 PIECE = constant("oftp_engine/src/serving.rt", "PIECE")
@@ -109,25 +110,25 @@ BOUNDS = [
     ("docs/COMMANDS.md", rf"After {N} seconds the session ends with\s+`fault: 6 store 1`", (LOCKED,)),
     ("docs/COMMANDS.md", rf"every SECONDS seconds \(1 to {N}; 0 is never\)", (INTERVAL,)),
     ("docs/COMMANDS.md", rf"Such a caller waits for\s+{N} second, or for {N} if", PAUSES),
-    ("docs/COMMANDS.md", rf"A call gives way {N} times at most", (SIZES["times"],)),
+    ("docs/COMMANDS.md", rf"A call gives way {N} times at most", (LIMITS["TIMES"],)),
     ("docs/COMMANDS.md", rf"waits until it is ready, {N} seconds at most", (LOCKED,)),
-    ("docs/COMMANDS.md", rf"{N} partners, {N} commands and {N} clients over HTTP", (SIZES["partners"], SIZES["commands"], SIZES["requests"])),
-    ("docs/COMMANDS.md", rf"has been there for {N}\s+seconds at least", (SECONDS["shelter"],)),
-    ("docs/COMMANDS.md", rf"A command has {N} seconds to send its request, and {N}\s+seconds without progress", (SECONDS["asking"], SECONDS["asking"])),
-    ("docs/COMMANDS.md", rf"one for each {N} octets", (SIZES["share"],)),
-    ("docs/COMMANDS.md", rf"hears nothing more while {N} MiB", (SIZES["backlog"] // MIB,)),
-    ("docs/COMMANDS.md", rf"Answers that wait to be taken hold {N} MiB", (SIZES["held"] // MIB,)),
+    ("docs/COMMANDS.md", rf"{N} partners, {N} commands and {N} clients over HTTP", (LIMITS["PARTNERS"], LIMITS["COMMANDS"], LIMITS["REQUESTS"])),
+    ("docs/COMMANDS.md", rf"has been there for {N}\s+seconds at least", (LIMITS["SHELTER"],)),
+    ("docs/COMMANDS.md", rf"A command has {N} seconds to send its request, and {N}\s+seconds without progress", (LIMITS["ASKING"], LIMITS["ASKING"])),
+    ("docs/COMMANDS.md", rf"one for each {N} octets", (LIMITS["SHARE"],)),
+    ("docs/COMMANDS.md", rf"hears nothing more while {N} MiB", (LIMITS["BACKLOG"] // MIB,)),
+    ("docs/COMMANDS.md", rf"Answers that wait to be taken hold {N} MiB", (LIMITS["HELD"] // MIB,)),
     ("docs/COMMANDS.md", rf"within {N} seconds, or within `--patience`", (DIALING,)),
-    ("docs/COMMANDS.md", rf"can't begin within {N} seconds", (SECONDS["standing"],)),
+    ("docs/COMMANDS.md", rf"can't begin within {N} seconds", (LIMITS["STANDING"],)),
     ("docs/COMMANDS.md", rf"\(`--sessions`, `--requests`\) is 1 by default, and {N}\s+at most", (CALLERS,)),
     ("docs/COMMANDS.md", rf"The default is {N}, and 1 to {N} \({N}\) are allowed", (default('"admission"'), ADMISSION, 86_400)),
-    ("docs/COMMANDS.md", rf"Up to {N} callers are connected side by side", (SIZES["partners"],)),
+    ("docs/COMMANDS.md", rf"Up to {N} callers are connected side by side", (LIMITS["PARTNERS"],)),
     ("docs/COMMANDS.md", rf"The default is {N} and the most is {N}; 0 is no timeout", (default('"patience"'), PATIENCE)),
     ("docs/COMMANDS.md", rf"to 1 to {N} seconds, by default {N}\.", (DURATION, default('"longest"'))),
-    ("docs/COMMANDS.md", rf"still sends, {N} seconds at most", (SECONDS["farewell"],)),
-    ("docs/COMMANDS.md", rf"must arrive within {N} seconds, and its reply must be out within another {N}\.", (SECONDS["requesting"], SECONDS["requesting"])),
+    ("docs/COMMANDS.md", rf"still sends, {N} seconds at most", (LIMITS["FAREWELL"],)),
+    ("docs/COMMANDS.md", rf"must arrive within {N} seconds, and its reply must be out within another {N}\.", (LIMITS["REQUESTING"], LIMITS["REQUESTING"])),
     ("docs/OPERATING.md", rf"then has {N} seconds to send a code and a password", (default('"admission"'),)),
-    ("docs/OPERATING.md", rf"as long as no more than {N} of them wait. A partner who comes after {N} waits", (SIZES["partners"], SIZES["partners"])),
+    ("docs/OPERATING.md", rf"as long as no more than {N} of them wait. A partner who comes after {N} waits", (LIMITS["PARTNERS"], LIMITS["PARTNERS"])),
     ("docs/PARTNER.md", rf"{N} octets and {N} records at most", (OCTETS, RECORDS)),
     ("docs/PARTNER.md", rf"Records of F and V have up to {N} octets", (RECORD,)),
     ("docs/ARCHITECTURE.md", rf"a piece of at most {N} octets", (PIECE,)),
