@@ -61,10 +61,9 @@ RECORDS = constant("oftp_vfile/src/format.rt", "MOST_ROWS")
 RECORD = constant("oftp_vfile/src/format.rt", "LONGEST_RECORD")
 LINE = "oftp_command_line/src/line/arguments.rt"
 LOCKED = constant("oftp_database/src/opening.rt", "PATIENCE") * constant("oftp_database/src/opening.rt", "PAUSE") // 1000
-LIMITS = {
-    name: constant("oftp_resident/src/limits.rt", name)
-    for name in "PARTNERS COMMANDS REQUESTS SHELTER ASKING REQUESTING FAREWELL COPYING STANDING TIMES SHARE BACKLOG HELD".split()
-}
+LIMITS = {name: constant("oftp_schedule/src/sizes.rt", name.lower()) for name in "PARTNERS COMMANDS REQUESTS TIMES SHARE BACKLOG HELD".split()}
+# These are in milliseconds there.
+LIMITS |= {name: constant("oftp_schedule/src/sizes.rt", name.lower()) // 1000 for name in "SHELTER ASKING REQUESTING FAREWELL COPYING STANDING".split()}
 PAUSES = tuple(constant("oftp_schedule/src/durations.rt", name) // 1000 for name in ("LESSER", "GREATER"))
 DIALING = constant("oftp_station/src/perform/residence.rt", "DIALING")
 PIECE = constant("oftp_engine/src/serving.rt", "PIECE")

@@ -1,10 +1,10 @@
 #!/usr/bin/env python3
-"""Compares the page, crates/oftp_resident/src/page.html, with its policy, with the words of the crates, and with its copy for the program.
+"""Compares the page, crates/oftp_page/src/page.html, with its policy, with the words of the crates, and with its copy for the program.
 
     checks/lint/page.py            compares, prints each difference, and `N passed, M failed`
     checks/lint/page.py --write    writes the hashes of its script and its style into the page, and writes the copy
 
-The copy is crates/oftp_resident/src/page.rt. The page's policy allows only the script and the style with these hashes, and no text to
+The copy is crates/oftp_page/src/page.rt. The page's policy allows only the script and the style with these hashes, and no text to
 become markup. Nothing in the page is loaded from elsewhere. It knows each state that the listing names (oftp_listing/specs/Names.antt), and
 has the words of oftp_wire/specs/Reasons.antt for the reasons there.
 """
@@ -20,8 +20,8 @@ sys.path.insert(0, str(Path(__file__).resolve().parents[1] / "lib"))
 from program import ROOT
 from reasons import words_of
 
-PAGE = ROOT / "crates/oftp_resident/src/page.html"
-COPY = ROOT / "crates/oftp_resident/src/page.rt"
+PAGE = ROOT / "crates/oftp_page/src/page.html"
+COPY = ROOT / "crates/oftp_page/src/page.rt"
 NAMES = ROOT / "crates/oftp_listing/specs/Names.antt"
 # What a policy has to have, besides the hashes.
 POLICY = [
@@ -61,7 +61,7 @@ def copy_of(text):
     return (
         "//! The page for people, the text of page.html: written by `checks/lint/page.py --write`.\n\n"
         "/// What a request for `/` is answered with: one text of HTML, in which all is that it needs.\n"
-        f"pub(crate) const PAGE: &str = r###\"{text}{MARKS};\n"
+        f"pub const PAGE: &str = r###\"{text}{MARKS};\n"
     )
 
 

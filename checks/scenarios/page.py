@@ -4,7 +4,7 @@
     checks/scenarios/page.py [--pictures FOLDER] [--page FILE] [NAME ..]     cases below by their names; all if none is named
     checks/scenarios/page.py [--pictures FOLDER] --base URL                  the page and the lists of another server
 
-The page is crates/oftp_resident/src/page.html, or FILE. Most lists are made (`checks/lib/page_lists.py`): a server in this script returns
+The page is crates/oftp_page/src/page.html, or FILE. Most lists are made (`checks/lib/page_lists.py`): a server in this script returns
 both, and counts the requests. In three cases the built program answers, in two of them from databases of rows/listing: `http` returns the
 lists, and `run` also the page. The browser resolves no address but this machine's. `--pictures` writes screenshots. Without a browser
 nothing is tried. The last line is `N passed, M failed`; before it comes the time for 10,000 files.
@@ -31,7 +31,7 @@ from program import PROGRAM, ROOT
 from row_files import ROWS, Bad
 from services import BOOK, CARMAKER, Resident, Service, Wrong, expect, free_port
 
-PAGE = ROOT / "crates/oftp_resident/src/page.html"
+PAGE = ROOT / "crates/oftp_page/src/page.html"
 WIDTHS = (1024, 400)
 HEIGHT = 800
 # The requests that a page may make to its station.

@@ -13,9 +13,8 @@ use oftp_partners::Book;
 use oftp_requests::{Backend, outcome_in};
 use oftp_resident::{Bench, Start, serve};
 use oftp_schedule::connection::Counted;
-use oftp_sockets::{Reporter, Station, bound, patience_of};
+use oftp_sockets::{Reporter, Station, bound};
 use std::io::{self, Write};
-use std::time::Duration;
 
 /// The trace that the command line of a service asks for.
 ///
@@ -29,9 +28,9 @@ pub fn trace_of<'a>(
     open_trace(rt, terms.trace, &[files.book], Some(files.database))
 }
 
-/// How long a caller has to be admitted, which is no longer than a session may take.
-pub fn admission_of(entrance: &Entrance<'_>, terms: &SessionTerms<'_>) -> Duration {
-    Duration::from_secs(entrance.admission.min(terms.longest))
+/// How many seconds a caller has to be admitted, which is no longer than a session may take.
+pub fn admission_of(entrance: &Entrance<'_>, terms: &SessionTerms<'_>) -> u64 {
+    entrance.admission.min(terms.longest)
 }
 
 /// The settings for the sessions of a service.
@@ -42,8 +41,8 @@ pub fn station_of<'a>(
 ) -> Station<'a> {
     Station {
         book,
-        patience: patience_of(terms.patience),
-        longest: Duration::from_secs(terms.longest),
+        patience: terms.patience,
+        longest: terms.longest,
         trace,
     }
 }
@@ -56,10 +55,10 @@ fn idle_bench<'a>(jobs: u64) -> Bench<'a> {
         requests: None,
         site: Site::Register,
         places: 0,
-        admission: Duration::from_secs(0),
-        dialing: Duration::from_secs(0),
+        admission: 0,
+        dialing: 0,
         codes: &[],
-        interval: Duration::from_secs(0),
+        interval: 0,
         start: Start::Waiting,
         counted: Counted::Jobs,
         jobs,
@@ -70,8 +69,8 @@ fn idle_bench<'a>(jobs: u64) -> Bench<'a> {
 fn bare_station(book: &Book) -> Station<'_> {
     Station {
         book,
-        patience: None,
-        longest: Duration::from_secs(0),
+        patience: 0,
+        longest: 0,
         trace: None,
     }
 }

@@ -5,8 +5,8 @@ use crate::office::DatabaseOffice;
 use crate::opening::PATIENCE;
 use crate::spare::{Spare, Supply};
 use oftp_life::Life;
-use oftp_outcomes::{Fault, Trouble};
-use oftp_sockets::{Keeper, Term};
+use oftp_outcomes::{Fault, Term, Trouble};
+use oftp_sockets::Keeper;
 use oftp_store::{PathFault, StoreFault};
 use std::time::{Clock, Duration};
 

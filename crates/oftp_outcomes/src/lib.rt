@@ -10,5 +10,5 @@ mod statuses;
 pub use carried::{Carried, Why};
 pub use outcome::{Fault, Outcome, Verb, outcome_of, write_line};
 pub use output::{Output, Reader};
-pub use service::{ServiceLine, Trouble, Way, last_fault, plain};
+pub use service::{ServiceLine, Term, Trouble, Way, last_fault, plain};
 pub use statuses::{DONE, FAILED, is_told, status_of, status_where, tell};

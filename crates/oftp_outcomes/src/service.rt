@@ -47,6 +47,15 @@ impl Trouble {
     }
 }
 
+/// How long a life lasts in which a job is done.
+#[derive(Clone, Copy, Debug, PartialEq, Eq, Drop)]
+pub enum Term {
+    /// As long as the service.
+    OfService,
+    /// For one job.
+    OfJob,
+}
+
 /// The error of a session that ends the service: each of the service but out of memory, which ends the session alone.
 pub fn last_fault(ended: &Result<End, Trouble>) -> Option<Fault>
     ensures { result ≡ last_fault ended.now }

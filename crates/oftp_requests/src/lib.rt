@@ -1,18 +1,31 @@
 //! How each request of a command is carried out, over a life of the station or by the station that has the database open.
 #![tactic(auto)]
 
+mod answers;
+mod asked;
 mod asking;
+mod codes;
 mod comparing;
 mod due;
 mod ended;
 mod entries;
 mod fetched;
+mod judging;
 mod listed;
+mod made;
 mod outgoing;
 
+pub use answers::{answer_of, answer_of_call, bare_answer, copy_let};
+pub use asked::{Asked, Wanted, partner_of};
 pub use asking::{Backend, look_up, operate};
+pub use codes::codes_of;
 pub use comparing::Comparison;
 pub use due::is_due;
 pub use ended::{GONE, number_in, outcome_in, refusal_in};
 pub use entries::{FileEntry, FileList};
 pub use fetched::entry_to_fetch;
+pub use judging::{
+    Closing, closing_of, declined, ended_for, farewell_of, goes_on, office_within, result_at,
+    result_of, trouble_of,
+};
+pub use made::{Made, stopping};

@@ -1,20 +1,14 @@
 //! What the sockets have is read, what is to go out is sent, and both are told to the schedule.
 
-use crate::asked::Asked;
-use crate::dialing::is_connected;
-use crate::peer::{Came, PIECE, Peer, Reading, Task};
-use crate::service::Shell;
-use crate::stream::Stream;
-use oftp_engine::{Admission, End, RunFault};
+use crate::peer::{Came, MOST_REQUEST_OCTETS, Peer, Reading, Task};
+use crate::service::{Shell, peer_in};
+use oftp_engine::{Admission, End};
 use oftp_listing::is_whole;
 use oftp_outcomes::{Fault, Trouble};
+use oftp_requests::Asked;
 use oftp_schedule::connection::{Request, Signal};
 use oftp_sockets::socket_fault;
 use std::alloc::Global;
-use std::{mem, net};
-
-/// How many octets of a request over HTTP are read: one more than a head may have.
-const MOST_REQUEST_OCTETS: usize = 8_193;
 
 impl Shell<'_> {
     /// Reads and sends what can be read and sent without a wait.
@@ -52,24 +46,17 @@ impl Shell<'_> {
     /// Tells whether a call is connected, once that is known. If its address can't be reached, the next one is tried.
     fn heed_dial(&mut self, id: u64) -> Result<(), Fault> {
         let rt = self.rt;
-        let Some(peer) = crate::service::peer_in(&mut self.peers, id) else {
+        let Some(peer) = peer_in(&mut self.peers, id) else {
             return Ok(());
         };
         peer.readiness.is_writable = false;
-        let state = match &peer.stream {
-            Stream::Dialing(stream) => is_connected(stream),
-            _ => return Ok(()),
-        };
-        match state {
+        match peer.stream.is_connected() {
             Ok(false) => Ok(()),
             Ok(true) => {
                 peer.connect();
                 self.tell(id, Signal::Up)
             }
-            Err(error) => {
-                let fault = socket_fault(&error);
-                self.connect(rt, id, fault)
-            }
+            Err(error) => self.connect(rt, id, socket_fault(&error)),
         }
     }
 }
@@ -77,12 +64,7 @@ impl Shell<'_> {
 impl Peer<'_> {
     /// Makes the socket of a call that is connected one like the others.
     fn connect(&mut self) {
-        let before = mem::replace(&mut self.stream, Stream::Absent);
-        self.stream = match before {
-            Stream::Dialing(stream) => Stream::Internet(net::TcpStream::from(stream)),
-            other => other,
-        };
-        let _ = self.stream.prepare();
+        let _ = self.stream.set_nodelay();
         self.reading = Reading::Nothing;
         self.readiness.is_readable = true;
         self.readiness.is_writable = true;
@@ -91,46 +73,38 @@ impl Peer<'_> {
 
     /// Reads what is there. Returns what is to be told of it.
     fn hear(&mut self, alloc: Global) -> Option<Signal> {
-        match self.reading {
-            Reading::Nothing => {
-                if self.readiness.is_gone {
-                    Some(Signal::Lost)
-                } else {
-                    None
-                }
-            }
-            Reading::Dial => None,
-            _ if !self.is_ready_to_read() => None,
-            Reading::Opening => self.hear_opening(alloc),
-            Reading::Session => self.hear_session(),
-            Reading::Command => self.hear_command(alloc),
-            Reading::Request => self.hear_request(),
-            Reading::Copy | Reading::Rest => self.hear_end(),
+        if self.reading == Reading::Nothing && self.readiness.is_gone {
+            return Some(Signal::Lost);
         }
-    }
-
-    /// Judges the next octets of a partner that isn't let in yet.
-    fn hear_opening(&mut self, alloc: Global) -> Option<Signal> {
-        let mut piece = [0; PIECE];
-        match self.read(&mut piece) {
-            Came::Octets(count) => self.judge(alloc, piece.get(..count)?),
+        if !self.is_ready_to_read() {
+            return None;
+        }
+        match self.take_in() {
+            Came::Octets(_) => self.judge(alloc),
             Came::Nothing => None,
-            Came::End => {
-                self.note(Ok(End::Input));
-                Some(Signal::Ends)
-            }
+            Came::End => Some(Signal::Ends),
             Came::Lost => Some(Signal::Lost),
         }
     }
 
-    fn judge(&mut self, alloc: Global, piece: &[u8]) -> Option<Signal> {
-        if let Some(trace) = &mut self.trace {
-            trace.heard(piece);
+    /// Judges what has come so far.
+    fn judge(&mut self, alloc: Global) -> Option<Signal> {
+        match self.reading {
+            Reading::Opening => self.judge_opening(alloc),
+            Reading::Session => Some(Signal::Came),
+            Reading::Command => self.judge_command(alloc),
+            Reading::Request => self.judge_request(),
+            _ => None,
         }
+    }
+
+    /// Judges the next octets of a partner that isn't let in yet.
+    fn judge_opening(&mut self, alloc: Global) -> Option<Signal> {
+        let piece = self.take_heard(alloc);
         let Task::Caller(Some(opening)) = &mut self.task else {
             return None;
         };
-        match opening.hear(piece) {
+        match opening.hear(piece.as_slice()) {
             Ok(Admission::Undecided) => None,
             Ok(Admission::LetIn) => {
                 self.code = match opening.code() {
@@ -155,42 +129,8 @@ impl Peer<'_> {
         }
     }
 
-    /// Reads the next piece of a session.
-    fn hear_session(&mut self) -> Option<Signal> {
-        let mut piece = [0; PIECE];
-        match self.read(&mut piece) {
-            Came::Octets(count) => {
-                let piece = piece.get(..count)?;
-                if let Some(trace) = &mut self.trace {
-                    trace.heard(piece);
-                }
-                if self.heard.extend_from_slice(piece).is_err() {
-                    self.note(Err(Trouble::OfService(Fault::MEMORY)));
-                    return Some(Signal::Lost);
-                }
-                Some(Signal::Came)
-            }
-            Came::Nothing => None,
-            Came::End => {
-                self.note(Ok(End::Input));
-                Some(Signal::Ends)
-            }
-            Came::Lost => {
-                self.note(Err(Trouble::OfJob(Fault::Run(RunFault::Read))));
-                Some(Signal::Lost)
-            }
-        }
-    }
-
-    /// Reads a command's request.
-    fn hear_command(&mut self, alloc: Global) -> Option<Signal> {
-        let mut piece = [0; PIECE];
-        match self.hear_more(&mut piece) {
-            Came::Octets(_) => {}
-            Came::Nothing => return None,
-            Came::End => return Some(Signal::Ends),
-            Came::Lost => return Some(Signal::Lost),
-        }
+    /// Judges what has come of a command's request.
+    fn judge_command(&mut self, alloc: Global) -> Option<Signal> {
         match oftp_channel::lacking(self.heard.as_slice()) {
             Ok(0) => {}
             Ok(_) => return None,
@@ -206,45 +146,14 @@ impl Peer<'_> {
         Some(signal)
     }
 
-    /// Reads a request over HTTP, up to the greatest length.
-    fn hear_request(&mut self) -> Option<Signal> {
-        // All that is there counts, so the whole of the longest head is read at once.
-        let mut piece = [0; MOST_REQUEST_OCTETS];
-        match self.hear_more(&mut piece) {
-            Came::Octets(_) => {}
-            Came::Nothing => return None,
-            Came::End => return Some(Signal::Ends),
-            Came::Lost => return Some(Signal::Lost),
-        }
+    /// Judges what has come of a request over HTTP, up to the greatest length.
+    fn judge_request(&mut self) -> Option<Signal> {
         self.heard.truncate(MOST_REQUEST_OCTETS);
         if !is_whole(self.heard.as_slice()) {
             return None;
         }
         self.reading = Reading::Nothing;
         Some(Signal::Asked(Request::Query))
-    }
-
-    /// Reads a piece of a request after those that it has.
-    fn hear_more(&mut self, piece: &mut [u8]) -> Came {
-        let came = self.read(piece);
-        if let Came::Octets(count) = came
-            && let Some(piece) = piece.get(..count)
-            && self.heard.extend_from_slice(piece).is_err()
-        {
-            self.note(Err(Trouble::OfService(Fault::MEMORY)));
-            return Came::Lost;
-        }
-        came
-    }
-
-    /// Drops what comes, up to its end.
-    fn hear_end(&mut self) -> Option<Signal> {
-        let mut piece = [0; PIECE];
-        match self.read(&mut piece) {
-            Came::Octets(_) | Came::Nothing => None,
-            Came::End => Some(Signal::Ends),
-            Came::Lost => Some(Signal::Lost),
-        }
     }
 }
 

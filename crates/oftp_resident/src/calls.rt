@@ -1,9 +1,7 @@
 //! The calls of the station: for whom something waits, and how a call gets its connection.
 
-use crate::asked::Wanted;
 use crate::dialing::Outgoing;
 use crate::home::Home;
-use crate::limits::partner_of;
 use crate::peer::{Peer, Reading, Task};
 use crate::service::{Books, Shell, peer_in};
 use crate::stream::Stream;
@@ -14,9 +12,9 @@ use oftp_life::Life;
 use oftp_outcomes::{Fault, Trouble};
 use oftp_partners::Book;
 use oftp_register::Office;
-use oftp_requests::is_due;
-use oftp_schedule::connection::{Asker, Event, Signal};
-use oftp_sockets::Keeper;
+use oftp_requests::{Asked, Wanted, is_due, partner_of};
+use oftp_schedule::connection::{self as schedule, Asker, Event, Signal};
+use oftp_sockets::{Keeper, Station};
 use std::alloc::Global;
 
 impl<'a> Shell<'a> {
@@ -49,11 +47,17 @@ impl<'a> Shell<'a> {
 
     /// Tells the partner at a place of the list.
     fn call_at(&mut self, place: usize) -> Result<(), Fault> {
+        let Station {
+            book,
+            patience,
+            longest,
+            ..
+        } = self.station;
         if let Some(code) = self.bench.codes.get(place)
             && let Ok(number) = u32::try_from(place)
-            && let Some(partner) = self.station.book.partner(code.as_bytes())
+            && let Some(partner) = book.partner(code.as_bytes())
         {
-            let partner = partner_of(&self.station, number, partner);
+            let partner = partner_of(book, number, partner, patience, longest);
             return self.say(Event::Due(partner));
         }
         Ok(())
@@ -84,7 +88,11 @@ impl<'a> Shell<'a> {
         let Some(peer) = peer_in(&mut self.peers, id) else {
             return self.tell(id, Signal::Failed);
         };
-        match peer.resolve(rt) {
+        let resolved = match &mut peer.task {
+            Task::Call(call) => call.resolve(rt),
+            _ => Err(Fault::Socket),
+        };
+        match resolved {
             Ok(()) => self.tell(id, Signal::Resolved),
             Err(fault) => {
                 peer.note(Err(Trouble::OfJob(fault)));
@@ -95,39 +103,28 @@ impl<'a> Shell<'a> {
 
     /// The connection of a call that isn't begun. `None` if there is no such call, or no memory for it.
     fn new_call(&self, id: u64) -> Option<Peer<'a>> {
+        let alloc = self.rt.alloc();
         let call = self.schedule.call(id)?;
-        match call.asker {
-            Asker::ByClock => self.call_of_clock(id, call.partner.number as usize),
-            Asker::By(command) => self.call_of_command(id, command),
-        }
+        let (asker, wanted) = match call.asker {
+            Asker::ByClock => (None, self.wanted_by_clock(call.partner)?),
+            Asker::By(id) => (Some(id), self.asked_by(id)?.wanted(alloc).ok()?),
+        };
+        let outgoing = Outgoing::new(self.rt, asker, wanted.tracing, wanted.address);
+        let task = Task::Call(outgoing);
+        let mut peer = Peer::new(alloc, id, task, Stream::absent(), Reading::Nothing);
+        peer.code = Some(wanted.code);
+        Some(peer)
     }
 
-    /// A call by the clock of the partner at a place of the list.
-    fn call_of_clock(&self, id: u64, place: usize) -> Option<Peer<'a>> {
-        let alloc = self.rt.alloc();
-        let code = self.bench.codes.get(place)?;
+    /// A call by the clock of a partner of the list.
+    fn wanted_by_clock(&self, called: schedule::Partner) -> Option<Wanted> {
+        let code = self.bench.codes.get(called.number as usize)?;
         let partner = self.station.book.partner(code.as_bytes())?;
-        let address = String::from_str(alloc, partner.address.as_str()).ok()?;
-        let code = String::from_str(alloc, code.as_str()).ok()?;
-        let outgoing = Outgoing::new(self.rt, None, Tracing::None, address);
-        Some(called(alloc, id, code, outgoing))
-    }
-
-    /// A call that a command wants.
-    fn call_of_command(&self, id: u64, command: u64) -> Option<Peer<'a>> {
-        let alloc = self.rt.alloc();
-        let Wanted {
-            partner: _,
-            code,
-            address,
-            tracing,
-        } = self.asked_by(command)?.wanted(alloc).ok()?;
-        let outgoing = Outgoing::new(self.rt, Some(command), tracing, address);
-        Some(called(alloc, id, code, outgoing))
+        Wanted::of(self.rt.alloc(), called, code, partner, Tracing::None).ok()
     }
 
     /// The request of a command.
-    fn asked_by(&self, command: u64) -> Option<&crate::asked::Asked> {
+    fn asked_by(&self, command: u64) -> Option<&Asked> {
         match &self.peers.iter().find(|peer| peer.id == command)?.task {
             Task::Command(asked) => asked.as_ref(),
             _ => None,
@@ -140,9 +137,11 @@ impl<'a> Shell<'a> {
         let alloc = rt.alloc();
         let shared = self.station.trace;
         if let Some(peer) = peer_in(&mut self.peers, id) {
-            peer.trace = match peer.tracing() {
-                Tracing::Kept => Some(SessionTrace::new(alloc, Lines::Own(Trace::kept(rt)))),
-                Tracing::None => shared_trace(alloc, shared),
+            peer.trace = match peer.call() {
+                Some(call) if call.tracing == Tracing::Kept => {
+                    Some(SessionTrace::new(alloc, Lines::Own(Trace::kept(rt))))
+                }
+                _ => shared_trace(alloc, shared),
             };
         }
         self.connect(rt, id, Fault::Socket)
@@ -159,7 +158,7 @@ impl<'a> Shell<'a> {
         };
         match connecting {
             Ok(stream) => {
-                peer.stream = Stream::Dialing(stream);
+                peer.stream = stream;
                 peer.reading = Reading::Dial;
                 peer.readiness.is_writable = true;
                 Ok(())
@@ -187,11 +186,7 @@ impl<'a> Shell<'a> {
 
     /// Whether a session begins by the book of a command, which isn't lent.
     pub(crate) fn lacks_book(&self, id: u64, books: Books<'_>) -> bool {
-        let is_lent = match books.lent {
-            Some((call, _)) => call == id,
-            None => false,
-        };
-        !is_lent && self.asker_of(id).is_some()
+        books.lent_for(id).is_none() && self.asker_of(id).is_some()
     }
 
     /// The book of the command that wanted a call. `None` for other calls, or if there is no memory for it.
@@ -202,37 +197,8 @@ impl<'a> Shell<'a> {
 
     /// The command that wanted a call.
     fn asker_of(&self, id: u64) -> Option<u64> {
-        match &self.peers.iter().find(|peer| peer.id == id)?.task {
-            Task::Call(call) => call.asker,
-            _ => None,
-        }
+        self.peers.iter().find(|peer| peer.id == id)?.asker()
     }
-}
-
-impl Peer<'_> {
-    /// Whether the command that wants this call wants its trace.
-    fn tracing(&self) -> Tracing {
-        match &self.task {
-            Task::Call(call) => call.tracing,
-            _ => Tracing::None,
-        }
-    }
-
-    /// Looks up the addresses of its partner.
-    fn resolve(&mut self, rt: &HostRuntime) -> Result<(), Fault> {
-        match &mut self.task {
-            Task::Call(call) => call.resolve(rt),
-            _ => Err(Fault::Socket),
-        }
-    }
-}
-
-/// A call that isn't begun.
-fn called<'a>(alloc: Global, id: u64, code: String, outgoing: Outgoing) -> Peer<'a> {
-    let task = Task::Call(outgoing);
-    let mut peer = Peer::new(alloc, id, task, Stream::Absent, Reading::Nothing);
-    peer.code = Some(code);
-    peer
 }
 
 /// A trace whose lines go to that of the service, if there is one.

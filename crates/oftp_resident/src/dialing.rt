@@ -1,12 +1,13 @@
 //! The calls of the station: their addresses, and how they are connected.
 
-use crate::watch::Watch;
-use mio::net::TcpStream;
+use crate::stream::Stream;
+use crate::watch::{Source, Watch};
+use mio::net::TcpStream as Dialed;
 use oftp_channel::Tracing;
 use oftp_outcomes::Fault;
 use oftp_sockets::socket_fault;
 use std::io;
-use std::net::{SocketAddr, ToSocketAddrs};
+use std::net::{SocketAddr, TcpStream, ToSocketAddrs};
 use std::os::fd::AsRawFd;
 
 /// How many addresses of one partner are tried, at most.
@@ -67,20 +68,18 @@ impl Outgoing {
         watch: &Watch,
         id: u64,
         fault: Fault,
-    ) -> Result<TcpStream, Fault> {
+    ) -> Result<Stream, Fault> {
         let mut fault = fault;
         for _ in 0..MOST_ADDRESSES {
             let Some(address) = self.addresses.get(self.tried) else {
                 break;
             };
-            match connecting(rt, *address, watch, id) {
-                Ok(stream) => {
-                    self.tried = self.tried.saturating_add(1);
-                    return Ok(stream);
-                }
+            let connecting = connecting(rt, *address, watch, id);
+            self.tried = self.tried.saturating_add(1);
+            match connecting {
+                Ok(stream) => return Ok(stream),
                 Err(error) => fault = socket_fault(&error),
             }
-            self.tried = self.tried.saturating_add(1);
         }
         Err(fault)
     }
@@ -99,24 +98,8 @@ fn addresses_of(rt: &HostRuntime, address: &str) -> Result<Vec<SocketAddr>, Faul
 }
 
 /// Begins to connect to an address.
-fn connecting(
-    rt: &HostRuntime,
-    address: SocketAddr,
-    watch: &Watch,
-    id: u64,
-) -> io::Result<TcpStream> {
-    let stream = TcpStream::connect(rt, address)?;
-    watch.add(id, stream.as_raw_fd())?;
-    Ok(stream)
-}
-
-/// Whether a stream is connected.
-///
-/// # Errors
-/// Why it can't be.
-pub(crate) fn is_connected(stream: &TcpStream) -> io::Result<bool> {
-    if let Some(error) = stream.take_error()? {
-        return Err(error);
-    }
-    Ok(stream.peer_addr().is_ok())
+fn connecting(rt: &HostRuntime, address: SocketAddr, watch: &Watch, id: u64) -> io::Result<Stream> {
+    let dialed = Dialed::connect(rt, address)?;
+    watch.add(Source::Connection(id), dialed.as_raw_fd())?;
+    Ok(Stream::internet(TcpStream::from(dialed)))
 }

@@ -2,8 +2,9 @@
 
 use crate::calls::shared_trace;
 use crate::peer::{Peer, Reading, Task};
-use crate::service::Shell;
+use crate::service::{Bench, Shell};
 use crate::stream::Stream;
+use crate::watch::Source;
 use oftp_channel::READY;
 use oftp_life::Opening;
 use oftp_outcomes::{Fault, Trouble};
@@ -12,11 +13,49 @@ use oftp_schedule::connection::{Arrival, Door, Event, Signal};
 use oftp_sockets::{is_short, passes};
 use std::io::{self, ErrorKind};
 use std::net::TcpListener;
+use std::os::fd::{AsRawFd, RawFd};
 
 /// How many who are gone already are passed over at once, at most.
 const MOST_GONE: u32 = 128;
 
 const LAST_TRY: u32 = MOST_GONE - 1;
+
+impl Bench<'_> {
+    /// The listener of a door to the internet, if there is one.
+    fn internet(&self, door: Door) -> Option<&TcpListener> {
+        match door {
+            Door::Partners => self.partners,
+            Door::Requests => self.requests,
+            Door::Commands | Door::Calls => None,
+        }
+    }
+
+    /// Lets the calls of a door's listener return at once. Returns its descriptor, if there is one.
+    pub(crate) fn opened(&self, door: Door) -> io::Result<Option<RawFd>> {
+        if let (Door::Commands, Some(listener)) = (door, self.commands) {
+            listener.set_nonblocking(true)?;
+            return Ok(Some(listener.as_raw_fd()));
+        }
+        let Some(listener) = self.internet(door) else {
+            return Ok(None);
+        };
+        listener.set_nonblocking(true)?;
+        Ok(Some(listener.as_raw_fd()))
+    }
+
+    /// The next connection at a door.
+    fn accepted(&self, door: Door) -> io::Result<Stream> {
+        if let (Door::Commands, Some(listener)) = (door, self.commands) {
+            let (socket, _) = listener.accept()?;
+            return Ok(Stream::local(socket));
+        }
+        let Some(listener) = self.internet(door) else {
+            return Err(io::Error::from(ErrorKind::WouldBlock));
+        };
+        let (socket, _) = listener.accept()?;
+        Ok(Stream::internet(socket))
+    }
+}
 
 impl<'a> Shell<'a> {
     /// Accepts a connection at a door, which has this number from now on, and tells what came of it.
@@ -32,7 +71,7 @@ impl<'a> Shell<'a> {
     /// What comes of accepting a connection, and its socket if somebody is there.
     fn next_at(&self, door: Door) -> (Arrival, Option<Stream>) {
         for tried in 0..MOST_GONE {
-            let accepted = self.accepted(door);
+            let accepted = self.bench.accepted(door);
             let left = LAST_TRY.saturating_sub(tried);
             if let Some(arrival) = arrival_of(attempt_of(&accepted), left) {
                 return (arrival, accepted.ok());
@@ -41,33 +80,24 @@ impl<'a> Shell<'a> {
         (Arrival::Later, None)
     }
 
-    fn accepted(&self, door: Door) -> io::Result<Stream> {
-        match door {
-            Door::Partners => internet(self.bench.partners),
-            Door::Requests => internet(self.bench.requests),
-            Door::Commands => match self.bench.commands {
-                Some(commands) => {
-                    let (stream, _) = commands.accept()?;
-                    Ok(Stream::Local(stream))
-                }
-                None => Err(io::Error::from(ErrorKind::WouldBlock)),
-            },
-            Door::Calls => Err(io::Error::from(ErrorKind::WouldBlock)),
-        }
-    }
-
     /// Keeps a connection that was accepted. One that can't be kept is lost.
     fn welcome(&mut self, id: u64, door: Door, stream: Stream) -> Result<(), Fault> {
-        let is_watched = match (stream.prepare(), stream.descriptor()) {
-            (Ok(()), Some(descriptor)) => self.watch.add(id, descriptor).is_ok(),
-            _ => false,
-        };
+        let is_watched = self.watched(id, door, &stream).is_ok();
         let peer = self.newcomer(id, door, stream);
         let is_lost = !is_watched || peer.ended.is_some();
         if self.peers.push(peer).is_err() || is_lost {
             return self.tell(id, Signal::Lost);
         }
         Ok(())
+    }
+
+    /// Watches the socket of a connection that was accepted.
+    fn watched(&self, id: u64, door: Door, stream: &Stream) -> io::Result<()> {
+        stream.set_nonblocking()?;
+        if door != Door::Commands {
+            stream.set_nodelay()?;
+        }
+        self.watch.add(Source::Connection(id), stream.descriptor()?)
     }
 
     /// A connection that was accepted at a door, with what is said to it first.
@@ -77,8 +107,7 @@ impl<'a> Shell<'a> {
             Door::Commands => {
                 let task = Task::Command(None);
                 let mut peer = Peer::new(alloc, id, task, stream, Reading::Command);
-                let ready = Vec::from_slice(alloc, &[READY]).unwrap_or(Vec::new(alloc));
-                let _ = peer.say(ready);
+                let _ = peer.say(Vec::from_slice(alloc, &[READY]).unwrap_or(Vec::new(alloc)));
                 peer
             }
             Door::Requests | Door::Calls => {
@@ -112,16 +141,5 @@ fn attempt_of(accepted: &io::Result<Stream>) -> Attempt {
         Err(error) if is_short(error) => Attempt::Short,
         Err(error) if passes(error) || error.kind() == ErrorKind::Interrupted => Attempt::Gone,
         Err(_) => Attempt::Broken,
-    }
-}
-
-/// The next connection at a listener.
-fn internet(listener: Option<&TcpListener>) -> io::Result<Stream> {
-    match listener {
-        Some(listener) => {
-            let (stream, _) = listener.accept()?;
-            Ok(Stream::Internet(stream))
-        }
-        None => Err(io::Error::from(ErrorKind::WouldBlock)),
     }
 }

@@ -2,9 +2,9 @@
 
 use oftp_engine::RunFault;
 use oftp_life::Life;
-use oftp_outcomes::{Fault, Trouble};
+use oftp_outcomes::{Fault, Term, Trouble};
 use oftp_register::Office;
-use oftp_sockets::{Keeper, Term};
+use oftp_sockets::Keeper;
 
 /// Keeps one life for all jobs.
 #[derive(Drop)]

@@ -1,18 +1,12 @@
 //! The services: one loop over sockets, which does one job after another. The schedule says what is done; this crate does it.
 #![tactic(auto)]
 
-mod answers;
-mod asked;
 mod attending;
 mod calls;
 mod dialing;
 mod doors;
-mod due;
 mod home;
-mod judging;
 mod kept;
-mod limits;
-mod page;
 mod peer;
 mod requests;
 mod service;
@@ -21,7 +15,6 @@ mod sessions;
 mod stream;
 mod watch;
 
-pub use due::codes_of;
 pub use kept::Kept;
 pub use service::{Bench, Start, serve};
 pub use session_lines::SessionLines;

@@ -1,19 +1,22 @@
 //! A connection of the station: its socket, what it has sent, what is to go to it, and what it is.
 
-use crate::asked::Asked;
 use crate::dialing::Outgoing;
 use crate::stream::Stream;
 use oftp_engine::{End, RunFault};
 use oftp_files::SessionTrace;
 use oftp_life::Opening;
 use oftp_outcomes::{Fault, Trouble};
+use oftp_requests::{Asked, trouble_of};
 use oftp_schedule::connection::Signal;
 use std::alloc::Global;
 use std::io::ErrorKind;
 use std::mem;
 
 /// How many octets are read at once.
-pub(crate) const PIECE: usize = 4_096;
+const PIECE: usize = 4_096;
+
+/// The same of a request over HTTP: one more than a head may have. All that is there counts.
+pub(crate) const MOST_REQUEST_OCTETS: usize = 8_193;
 
 /// How many times one connection is written to before the others get their turn.
 const MOST_WRITES: u32 = 16;
@@ -171,31 +174,60 @@ impl<'a> Peer<'a> {
 
     /// Whether something can be read of it that is to be read.
     pub(crate) fn is_ready_to_read(&self) -> bool {
-        self.readiness.is_readable && self.is_read()
-    }
-
-    /// Whether its octets are read now.
-    fn is_read(&self) -> bool {
-        match self.reading {
+        let is_read = match self.reading {
             Reading::Nothing | Reading::Dial => false,
             Reading::Session => self.heard.is_empty(),
             _ => true,
+        };
+        self.readiness.is_readable && is_read
+    }
+
+    /// Reads the next piece, and keeps it behind what came before, unless it is to be dropped. The end and an error of a session are noted.
+    pub(crate) fn take_in(&mut self) -> Came {
+        let mut piece = [0; MOST_REQUEST_OCTETS];
+        let most = match self.reading {
+            Reading::Request => MOST_REQUEST_OCTETS,
+            _ => PIECE,
+        };
+        let Some(room) = piece.get_mut(..most) else {
+            return Came::Nothing;
+        };
+        let came = self.read(room);
+        match (came, self.reading) {
+            (Came::Octets(_), Reading::Copy | Reading::Rest) => {}
+            (Came::Octets(count), _) => return self.keep(piece.get(..count).unwrap_or(&[])),
+            (Came::End, Reading::Opening | Reading::Session) => self.note(Ok(End::Input)),
+            (Came::Lost, Reading::Session) => self.note(Err(trouble_of(RunFault::Read))),
+            _ => {}
         }
+        came
     }
 
     /// Reads a piece.
-    pub(crate) fn read(&mut self, piece: &mut [u8]) -> Came {
+    fn read(&mut self, piece: &mut [u8]) -> Came {
         match self.stream.read(piece) {
-            Ok(count) if count > 0 => Came::Octets(count),
-            Ok(_) => Came::End,
-            Err(error) => match error.kind() {
-                ErrorKind::WouldBlock => {
-                    self.readiness.is_readable = false;
-                    Came::Nothing
-                }
-                ErrorKind::Interrupted => Came::Nothing,
-                _ => Came::Lost,
-            },
+            Ok(0) => Came::End,
+            Ok(count) => Came::Octets(count),
+            Err(error) if error.kind() == ErrorKind::WouldBlock => {
+                self.readiness.is_readable = false;
+                Came::Nothing
+            }
+            Err(error) if error.kind() == ErrorKind::Interrupted => Came::Nothing,
+            Err(_) => Came::Lost,
+        }
+    }
+
+    /// Keeps a piece until it is taken.
+    fn keep(&mut self, piece: &[u8]) -> Came {
+        if let Some(trace) = &mut self.trace {
+            trace.heard(piece);
+        }
+        match self.heard.extend_from_slice(piece) {
+            Ok(()) => Came::Octets(piece.len()),
+            Err(_) => {
+                self.note(Err(Trouble::OfService(Fault::MEMORY)));
+                Came::Lost
+            }
         }
     }
 
@@ -267,7 +299,7 @@ impl<'a> Peer<'a> {
 
     /// Lets go of its socket and of all that belongs to that. What it is stays.
     pub(crate) fn hang_up(&mut self, alloc: Global) {
-        self.stream = Stream::Absent;
+        self.stream = Stream::absent();
         self.reading = Reading::Nothing;
         self.readiness.is_gone = false;
         self.heard = Vec::new(alloc);
@@ -276,6 +308,19 @@ impl<'a> Peer<'a> {
         self.is_ended = false;
         self.ended = None;
         self.trace = None;
+    }
+
+    /// The call that it is.
+    pub(crate) fn call(&self) -> Option<&Outgoing> {
+        match &self.task {
+            Task::Call(call) => Some(call),
+            _ => None,
+        }
+    }
+
+    /// The command that wanted this call.
+    pub(crate) fn asker(&self) -> Option<u64> {
+        self.call()?.asker
     }
 
     /// Takes what it has sent.

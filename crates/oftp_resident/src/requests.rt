@@ -1,25 +1,20 @@
 //! The requests of commands and over HTTP, and their answers.
 
-use crate::answers::answer_of;
-use crate::asked::{Asked, Made};
 use crate::home::Home;
-use crate::judging::{declined, office_within};
-use crate::page::PAGE;
 use crate::peer::{Peer, Reading, Task};
 use crate::service::{Shell, peer_in};
-use oftp_channel::{Ending, LONGEST_PIECE, Outlet, write_piece};
-use oftp_engine::{Port, RunFault};
+use oftp_channel::Ending;
+use oftp_engine::RunFault;
 use oftp_life::Life;
-use oftp_listing::{ListFault, OfficeState, Reply, Site, reply_at, reply_of_any, stopping_reply};
+use oftp_listing::{ListFault, OfficeState, Reply, Site, reply_at};
 use oftp_outcomes::{Fault, Outcome, Trouble};
+use oftp_page::PAGE;
 use oftp_register::Office;
+use oftp_requests::{Asked, Made, bare_answer, copy_let, declined, office_within, stopping};
 use oftp_schedule::connection::{Reason, Signal};
 use oftp_sockets::Keeper;
 use std::alloc::Global;
 use std::net::IpAddr;
-
-/// The message that lets a command copy the database's files.
-const COPY: &[u8] = b"copy";
 
 impl Shell<'_> {
     /// Does a look-up, and tells the length of its answer.
@@ -33,7 +28,7 @@ impl Shell<'_> {
         let alloc = rt.alloc();
         let site = self.bench.site;
         let Some(peer) = peer_in(&mut self.peers, id) else {
-            return self.take_answer(id, nothing(alloc));
+            return self.take_answer(id, Made::nothing(alloc));
         };
         if let Some(made) = peer.look_nowhere(alloc, site) {
             return self.take_answer(id, made);
@@ -58,7 +53,7 @@ impl Shell<'_> {
         let opened = home.open(rt, keeper);
         let made = match peer_in(&mut self.peers, id) {
             Some(peer) => peer.change(alloc, home),
-            None => nothing(alloc),
+            None => Made::nothing(alloc),
         };
         self.take_answer(id, made)?;
         self.settle_opening(opened)
@@ -95,7 +90,7 @@ impl Shell<'_> {
         };
         let answer = match peer.answer.take() {
             Some(answer) => answer,
-            None => ended(alloc, peer.ending()),
+            None => bare_answer(alloc, peer.ending()),
         };
         self.send_answer(id, answer)
     }
@@ -108,7 +103,7 @@ impl Shell<'_> {
         };
         let answer = match (&peer.task, reason) {
             (Task::Visitor, _) => stopping(alloc),
-            (_, reason) => ended(alloc, Ending::Failed(declined(reason))),
+            (_, reason) => bare_answer(alloc, Ending::Failed(declined(reason))),
         };
         self.send_answer(id, answer)
     }
@@ -128,17 +123,17 @@ impl Shell<'_> {
 
     /// Lets a command copy the database's files.
     pub(crate) fn let_copy(&mut self, id: u64) -> Result<(), Fault> {
-        let mut port = Port::new(Vec::new(self.rt.alloc()), 0);
-        let is_told = COPY.len() <= LONGEST_PIECE && write_piece(&mut port, Outlet::Content, COPY);
+        let octets = copy_let(self.rt.alloc());
         let Some(peer) = peer_in(&mut self.peers, id) else {
             return Ok(());
         };
         peer.reading = Reading::Copy;
-        if is_told && peer.say(port.into_inner()).is_ok() {
-            Ok(())
-        } else {
-            self.tell(id, Signal::Lost)
+        if let Some(octets) = octets
+            && peer.say(octets).is_ok()
+        {
+            return Ok(());
         }
+        self.tell(id, Signal::Lost)
     }
 
     /// Lets the last octets go out, and drops what comes.
@@ -151,28 +146,19 @@ impl Shell<'_> {
 }
 
 impl Peer<'_> {
-    /// What is answered whatever the register has, if it is such a request. A site with the page looks further.
+    /// What is answered whatever the register has, if it is such a request.
     fn look_nowhere(&self, alloc: Global, site: Site<'_>) -> Option<Made> {
-        match (&self.task, site) {
-            (Task::Visitor, Site::Register) => match reply_of_any(alloc, self.heard.as_slice()) {
-                Ok(Some(reply)) => Some(Made {
-                    octets: reply.into_octets(),
-                    office: OfficeState::Working,
-                }),
-                _ => None,
-            },
+        match self.task {
+            Task::Visitor => Made::of_any(alloc, site, self.heard.as_slice()),
             _ => None,
         }
     }
 
     /// Makes the change that it asks for, in a life that is here.
     fn change<O: Office + Drop>(&self, alloc: Global, home: &mut Home<'_, O>) -> Made {
-        match home {
-            Home::Idle(life) => match &self.task {
-                Task::Command(Some(asked)) => asked.change(alloc, life),
-                _ => nothing(alloc),
-            },
-            _ => nothing(alloc),
+        match (&self.task, home) {
+            (Task::Command(Some(asked)), Home::Idle(life)) => asked.change(alloc, life),
+            _ => Made::nothing(alloc),
         }
     }
 
@@ -188,31 +174,13 @@ impl Peer<'_> {
             Task::Visitor => {
                 let address = self.stream.called_address();
                 let reply = reply_in(alloc, site, address, self.heard.as_slice(), home);
-                self.take_reply(alloc, reply)
-            }
-            _ => nothing(alloc),
-        }
-    }
-
-    /// The answer with a reply. The error of one that couldn't be made is noted.
-    fn take_reply(&mut self, alloc: Global, reply: Result<Reply, ListFault>) -> Made {
-        match reply {
-            Ok(reply) => {
-                let office = reply.office();
-                let octets = reply.into_octets();
-                Made { octets, office }
-            }
-            Err(ListFault::Office) => {
-                self.note(Err(Trouble::OfService(Fault::Run(RunFault::Office))));
-                Made {
-                    octets: Vec::new(alloc),
-                    office: OfficeState::Failed,
+                let (made, trouble) = Made::of_reply(alloc, reply);
+                if let Some(trouble) = trouble {
+                    self.note(Err(trouble));
                 }
+                made
             }
-            Err(_) => {
-                self.note(Err(Trouble::OfService(Fault::MEMORY)));
-                nothing(alloc)
-            }
+            _ => Made::nothing(alloc),
         }
     }
 
@@ -238,7 +206,7 @@ fn look_in<O: Office + Drop>(alloc: Global, asked: &Asked, home: &mut Home<'_, O
     match home {
         Home::Idle(life) => asked.look(alloc, life),
         Home::Talking(session) => asked.look(alloc, session),
-        Home::Away => nothing(alloc),
+        Home::Away => Made::nothing(alloc),
     }
 }
 
@@ -254,26 +222,5 @@ fn reply_in<O: Office + Drop>(
         Home::Idle(life) => reply_at(alloc, site, PAGE, address, request, life),
         Home::Talking(session) => reply_at(alloc, site, PAGE, address, request, session),
         Home::Away => Err(ListFault::Memory),
-    }
-}
-
-/// The octets of an answer of nothing but its end; none if there is no memory for them.
-fn ended(alloc: Global, ending: Ending) -> Vec<u8> {
-    answer_of(alloc, &[], ending).unwrap_or(Vec::new(alloc))
-}
-
-/// The octets of the reply to a request that isn't answered, since the station ends; none if there is no memory for them.
-fn stopping(alloc: Global) -> Vec<u8> {
-    match stopping_reply(alloc) {
-        Ok(reply) => reply.into_octets(),
-        Err(_) => Vec::new(alloc),
-    }
-}
-
-/// No answer: the connection is closed.
-fn nothing(alloc: Global) -> Made {
-    Made {
-        octets: Vec::new(alloc),
-        office: OfficeState::Working,
     }
 }

@@ -1,18 +1,19 @@
 //! A service: one loop over a schedule. Each turn tells it the time and what the sockets have, and carries out one action.
 
 use crate::home::Home;
-use crate::judging::{Closing, closing_of, result_at};
-use crate::limits::limits_of;
 use crate::peer::Peer;
-use crate::watch::{Source, Watch, source_of};
+use crate::watch::{DOORS, Source, Watch, source_of};
 use oftp_life::Life;
 use oftp_listing::Site;
-use oftp_outcomes::Fault;
+use oftp_outcomes::{Fault, Term};
 use oftp_partners::Book;
 use oftp_register::Office;
-use oftp_schedule::connection::{Action, Counted, Door, Event, Signal, Status};
+use oftp_requests::{Closing, closing_of, result_at};
+use oftp_schedule::connection::{Action, Counted, Event, Limits, Signal, Status};
+use oftp_schedule::durations::{millis, wait_of};
 use oftp_schedule::schedule::Schedule;
-use oftp_sockets::{Keeper, Reporter, Station, Term, socket_fault};
+use oftp_schedule::sizes::SIZES;
+use oftp_sockets::{Keeper, Reporter, Station, socket_fault};
 use std::io;
 use std::net::TcpListener;
 use std::os::unix::net::UnixListener;
@@ -46,14 +47,14 @@ pub struct Bench<'a> {
     pub site: Site<'a>,
     /// How many partners at most are connected at once, of the 128 places.
     pub places: u64,
-    /// How long a caller has to be admitted.
-    pub admission: Duration,
-    /// How long a call has to be connected; each as long as its partner may be idle if that is less.
-    pub dialing: Duration,
+    /// How many seconds a caller has to be admitted.
+    pub admission: u64,
+    /// How many seconds a call has to be connected; each as long as its partner may be idle if that is less.
+    pub dialing: u64,
     /// The codes of the partners, in their order.
     pub codes: &'a [String],
-    /// The interval after which each partner is called that something waits for; zero is never.
-    pub interval: Duration,
+    /// The seconds after which each partner is called that something waits for; 0 is never.
+    pub interval: u64,
     /// What it begins with.
     pub start: Start,
     /// What is counted as a job.
@@ -69,6 +70,16 @@ pub(crate) struct Books<'b> {
     pub(crate) own: &'b Book,
     /// That of the command whose call begins, and the call's number.
     pub(crate) lent: Option<(u64, &'b Book)>,
+}
+
+impl<'b> Books<'b> {
+    /// The book of the command whose call has this number, if it is lent.
+    pub(crate) fn lent_for(self, id: u64) -> Option<&'b Book> {
+        match self.lent {
+            Some((call, book)) if call == id => Some(book),
+            _ => None,
+        }
+    }
 }
 
 /// A running service.
@@ -107,15 +118,11 @@ pub fn serve<O: Office + Drop>(
     reporter: &mut impl Reporter,
 ) -> Result<(), Fault> {
     let watch = watch_over(rt, bench).map_err(|error| socket_fault(&error))?;
-    let Ok(began) = Instant::now(rt) else {
-        return Err(Fault::Socket);
-    };
-    let Ok(schedule) = Schedule::new(rt.alloc(), limits_of(bench, station)) else {
-        return Err(Fault::MEMORY);
-    };
-    let Ok(peers) = Vec::with_capacity(rt.alloc(), MOST_PLACES) else {
-        return Err(Fault::MEMORY);
-    };
+    let alloc = rt.alloc();
+    let limits = limits_of(bench, station);
+    let began = Instant::now(rt).map_err(|_| Fault::Socket)?;
+    let schedule = Schedule::new(alloc, limits).map_err(|_| Fault::MEMORY)?;
+    let peers = Vec::with_capacity(alloc, MOST_PLACES).map_err(|_| Fault::MEMORY)?;
     let mut shell = Shell {
         rt,
         station: *station,
@@ -133,35 +140,27 @@ pub fn serve<O: Office + Drop>(
 /// Watches the listeners.
 fn watch_over(rt: &HostRuntime, bench: &Bench<'_>) -> io::Result<Watch> {
     let watch = Watch::new(rt)?;
-    if let Some(partners) = bench.partners {
-        partners.set_nonblocking(true)?;
-        watch.add_door(Door::Partners, partners)?;
-    }
-    if let Some(commands) = bench.commands {
-        commands.set_nonblocking(true)?;
-        watch.add_door(Door::Commands, commands)?;
-    }
-    if let Some(requests) = bench.requests {
-        requests.set_nonblocking(true)?;
-        watch.add_door(Door::Requests, requests)?;
+    for (place, door) in DOORS.iter().enumerate() {
+        if let Some(descriptor) = bench.opened(*door)? {
+            watch.add(Source::Door(place), descriptor)?;
+        }
     }
     Ok(watch)
 }
 
-/// The service's own book, and that of a call if both are there.
-fn books_of<'b>(own: &'b Book, call: Option<u64>, book: &'b Option<Book>) -> Books<'b> {
-    let lent = match call {
-        Some(id) => lent_for(id, book),
-        None => None,
-    };
-    Books { own, lent }
-}
-
-/// The book that is lent for a call, if it is there.
-fn lent_for(id: u64, book: &Option<Book>) -> Option<(u64, &Book)> {
-    match book {
-        Some(book) => Some((id, book)),
-        None => None,
+/// The limits of the schedule.
+fn limits_of(bench: &Bench<'_>, station: &Station<'_>) -> Limits {
+    let most = u32::try_from(bench.places).unwrap_or(u32::MAX);
+    Limits {
+        partners: most.min(SIZES.partners),
+        admission: millis(bench.admission),
+        patience: wait_of(station.patience),
+        longest: millis(station.longest),
+        dialing: millis(bench.dialing),
+        interval: millis(bench.interval),
+        counted: bench.counted,
+        jobs: bench.jobs,
+        ..SIZES
     }
 }
 
@@ -184,21 +183,19 @@ impl<'a> Shell<'a> {
         for _ in 0..u64::MAX {
             let own = self.station.book;
             let book = self.book_of_call(call);
-            let books = books_of(own, call, &book);
-            match self.work(books, call, keeper, reporter)? {
-                Pause::Ended(status) => return self.result_of(status),
+            let lent = match (call, &book) {
+                (Some(id), Some(book)) => Some((id, book)),
+                _ => None,
+            };
+            match self.work(Books { own, lent }, call, keeper, reporter)? {
+                Pause::Ended(status) => return match result_at(self.fault, status) {
+                    Some(fault) => Err(fault),
+                    None => Ok(()),
+                },
                 Pause::Begins(id) => call = Some(id),
             }
         }
         Ok(())
-    }
-
-    /// The result of a service that ended like this.
-    fn result_of(&self, status: Status) -> Result<(), Fault> {
-        match result_at(self.fault, status) {
-            Some(fault) => Err(fault),
-            None => Ok(()),
-        }
     }
 
     /// Lets the service end with an error, unless it does so with another one.
@@ -256,7 +253,7 @@ impl<'a> Shell<'a> {
         }
     }
 
-    /// Carries out an action: one on a life, or one on a connection.
+    /// Carries out an action.
     fn carry_out<'b, O: Office + Drop>(
         &mut self,
         action: Action,
@@ -269,40 +266,25 @@ impl<'a> Shell<'a> {
         'a: 'b,
     {
         match action {
-            Action::Begin(id) => self.begin(id, home, books, keeper),
-            Action::Hear(id) => self.hear(id, home),
-            Action::Look(id) => self.look(id, home, keeper),
-            Action::Change(id) => self.change(id, home, keeper),
-            Action::Review => self.review(home, keeper),
-            Action::Cut(_) => {
-                home.end();
-                Ok(())
-            }
-            Action::Print(id, reason) => self.print(id, reason, reporter),
-            Action::Close(id, _) => self.close(id, keeper.term(), reporter),
-            other => self.connect_out(other),
+            Action::Begin(id) => self.begin(id, home, books, keeper)?,
+            Action::Hear(id) => self.hear(id, home)?,
+            Action::Look(id) => self.look(id, home, keeper)?,
+            Action::Change(id) => self.change(id, home, keeper)?,
+            Action::Review => self.review(home, keeper)?,
+            Action::Cut(_) => home.end(),
+            Action::Print(id, reason) => self.print(id, reason, reporter)?,
+            Action::Close(id, _) => self.close(id, keeper.term(), reporter)?,
+            Action::Accept(id, door) => self.accept(id, door)?,
+            Action::Answer(id) => self.answer(id)?,
+            Action::Decline(id, reason) => self.decline(id, reason)?,
+            Action::Copy(id) => self.let_copy(id)?,
+            Action::Resolve(id) => self.resolve(id)?,
+            Action::Dial(id) => self.dial(id)?,
+            Action::Part(id) => self.part(id),
+            Action::HangUp(id) => self.hang_up(id),
+            Action::Shut | Action::Exit(_) => {}
         }
-    }
-
-    /// Carries out an action on a connection.
-    fn connect_out(&mut self, action: Action) -> Result<(), Fault> {
-        match action {
-            Action::Accept(id, door) => self.accept(id, door),
-            Action::Answer(id) => self.answer(id),
-            Action::Decline(id, reason) => self.decline(id, reason),
-            Action::Copy(id) => self.let_copy(id),
-            Action::Resolve(id) => self.resolve(id),
-            Action::Dial(id) => self.dial(id),
-            Action::Part(id) => {
-                self.part(id);
-                Ok(())
-            }
-            Action::HangUp(id) => {
-                self.hang_up(id);
-                Ok(())
-            }
-            _ => Ok(()),
-        }
+        Ok(())
     }
 
     /// Closes a connection. The error of a request that has no answer for it is told.
@@ -392,12 +374,14 @@ impl<'a> Shell<'a> {
 
     /// Notes what the sockets have.
     fn heed(&mut self) -> Result<(), Fault> {
-        let mut doors = [false; 3];
+        let mut knocked = [false; DOORS.len()];
         for event in self.watch.events.iter() {
             match source_of(event) {
-                Source::Door(Door::Partners) => doors[0] = true,
-                Source::Door(Door::Commands) => doors[1] = true,
-                Source::Door(_) => doors[2] = true,
+                Source::Door(place) => {
+                    if let Some(knocked) = knocked.get_mut(place) {
+                        *knocked = true;
+                    }
+                }
                 Source::Connection(id) => {
                     if let Some(peer) = peer_in(&mut self.peers, id) {
                         let readiness = &mut peer.readiness;
@@ -408,17 +392,11 @@ impl<'a> Shell<'a> {
                 }
             }
         }
-        self.knock(doors[0], Door::Partners)?;
-        self.knock(doors[1], Door::Commands)?;
-        self.knock(doors[2], Door::Requests)
-    }
-
-    /// Tells the schedule that somebody waits at a door, if that is so.
-    fn knock(&mut self, waits: bool, door: Door) -> Result<(), Fault> {
-        if waits {
-            self.say(Event::Knock(door))
-        } else {
-            Ok(())
+        for (door, knocked) in DOORS.iter().zip(knocked.iter()) {
+            if *knocked {
+                self.say(Event::Knock(*door))?;
+            }
         }
+        Ok(())
     }
 }

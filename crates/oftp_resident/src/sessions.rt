@@ -1,15 +1,14 @@
 //! The sessions of a service, step by step, and their ends.
 
-use crate::answers::answer_of_call;
 use crate::home::Home;
-use crate::judging::{ended_for, farewell_of, result_of, trouble_of};
-use crate::peer::{Came, PIECE, Peer, Reading, Task};
+use crate::peer::{Came, Peer, Reading, Task};
 use crate::service::{Books, Shell, peer_in};
-use oftp_engine::{End, Role, RunFault};
+use oftp_engine::Role;
 use oftp_life::{Life, Stage};
 use oftp_outcomes::{Fault, Trouble, Way, plain};
 use oftp_partners::Book;
 use oftp_register::Office;
+use oftp_requests::{answer_of_call, ended_for, farewell_of, goes_on, result_of, trouble_of};
 use oftp_schedule::connection::{self as schedule, Input, Reason, Signal, Step};
 use oftp_sockets::{Keeper, Reporter};
 use std::alloc::Global;
@@ -33,7 +32,7 @@ impl<'a> Shell<'a> {
             }
             peer.reading = Reading::Session;
             match home.open(rt, keeper) {
-                Ok(()) => peer.begin(rt.alloc(), home, book_for(id, books)),
+                Ok(()) => peer.begin(rt.alloc(), home, books.lent_for(id).unwrap_or(books.own)),
                 Err(trouble) => peer.note(Err(trouble)),
             }
         }
@@ -74,7 +73,7 @@ impl<'a> Shell<'a> {
         let stage = peer.take_said(alloc, home);
         // What fails there is noted.
         let _ = peer.send();
-        if goes_on(&stage) && peer.ended.is_none() {
+        if goes_on(stage) && peer.ended.is_none() {
             let step = peer.step(&stage, heard);
             return self.tell(id, Signal::Waits(step));
         }
@@ -107,10 +106,7 @@ impl<'a> Shell<'a> {
         let Some(peer) = peer_in(&mut self.peers, id) else {
             return;
         };
-        let Some(asker) = peer.asker() else {
-            return;
-        };
-        let Some(ended) = peer.ended else {
+        let (Some(asker), Some(ended)) = (peer.asker(), peer.ended) else {
             return;
         };
         let trace = match peer.trace.take() {
@@ -121,14 +117,6 @@ impl<'a> Shell<'a> {
             let answer = answer_of_call(alloc, trace.as_slice(), &plain(&ended));
             command.answer = Some(answer.unwrap_or(Vec::new(alloc)));
         }
-    }
-}
-
-/// The book of the session of a connection.
-fn book_for<'b>(id: u64, books: Books<'b>) -> &'b Book {
-    match books.lent {
-        Some((call, book)) if call == id => book,
-        _ => books.own,
     }
 }
 
@@ -188,45 +176,16 @@ impl<'a> Peer<'a> {
         if !self.readiness.is_readable {
             return Input::Awaited;
         }
-        let mut piece = [0; PIECE];
-        match self.read(&mut piece) {
-            Came::Octets(count) => self.keep(piece.get(..count).unwrap_or(&[])),
+        match self.take_in() {
+            Came::Octets(_) => Input::Here,
             Came::Nothing => Input::Awaited,
-            Came::End => {
-                self.note(Ok(End::Input));
-                Input::Gone
-            }
-            Came::Lost => {
-                self.note(Err(trouble_of(RunFault::Read)));
-                Input::Gone
-            }
-        }
-    }
-
-    /// Keeps a piece until it is heard.
-    fn keep(&mut self, piece: &[u8]) -> Input {
-        if let Some(trace) = &mut self.trace {
-            trace.heard(piece);
-        }
-        match self.heard.extend_from_slice(piece) {
-            Ok(()) => Input::Here,
-            Err(_) => {
-                self.note(Err(trouble_of(RunFault::Memory)));
-                Input::Gone
-            }
-        }
-    }
-
-    /// Notes that it ended for this reason, unless it ended before.
-    fn settle_end(&mut self, reason: Reason) {
-        if self.ended.is_none() {
-            self.ended = Some(ended_for(reason));
+            Came::End | Came::Lost => Input::Gone,
         }
     }
 
     /// Reports its end, and appends that to its trace.
     fn report(&mut self, reason: Reason, reporter: &mut impl Reporter) -> Result<(), Fault> {
-        self.settle_end(reason);
+        self.note(ended_for(reason));
         let Some(ended) = self.ended else {
             return Ok(());
         };
@@ -237,27 +196,10 @@ impl<'a> Peer<'a> {
             Some(code) => Some(code.as_str()),
             None => None,
         };
-        reporter.report(code, self.way(), ended)
-    }
-
-    /// Which side called.
-    fn way(&self) -> Way {
-        match &self.task {
+        let way = match self.task {
             Task::Call(_) => Way::Out,
             _ => Way::In,
-        }
+        };
+        reporter.report(code, way, ended)
     }
-
-    /// The command that wanted this call.
-    fn asker(&self) -> Option<u64> {
-        match &self.task {
-            Task::Call(call) => call.asker,
-            _ => None,
-        }
-    }
-}
-
-/// Whether a session goes on.
-fn goes_on(stage: &Option<Stage>) -> bool {
-    matches!(stage, Some(Stage::Waits | Stage::Sends))
 }

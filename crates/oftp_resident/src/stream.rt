@@ -1,92 +1,89 @@
 //! The sockets of connections. None of them blocks.
 
-use mio::net::TcpStream as Dialed;
 use std::io::{self, ErrorKind, Read, Write};
 use std::net::{IpAddr, Shutdown, TcpStream};
-use std::os::fd::{AsRawFd, RawFd};
+use std::os::fd::{AsRawFd, OwnedFd, RawFd};
 use std::os::unix::net::UnixStream;
 
-/// The socket of a connection.
+/// The socket of a connection, if it has one. The system's calls are the same for each kind of stream, so a command's socket is held as one of
+/// the internet.
 #[derive(Drop)]
-pub(crate) enum Stream {
-    /// There is none: a call that isn't connected.
-    Absent,
-    /// A partner's or an HTTP client's.
-    Internet(TcpStream),
-    /// A command's.
-    Local(UnixStream),
-    /// A call's that is being connected.
-    Dialing(Dialed),
+pub(crate) struct Stream {
+    socket: Option<TcpStream>,
 }
 
 impl Stream {
-    /// Lets its calls return at once, and what is written leave at once.
-    pub(crate) fn prepare(&self) -> io::Result<()> {
-        match self {
-            Stream::Internet(stream) => {
-                stream.set_nonblocking(true)?;
-                stream.set_nodelay(true)
-            }
-            Stream::Local(stream) => stream.set_nonblocking(true),
-            Stream::Absent | Stream::Dialing(_) => Ok(()),
+    /// None: that of a call which isn't connected.
+    pub(crate) fn absent() -> Stream {
+        Stream { socket: None }
+    }
+
+    /// A partner's or an HTTP client's.
+    pub(crate) fn internet(socket: TcpStream) -> Stream {
+        Stream {
+            socket: Some(socket),
         }
+    }
+
+    /// A command's.
+    pub(crate) fn local(socket: UnixStream) -> Stream {
+        Stream::internet(TcpStream::from(OwnedFd::from(socket)))
+    }
+
+    fn socket(&self) -> io::Result<&TcpStream> {
+        match &self.socket {
+            Some(socket) => Ok(socket),
+            None => Err(io::Error::from(ErrorKind::WouldBlock)),
+        }
+    }
+
+    /// Lets its calls return at once.
+    pub(crate) fn set_nonblocking(&self) -> io::Result<()> {
+        self.socket()?.set_nonblocking(true)
+    }
+
+    /// Lets what is written leave at once.
+    pub(crate) fn set_nodelay(&self) -> io::Result<()> {
+        self.socket()?.set_nodelay(true)
     }
 
     pub(crate) fn read(&self, piece: &mut [u8]) -> io::Result<usize> {
-        match self {
-            Stream::Internet(stream) => {
-                let mut stream = stream;
-                stream.read(piece)
-            }
-            Stream::Local(stream) => {
-                let mut stream = stream;
-                stream.read(piece)
-            }
-            Stream::Absent | Stream::Dialing(_) => Err(io::Error::from(ErrorKind::WouldBlock)),
-        }
+        let mut socket = self.socket()?;
+        socket.read(piece)
     }
 
     pub(crate) fn write(&self, piece: &[u8]) -> io::Result<usize> {
-        match self {
-            Stream::Internet(stream) => {
-                let mut stream = stream;
-                stream.write(piece)
-            }
-            Stream::Local(stream) => {
-                let mut stream = stream;
-                stream.write(piece)
-            }
-            Stream::Absent | Stream::Dialing(_) => Err(io::Error::from(ErrorKind::WouldBlock)),
-        }
+        let mut socket = self.socket()?;
+        socket.write(piece)
     }
 
     /// Ends the station's direction.
     pub(crate) fn end_writing(&self) -> io::Result<()> {
-        match self {
-            Stream::Internet(stream) => stream.shutdown(Shutdown::Write),
-            Stream::Local(stream) => stream.shutdown(Shutdown::Write),
-            Stream::Absent | Stream::Dialing(_) => Ok(()),
+        self.socket()?.shutdown(Shutdown::Write)
+    }
+
+    /// Whether it is connected.
+    ///
+    /// # Errors
+    /// Why it can't be.
+    pub(crate) fn is_connected(&self) -> io::Result<bool> {
+        let socket = self.socket()?;
+        match socket.take_error()? {
+            Some(error) => Err(error),
+            None => Ok(socket.peer_addr().is_ok()),
         }
     }
 
     /// The machine's address that was called.
     pub(crate) fn called_address(&self) -> Option<IpAddr> {
-        match self {
-            Stream::Internet(stream) => match stream.local_addr() {
-                Ok(address) => Some(address.ip()),
-                Err(_) => None,
-            },
-            _ => None,
+        match self.socket().ok()?.local_addr() {
+            Ok(address) => Some(address.ip()),
+            Err(_) => None,
         }
     }
 
-    /// Its descriptor, if there is one.
-    pub(crate) fn descriptor(&self) -> Option<RawFd> {
-        match self {
-            Stream::Internet(stream) => Some(stream.as_raw_fd()),
-            Stream::Local(stream) => Some(stream.as_raw_fd()),
-            Stream::Dialing(stream) => Some(stream.as_raw_fd()),
-            Stream::Absent => None,
-        }
+    /// Its descriptor.
+    pub(crate) fn descriptor(&self) -> io::Result<RawFd> {
+        Ok(self.socket()?.as_raw_fd())
     }
 }

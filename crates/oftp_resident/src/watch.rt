@@ -5,19 +5,19 @@ use mio::unix::SourceFd;
 use mio::{Events, Interest, Poll, Token};
 use oftp_schedule::connection::Door;
 use std::io;
-use std::os::fd::{AsRawFd, RawFd};
+use std::os::fd::RawFd;
 use std::time::Duration;
 
 /// How many changes a wait reports, at most. The next wait reports the others.
 const MOST_EVENTS: usize = 256;
 
-/// The tokens below this one are those of the doors.
-const DOORS: u64 = 3;
+/// The doors. The token of each is its place here, and those of connections come after them.
+pub(crate) const DOORS: [Door; 3] = [Door::Partners, Door::Commands, Door::Requests];
 
-/// What a change is of.
+/// What a change is of: the door at a place, or the connection with a number.
 #[derive(Clone, Copy)]
 pub(crate) enum Source {
-    Door(Door),
+    Door(usize),
     Connection(u64),
 }
 
@@ -37,21 +37,16 @@ impl Watch {
         })
     }
 
-    /// Watches a door.
-    pub(crate) fn add_door<S: AsRawFd>(&self, door: Door, listener: &S) -> io::Result<()> {
-        self.register(token_of(door), listener.as_raw_fd())
-    }
-
-    /// Watches the socket of the connection with this number. Its changes are reported (edge-triggered), and its state once at first.
-    pub(crate) fn add(&self, id: u64, descriptor: RawFd) -> io::Result<()> {
-        self.register(id.saturating_add(DOORS), descriptor)
-    }
-
-    fn register(&self, token: u64, descriptor: RawFd) -> io::Result<()> {
+    /// Watches a socket. Its changes are reported (edge-triggered), and its state once at first.
+    pub(crate) fn add(&self, source: Source, descriptor: RawFd) -> io::Result<()> {
+        let token = match source {
+            Source::Door(place) => place,
+            Source::Connection(id) => (id as usize).saturating_add(DOORS.len()),
+        };
         let changes = Interest::READABLE | Interest::WRITABLE;
         self.poll
             .registry()
-            .register(&mut SourceFd(&descriptor), Token(token as usize), changes)
+            .register(&mut SourceFd(&descriptor), Token(token), changes)
     }
 
     /// Waits until a socket changes, a signal comes, or the time is over. Without a limit the time never is.
@@ -60,21 +55,11 @@ impl Watch {
     }
 }
 
-fn token_of(door: Door) -> u64 {
-    match door {
-        Door::Partners | Door::Calls => 0,
-        Door::Commands => 1,
-        Door::Requests => 2,
-    }
-}
-
 /// What a change is of.
 pub(crate) fn source_of(event: &Event) -> Source {
     let Token(token) = event.token();
-    match token as u64 {
-        0 => Source::Door(Door::Partners),
-        1 => Source::Door(Door::Commands),
-        2 => Source::Door(Door::Requests),
-        other => Source::Connection(other.saturating_sub(DOORS)),
+    match token.checked_sub(DOORS.len()) {
+        Some(id) => Source::Connection(id as u64),
+        None => Source::Door(token),
     }
 }

@@ -11,4 +11,5 @@ mod receiving;
 mod replying;
 mod rules;
 pub mod schedule;
+pub mod sizes;
 mod table;

@@ -10,5 +10,5 @@ mod talking;
 pub use addresses::{bound, is_short, passes, socket_fault};
 pub use place::SocketPlace;
 pub use ports::ports_of;
-pub use station::{Keeper, Reporter, Station, Term, patience_of};
+pub use station::{Keeper, Reporter, Station};
 pub use talking::run_session;

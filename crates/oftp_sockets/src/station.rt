@@ -2,38 +2,20 @@
 
 use oftp_engine::End;
 use oftp_files::Trace;
-use oftp_outcomes::{Fault, Trouble, Way};
+use oftp_outcomes::{Fault, Term, Trouble, Way};
 use oftp_partners::Book;
-use std::time::Duration;
 
 /// The settings of sessions.
 #[derive(Clone, Copy)]
 pub struct Station<'a> {
     /// The book with the partners.
     pub book: &'a Book,
-    /// How long a partner may be idle before its session is given up. `None` is no limit.
-    pub patience: Option<Duration>,
-    /// How long a session may take in all.
-    pub longest: Duration,
+    /// How many seconds a partner may be idle before its session is given up. 0 is no limit.
+    pub patience: u64,
+    /// How many seconds a session may take in all.
+    pub longest: u64,
     /// The trace of the connections, if there is one.
     pub trace: Option<&'a Trace<'a>>,
-}
-
-/// How long a partner may be idle, from a number of seconds. `None` is no limit, for which 0 seconds stand.
-pub fn patience_of(seconds: u64) -> Option<Duration> {
-    match seconds {
-        0 => None,
-        _ => Some(Duration::from_secs(seconds)),
-    }
-}
-
-/// How long a life lasts.
-#[derive(Clone, Copy)]
-pub enum Term {
-    /// As long as the service.
-    OfService,
-    /// For one job.
-    OfJob,
 }
 
 /// Who has the life of a service between its jobs.

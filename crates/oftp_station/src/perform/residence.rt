@@ -7,12 +7,12 @@ use oftp_files::read_book_octets;
 use oftp_life::Life;
 use oftp_listing::Site;
 use oftp_outcomes::Fault;
-use oftp_resident::{Bench, Kept, SessionLines, Start, codes_of, serve};
+use oftp_requests::codes_of;
+use oftp_resident::{Bench, Kept, SessionLines, Start, serve};
 use oftp_schedule::connection::Counted;
 use oftp_sockets::{SocketPlace, Station, bound, socket_fault};
 use std::alloc::Global;
 use std::io::Write;
-use std::time::Duration;
 
 /// For how many seconds a call is connected at most: the system has sent four SYNs by then.
 const DIALING: u64 = 15;
@@ -69,9 +69,9 @@ fn run_over(
         site: Site::Page(host),
         places: u64::MAX,
         admission: admission_of(&line.entrance, &line.terms),
-        dialing: Duration::from_secs(DIALING),
+        dialing: DIALING,
         codes: codes.as_slice(),
-        interval: Duration::from_secs(line.interval),
+        interval: line.interval,
         start: Start::Waiting,
         counted: Counted::Jobs,
         jobs: line.jobs,

@@ -8,6 +8,9 @@ use oftp_engine::{End, Port};
 use oftp_outcomes::{Fault, Outcome};
 use std::alloc::Global;
 
+/// The message that lets a command copy the database's files.
+const COPY: &[u8] = b"copy";
+
 /// The octets of an answer.
 #[derive(Drop)]
 struct Answer {
@@ -80,7 +83,7 @@ impl Answer {
 }
 
 /// The answer with this content and this end. `None` if memory runs out.
-pub(crate) fn answer_of(alloc: Global, content: &[u8], ending: Ending) -> Option<Vec<u8>>
+pub fn answer_of(alloc: Global, content: &[u8], ending: Ending) -> Option<Vec<u8>>
     ensures { IfSome result (λ octets. (front : List ℕ) × (octets.items ≡ front ++ spelled_end ending)) }
 {
     let mut answer = Answer {
@@ -94,14 +97,25 @@ pub(crate) fn answer_of(alloc: Global, content: &[u8], ending: Ending) -> Option
 }
 
 /// The answer to a command that called a partner: the lines for its trace, and the end of the session. `None` if memory runs out.
-pub(crate) fn answer_of_call(
-    alloc: Global,
-    trace: &[u8],
-    ended: &Result<End, Fault>,
-) -> Option<Vec<u8>> {
+pub fn answer_of_call(alloc: Global, trace: &[u8], ended: &Result<End, Fault>) -> Option<Vec<u8>> {
     let ending = match ended {
         Ok(end) => Ending::Outcome(Outcome::Ended(*end)),
         Err(fault) => Ending::Failed(*fault),
     };
     answer_of(alloc, trace, ending)
+}
+
+/// The answer of nothing but its end. It is empty if there is no memory for it.
+pub fn bare_answer(alloc: Global, ending: Ending) -> Vec<u8> {
+    answer_of(alloc, &[], ending).unwrap_or(Vec::new(alloc))
+}
+
+/// What lets a command copy the database's files, before the end of its answer. `None` if memory runs out.
+pub fn copy_let(alloc: Global) -> Option<Vec<u8>> {
+    let mut answer = Answer {
+        alloc,
+        octets: Vec::new(alloc),
+    };
+    answer.add(COPY).ok()?;
+    Some(answer.octets)
 }

@@ -1,16 +1,15 @@
 //! What a request asks of the schedule, how a session ended, and what becomes of an error.
 
 ghost use Rattle.std.specs.Prelude.{◌≡◌};
-ghost use Rattle.oftp_resident.specs.Judged.{asking_of, closing_of, declined, ended_for, farewell_of, office_after, office_within, result_at, result_of, trouble_of, trouble_within};
+ghost use Rattle.oftp_requests.specs.Judged.{asking_of, closing_of, declined, ended_for, farewell_of, goes_on, office_after, office_within, result_at, result_of, signal_of, trouble_of, trouble_within};
 
 use oftp_channel::{Ending as Answered, Request};
 use oftp_engine::{End, RunFault};
 use oftp_life::Stage;
 use oftp_listing::OfficeState;
-use oftp_outcomes::{Fault, Trouble};
-use oftp_schedule::connection::{self as schedule, Reason, Status};
+use oftp_outcomes::{Fault, Term, Trouble};
+use oftp_schedule::connection::{self as schedule, Partner, Reason, Signal, Status};
 use oftp_session::Ending;
-use oftp_sockets::Term;
 
 /// What a request asks of the schedule.
 #[derive(Clone, Copy)]
@@ -35,8 +34,20 @@ pub(crate) fn asking_of(request: &Request<'_>) -> Asking
     }
 }
 
+/// What the schedule is told of a request that asks for this, and whose call would be one of this partner. A call that can't be made is a
+/// look-up, whose answer says why.
+pub(crate) fn signal_of(asking: Asking, partner: Option<Partner>) -> Signal
+    ensures { result ≡ signal_of asking partner }
+{
+    match (asking, partner) {
+        (Asking::For(kind), _) => Signal::Asked(kind),
+        (Asking::Call, Some(partner)) => Signal::Wants(partner),
+        (Asking::Call, None) => Signal::Asked(schedule::Request::Query),
+    }
+}
+
 /// The error of a request that isn't done for this reason.
-pub(crate) fn declined(reason: Reason) -> Fault
+pub fn declined(reason: Reason) -> Fault
     ensures { result ≡ declined reason }
 {
     match reason {
@@ -46,7 +57,7 @@ pub(crate) fn declined(reason: Reason) -> Fault
 }
 
 /// An error of a session: of that session alone, or of the service.
-pub(crate) fn trouble_of(fault: RunFault) -> Trouble
+pub fn trouble_of(fault: RunFault) -> Trouble
     ensures { result ≡ trouble_of fault }
 {
     match fault {
@@ -65,8 +76,15 @@ fn trouble_within(fault: RunFault) -> Trouble
     }
 }
 
+/// Whether a session goes on that stands like this.
+pub fn goes_on(stage: Option<Stage>) -> bool
+    ensures { result ≡ goes_on stage }
+{
+    matches!(stage, Some(Stage::Waits | Stage::Sends))
+}
+
 /// How a session ended that stands like this, or was cut off while it waited.
-pub(crate) fn result_of(stage: Option<Stage>) -> Result<End, Trouble>
+pub fn result_of(stage: Option<Stage>) -> Result<End, Trouble>
     ensures { result ≡ result_of stage }
 {
     match stage {
@@ -78,7 +96,7 @@ pub(crate) fn result_of(stage: Option<Stage>) -> Result<End, Trouble>
 }
 
 /// Whether the last words of a session that stands like this are still to go out.
-pub(crate) fn farewell_of(stage: Option<Stage>) -> schedule::End
+pub fn farewell_of(stage: Option<Stage>) -> schedule::End
     ensures { result ≡ farewell_of stage }
 {
     match stage {
@@ -90,7 +108,7 @@ pub(crate) fn farewell_of(stage: Option<Stage>) -> schedule::End
 }
 
 /// How a session ended that was cut off for this reason, or was never begun.
-pub(crate) fn ended_for(reason: Reason) -> Result<End, Trouble>
+pub fn ended_for(reason: Reason) -> Result<End, Trouble>
     ensures { result ≡ ended_for reason }
 {
     match reason {
@@ -107,7 +125,7 @@ pub(crate) fn ended_for(reason: Reason) -> Result<End, Trouble>
 
 /// What becomes of the error of a request that has no answer for it.
 #[derive(Clone, Copy)]
-pub(crate) enum Closing {
+pub enum Closing {
     /// There is none, or the service ends with it already.
     Nothing,
     /// It is told, and the service goes on.
@@ -117,7 +135,7 @@ pub(crate) enum Closing {
 }
 
 /// What becomes of the error of a request that has no answer for it, where a life lasts so long.
-pub(crate) fn closing_of(trouble: Option<Trouble>, term: Term) -> Closing
+pub fn closing_of(trouble: Option<Trouble>, term: Term) -> Closing
     ensures { result ≡ closing_of trouble term }
 {
     match (trouble, term) {
@@ -140,7 +158,7 @@ pub(crate) fn office_after(ending: &Answered) -> OfficeState
 
 /// Whether the service's office failed, where a life lasts so long and the office of a look-up was so: what fails with a job is no matter of
 /// the service.
-pub(crate) fn office_within(term: Term, office: OfficeState) -> OfficeState
+pub fn office_within(term: Term, office: OfficeState) -> OfficeState
     ensures { result ≡ office_within term office }
 {
     match term {
@@ -150,7 +168,7 @@ pub(crate) fn office_within(term: Term, office: OfficeState) -> OfficeState
 }
 
 /// The error of a service that ended like this, if it is one: that with which it ended, or that of its door or its office.
-pub(crate) fn result_at(fault: Option<Fault>, status: Status) -> Option<Fault>
+pub fn result_at(fault: Option<Fault>, status: Status) -> Option<Fault>
     ensures { result ≡ result_at fault status }
 {
     match (fault, status) {

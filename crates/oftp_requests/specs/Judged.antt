@@ -17,20 +17,23 @@ use Rattle.oftp_outcomes.specs.declared.outcome.Fault.{Fault}
 use Rattle.oftp_outcomes.specs.declared.outcome.Fault.TheVariants as fault
 use Rattle.oftp_outcomes.specs.declared.service.Trouble.{Trouble}
 use Rattle.oftp_outcomes.specs.declared.service.Trouble.TheVariants.{OfJob, OfService}
-use Rattle.oftp_resident.specs.declared.judging.Asking.{Asking}
-use Rattle.oftp_resident.specs.declared.judging.Asking.TheVariants as asking
-use Rattle.oftp_resident.specs.declared.judging.Closing.{Closing}
-use Rattle.oftp_resident.specs.declared.judging.Closing.TheVariants as closing
+use Rattle.oftp_requests.specs.declared.judging.Asking.{Asking}
+use Rattle.oftp_requests.specs.declared.judging.Asking.TheVariants as asking
+use Rattle.oftp_requests.specs.declared.judging.Closing.{Closing}
+use Rattle.oftp_requests.specs.declared.judging.Closing.TheVariants as closing
 use Rattle.oftp_schedule.specs.declared.connection.End.{End as Farewell}
 use Rattle.oftp_schedule.specs.declared.connection.End.TheVariants as farewell
+use Rattle.oftp_schedule.specs.declared.connection.Partner.{Partner}
 use Rattle.oftp_schedule.specs.declared.connection.Reason.{Reason}
 use Rattle.oftp_schedule.specs.declared.connection.Reason.TheVariants as reason
 use Rattle.oftp_schedule.specs.declared.connection.Request.TheVariants as wanted
+use Rattle.oftp_schedule.specs.declared.connection.Signal.{Signal}
+use Rattle.oftp_schedule.specs.declared.connection.Signal.TheVariants as signal
 use Rattle.oftp_schedule.specs.declared.connection.Status.{Status}
 use Rattle.oftp_schedule.specs.declared.connection.Status.TheVariants as status
 use Rattle.oftp_session.specs.declared.session.Ending.TheVariants as ending
-use Rattle.oftp_sockets.specs.declared.station.Term.{Term}
-use Rattle.oftp_sockets.specs.declared.station.Term.TheVariants as term
+use Rattle.oftp_outcomes.specs.declared.service.Term.{Term}
+use Rattle.oftp_outcomes.specs.declared.service.Term.TheVariants as term
 
 -- what a request asks of the schedule: an operator's call is a change, and each other one that calls nobody a look-up or a copy
 abbrev pub asking_of : Request → Asking
@@ -43,6 +46,12 @@ asking_of (request.Fetch n) = asking.For wanted.Query
 asking_of (request.Holds n content) = asking.For wanted.Query
 asking_of request.Backup = asking.For wanted.Backup
 asking_of request.Init = asking.For wanted.Query
+
+-- what the schedule is told of a request that asks for this, and whose call would be one of this partner: a call that can't be made is a look-up
+abbrev pub signal_of : Asking → Option Partner → Signal
+signal_of (asking.For kind) partner = signal.Asked kind
+signal_of asking.Call (Some partner) = signal.Wants partner
+signal_of asking.Call None = signal.Asked wanted.Query
 
 -- the error of a request that isn't done for this reason
 abbrev pub declined : Reason → Fault
@@ -62,6 +71,15 @@ trouble_within run.Write = trouble_of run.Memory
 trouble_within run.Read = trouble_of run.Read
 trouble_within run.Office = trouble_of run.Office
 trouble_within run.Memory = trouble_of run.Memory
+
+-- a session goes on that stands like this
+abbrev pub goes_on : Option Stage → Bool
+goes_on None = false
+goes_on (Some stage.Waits) = true
+goes_on (Some stage.Sends) = true
+goes_on (Some (stage.Ended it)) = false
+goes_on (Some (stage.Failed it)) = false
+goes_on (Some stage.Lost) = false
 
 -- how a session ended that stands like this, or was cut off while it waited
 abbrev pub result_of : Option Stage → Result End Trouble

@@ -1,7 +1,7 @@
 //! The page for people, the text of page.html: written by `checks/lint/page.py --write`.
 
 /// What a request for `/` is answered with: one text of HTML, in which all is that it needs.
-pub(crate) const PAGE: &str = r###"<!doctype html>
+pub const PAGE: &str = r###"<!doctype html>
 <html lang="en">
 <head>
 <meta charset="utf-8">

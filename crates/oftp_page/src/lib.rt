@@ -1,0 +1,6 @@
+//! The page for people.
+#![tactic(auto)]
+
+mod page;
+
+pub use page::PAGE;

@@ -1,0 +1,74 @@
+//! What is made for whoever asked, and whether the office failed meanwhile.
+
+use crate::answers::answer_of;
+use crate::judging::office_after;
+use oftp_channel::Ending;
+use oftp_listing::{ListFault, OfficeState, Reply, Site, reply_of_any, stopping_reply};
+use oftp_outcomes::{Fault, Trouble};
+use std::alloc::Global;
+
+/// The answer to a request, and whether the office failed while it was made.
+#[derive(Drop)]
+pub struct Made {
+    /// Its octets; none if there was no memory for them.
+    pub octets: Vec<u8>,
+    pub office: OfficeState,
+}
+
+impl Made {
+    /// No answer: the connection is closed.
+    pub fn nothing(alloc: Global) -> Made {
+        Made {
+            octets: Vec::new(alloc),
+            office: OfficeState::Working,
+        }
+    }
+
+    /// The answer to a command with this content and this end, or this error. What was written to memory fails only where memory runs out.
+    pub(crate) fn of(alloc: Global, content: &[u8], ending: Result<Ending, Fault>) -> Made {
+        let ending = match ending {
+            Ok(ending) => ending,
+            Err(fault) => Ending::Failed(fault.in_memory()),
+        };
+        let office = office_after(&ending);
+        Made {
+            octets: answer_of(alloc, content, ending).unwrap_or(Vec::new(alloc)),
+            office,
+        }
+    }
+
+    /// The answer over HTTP: this reply. One that couldn't be made is none, and its error is returned beside it.
+    pub fn of_reply(alloc: Global, reply: Result<Reply, ListFault>) -> (Made, Option<Trouble>) {
+        let fault = match reply {
+            Ok(reply) => {
+                let office = reply.office();
+                let octets = reply.into_octets();
+                return (Made { octets, office }, None);
+            }
+            Err(fault) => Fault::from(fault).in_memory(),
+        };
+        let octets = Vec::new(alloc);
+        let office = office_after(&Ending::Failed(fault));
+        (Made { octets, office }, Some(Trouble::OfService(fault)))
+    }
+
+    /// The answer to a request over HTTP whatever the register has, if it is such a request. A site with the page looks further.
+    pub fn of_any(alloc: Global, site: Site<'_>, request: &[u8]) -> Option<Made> {
+        match site {
+            Site::Register => {
+                let reply = reply_of_any(alloc, request).ok()??;
+                let (made, _) = Made::of_reply(alloc, Ok(reply));
+                Some(made)
+            }
+            Site::Page(_) => None,
+        }
+    }
+}
+
+/// The octets of the reply over HTTP to a request that isn't answered, since the station ends; none if there is no memory for them.
+pub fn stopping(alloc: Global) -> Vec<u8> {
+    match stopping_reply(alloc) {
+        Ok(reply) => reply.into_octets(),
+        Err(_) => Vec::new(alloc),
+    }
+}
