@@ -58,7 +58,6 @@ else_yields s = record {
   finish = λ st y. cc;
   admit = λ d y. cc;
   inspect = λ y. cc;
-  start = λ id x y. cc;
   proceed = λ id x y. cc;
   consult = λ id y. cc;
   perform = λ id y. cc;
@@ -101,7 +100,7 @@ way_yields s = by_session (find (in_phase is_between_phase) s.connections) refl
 
 choice_yields : (s : State) → Yields s (choice s)
 choice_yields s =
-    settled_choice (Yields s) (else_yields s) s
+    settled_choice (Yields s) (else_yields s) (λ id x y. cc) s
     (no_yield s (expiry s) (else_any (λ c. Settle c.id (late s.now (limits_now s) c.door c.phase)) (find (is_late s.now) s.connections) (λ c. late_else c.id s.now (limits_now s) c.door c.phase)))
     (dismissed_holds (Yields s) (else_yields s) s s.course (λ id p y. cc) (λ id y. cc) (λ id y. cc))
     (no_yield s (orphaned s) (else_any (λ c. Settle c.id (Leave Orphaned)) (find (is_orphan s.connections) s.connections) (λ c. refl)))
