@@ -40,14 +40,16 @@ use Rattle.oftp_schedule.specs.declared.connection.Connection.{Connection}
 use Rattle.oftp_schedule.specs.declared.connection.Limits.{Limits}
 use Rattle.oftp_schedule.specs.Rules.{heard_on, after_step, at_end, answered, answered_whole, went, rule, is_late, late, hurried_phase, hurried, is_arriving_phase, is_between_phase, is_guest_phase, is_connected_phase, in_phase, is_ripe, is_at, call_of, call_in, call_at, is_clock, is_by_clock, calls, has_line, line, leaves_line, orders, ends_session, has_id, is_other, connection_at, phase_at, became, owed_phase, owed, shared_phase, shared, is_orphan, is_to_tell}
 use Rattle.oftp_schedule.specs.Machine.{State, Turn, with_connections, limits_now, new_call, at_door, edited, after_session, replied, in_numbers, replied_at, places, gate, with_gate, knocked, first_phase, makes_room, evicted, came, accepted, accepted_at, with_call, due_to, reviewed, received, guest_session, called_session, call_session, new_session, choice_of, is_to_yield, yielded, yield_to, yield_for, choice, welcomed, chosen, start, Move, step, run, Tell, Ask}
-use Rattle.oftp_schedule.specs.Apart.{how_many}
+use Rattle.oftp_schedule.specs.Apart.{one_if, how_many}
 use Rattle.oftp_schedule.specs.History.{Note, Heard, Ordered, shown, history}
 use Rattle.oftp_schedule.specs.Life.{is_about, is_ordered}
 use Rattle.oftp_schedule.specs.Deadlines.{HasOneLess, IsOnceLess}
 use Rattle.oftp_schedule.specs.Calls.{is_clocks_call, HasOneEach, call_of_number, hangs_up, hang_ups, IsSameCall, KeepsCalls}
 use Rattle.oftp_schedule.proofs.Numbers.{Distinct, Distinct-map, same, differs, known, found, at_number}
 use Rattle.oftp_schedule.proofs.Places.{absent, map_found, mapped, became_here, became_elsewhere, moved_here, removed, removed_elsewhere, or_at_end, pushed_at, pushed_elsewhere, unborn_at, phase_of, phase_found, found_at}
-use Rattle.oftp_schedule.proofs.Fitting.{IsDistinct, step_distinct, settles, Settles, ChoiceFits, choice_fits}
+use Rattle.oftp_schedule.proofs.Fitting.{IsDistinct, step_distinct, settles, Settles, ChoiceFits, choice_fits, run_distinct}
+use Rattle.oftp_schedule.proofs.Counting.{none_found}
+use Rattle.oftp_schedule.proofs.Within.{step_limits}
 use Rattle.oftp_schedule.proofs.Settled.{HoldsElse, of_any, begun_choice, dismissed_holds}
 use Rattle.oftp_schedule.proofs.Timely.{choice_less}
 
@@ -573,7 +575,7 @@ chosen_moves id s c o f l b = cases c f l b
     cases (Proceed i x) f l b =
         moves_goes id s (chosen s (Proceed i x)).0 (Hear i ∷ []) (silent id (Hear i) refl) (omega arith)
         (set i (Stepping x) (λ c e. let is : Some c.phase ≡ Some (Between x) = sym (there i c e) ∙ f in
-        let q : call_in c.phase ≡ call_of x.way = ap call_in (cc) in subst (Goes 0 (call_in c.phase)) q (goes_on (call_in c.phase))))
+        let q : c.phase ≡ Between x = cc in subst (Goes 0 (call_in c.phase)) (ap call_in q) (goes_on (call_in c.phase))))
     cases (Consult i) f l b =
         moves_goes id s (chosen s (Consult i)).0 (Look i ∷ []) (silent id (Look i) refl) (omega arith)
         (subst (Goes 0 (At id s.connections)) (sym (edited_at (shared s.limits.share) (λ _. refl) (λ c. shared_call s.limits.share c.phase) id (map (became i (Served Query)) s.connections)))
@@ -586,9 +588,211 @@ chosen_moves id s c o f l b = cases c f l b
     cases (Seek i k) f l b =
         moves_goes id s (chosen s (Seek i k)).0 (Resolve i ∷ []) (silent id (Resolve i) refl) (omega arith)
         (set i (Resolving k) (λ c e. let is : Some c.phase ≡ Some (Wanted k) = sym (there i c e) ∙ f in
-        let q : call_in c.phase ≡ Some k = ap call_in (cc) in subst (Goes 0 (call_in c.phase)) q (goes_on (call_in c.phase))))
+        let q : c.phase ≡ Wanted k = cc in subst (Goes 0 (call_in c.phase)) (ap call_in q) (goes_on (call_in c.phase))))
     cases (Depart st) f l b = moves_or_new id s (chosen s (Depart st)).0 (Exit st ∷ []) (silent id (Exit st) refl) (omega arith) (inl refl)
 
-pub step_moves : (id : ℕ) (s : State) (m : Move) → IsDistinct s → Moves id s (step s m)
+step_moves : (id : ℕ) (s : State) (m : Move) → IsDistinct s → Moves id s (step s m)
 step_moves id s (Tell e) o = received_moves id s e o
 step_moves id s Ask o = chosen_moves id s (choice s) o (choice_fits s o) (choice_less s o) (choice_starts s o)
+
+-- 7. Over every list of moves
+
+-- what a move tells and orders, and what comes after it
+history_hung : (id : ℕ) (s : State) (m : Move) (ms : List Move) → hang_ups id (history s (m ∷ ms)) ≡ hung id (step s m).1 + hang_ups id (history (step s m).0 ms)
+history_hung id s m ms = by m
+  where
+    one : Note → ℕ
+    one n = cond (is_ordered hangs_up id n) 1 0
+
+    by : (m : Move) → hang_ups id (history s (m ∷ ms)) ≡ hung id (step s m).1 + hang_ups id (history (step s m).0 ms)
+    by (Tell e) =
+        let t = received s e in
+        let told = sum_by-cons one (Heard e) (map Ordered t.1 ++ history t.0 ms) in
+        let both = sum_by-append one (map Ordered t.1) (history t.0 ms) in
+        omega (arith, told, both)
+    by Ask = let t = chosen s (choice s) in sum_by-append one (map Ordered t.1) (history t.0 ms)
+
+-- a number that was given stays so
+stays_known : (id : ℕ) (s t : State) → s.next ≤ t.next → nat_lt id s.next ≡ true → nat_lt id t.next ≡ true
+stays_known id s t le k = grind (arith, nat_tests, le, k)
+
+-- the call of a number that was given goes on, or ends
+goes : (id : ℕ) (s : State) (ms : List Move) → IsDistinct s → nat_lt id s.next ≡ true → Goes (hang_ups id (history s ms)) (At id s.connections) (At id (run s ms).connections)
+goes id s [] o k = goes_on (At id s.connections)
+goes id s (m ∷ ms) o k = by (λ j. goes id (step s m).0 ms (step_distinct s m o) j) (step_moves id s m o)
+  where
+    t : State
+    t = (step s m).0
+
+    by : (nat_lt id t.next ≡ true → Goes (hang_ups id (history t ms)) (At id t.connections) (At id (run t ms).connections)) → Moves id s (step s m)
+        → Goes (hang_ups id (history s (m ∷ ms))) (At id s.connections) (At id (run t ms).connections)
+    by rest (le, inl g) =
+        subst (λ (j : ℕ). Goes j (At id s.connections) (At id (run t ms).connections)) (sym (history_hung id s m ms))
+        (join (hung id (step s m).1) (hang_ups id (history t ms)) (At id s.connections) (At id t.connections) (At id (run t ms).connections) g
+        (rest (stays_known id s t le k)))
+    by rest (le, inr f) = let e = f.0 in let bad : nat_lt id id ≡ true = subst (λ (j : ℕ). nat_lt id j ≡ true) e k in absurd (never bad)
+      where
+        never : nat_lt id id ≡ true → ⊥
+        never h = let n : nat_lt id id ≡ false = grind (arith, nat_tests) in let bad : true ≡ false = sym h ∙ n in cc
+
+pub keeps_calls : (s : State) (during : List Move) → IsDistinct s → KeepsCalls s during
+keeps_calls s during o id c d e f =
+    subst (λ (a : Option Call). Goes (hang_ups id (history s during)) a (Some d)) e
+    (subst (Goes (hang_ups id (history s during)) (At id s.connections)) f (goes id s during o (given (connection_at id s.connections) refl)))
+  where
+    given : (at : Option Connection) → connection_at id s.connections ≡ at → nat_lt id s.next ≡ true
+    given (Some k) q = known id s.next s.connections k.phase (at_number id s.connections k q).1 o
+    given None q = let bad : None ≡ Some c = sym (ap call_at q) ∙ e in cc
+
+-- how often it hung up, and may do so still
+abbrev pub Left : ℕ → ℕ → Option Call → Type 0
+Left most k None = k ≤ most
+Left most k (Some c) = k + c.times ≡ most
+
+-- nobody hung up whose number wasn't given
+abbrev Counts : ℕ → ℕ → ℕ → State → Type 0
+Counts most id k s = (nat_lt id s.next ≡ false → k ≡ 0) × Left most k (At id s.connections)
+
+left_goes : (most j k : ℕ) (a b : Option Call) → Left most j a → Goes k a b → Left most (j + k) b
+left_goes most j k None None h g = omega (arith, h, g)
+left_goes most j k None (Some d) h g = elim g [ ]
+left_goes most j k (Some c) None h g = omega (arith, h, g)
+left_goes most j k (Some c) (Some d) h g = let e = g.2 in omega (arith, h, e)
+
+left_first : (s : State) (k : ℕ) (a : Option Call) → k ≡ 0 → IsFirstCall s a → Left s.limits.times k a
+left_first s k None z f = omega (arith, z)
+left_first s k (Some d) z f = let e = f.0 in omega (arith, z, e)
+
+counts_step : (id k : ℕ) (s : State) (m : Move) → IsDistinct s → Counts s.limits.times id k s → Counts s.limits.times id (k + hung id (step s m).1) (step s m).0
+counts_step id k s m o (new, left) = by (step_moves id s m o)
+  where
+    t : State
+    t = (step s m).0
+
+    before : s.next ≤ t.next → nat_lt id t.next ≡ false → nat_lt id s.next ≡ false
+    before le n = grind (arith, nat_tests, le, n)
+
+    by : Moves id s (step s m) → Counts s.limits.times id (k + hung id (step s m).1) t
+    by (le, inl g) = (none, left_goes s.limits.times k (hung id (step s m).1) (At id s.connections) (At id t.connections) left g)
+      where
+        none : nat_lt id t.next ≡ false → k + hung id (step s m).1 ≡ 0
+        none n =
+            let b = before le n in
+            let z = new b in
+            let e : At id s.connections ≡ None = ap call_at (unborn_at id s.next s.connections o b) in
+            let h = still_none (hung id (step s m).1) (At id t.connections) (subst (λ (a : Option Call). Goes (hung id (step s m).1) a (At id t.connections)) e g) in
+            omega (arith, z, h)
+          where
+            still_none : (j : ℕ) (b : Option Call) → Goes j None b → j ≡ 0
+            still_none j None g = g
+            still_none j (Some d) g = elim g [ ]
+    by (le, inr f) =
+        let e = f.0 in
+        let b : nat_lt id s.next ≡ false = grind (arith, nat_tests, e) in
+        let z = new b in
+        let h = f.1 in
+        let sum : k + hung id (step s m).1 ≡ 0 = omega (arith, z, h) in
+        (λ n. sum, left_first s (k + hung id (step s m).1) (At id t.connections) sum f.2)
+
+counts_run : (id k most : ℕ) (s : State) (ms : List Move) → IsDistinct s → s.limits.times ≡ most → Counts most id k s → Counts most id (k + hang_ups id (history s ms)) (run s ms)
+counts_run id k most s [] o e h = let z : k ≡ k + 0 = omega arith in subst (λ (j : ℕ). Counts most id j s) z h
+counts_run id k most s (m ∷ ms) o e h =
+    let t = (step s m).0 in
+    let now : Counts s.limits.times id (k + hung id (step s m).1) t = counts_step id k s m o (subst (λ (j : ℕ). Counts j id k s) (sym e) h) in
+    let same_limits : t.limits.times ≡ most = ap (λ (l : Limits). l.times) (step_limits s m) ∙ e in
+    let sum = history_hung id s m ms in
+    let all : k + hung id (step s m).1 + hang_ups id (history t ms) ≡ k + hang_ups id (history s (m ∷ ms)) = omega (arith, sum) in
+    subst (λ (j : ℕ). Counts most id j (run t ms)) all
+    (counts_run id (k + hung id (step s m).1) most t ms (step_distinct s m o) same_limits (subst (λ (j : ℕ). Counts j id (k + hung id (step s m).1) t) e now))
+
+pub always_left : (l : Limits) (ms : List Move) (id : ℕ) → Left l.times (hang_ups id (history (start l) ms)) (call_of_number id (run (start l) ms))
+always_left l ms id =
+    let h = counts_run id 0 l.times (start l) ms tt refl (λ n. refl, omega arith) in
+    let z : 0 + hang_ups id (history (start l) ms) ≡ hang_ups id (history (start l) ms) = omega arith in
+    subst (λ (j : ℕ). Left l.times j (call_of_number id (run (start l) ms))) z h.1
+
+pub left_most : (most k : ℕ) (a : Option Call) → Left most k a → k ≤ most
+left_most most k None h = h
+left_most most k (Some c) h = omega (arith, h)
+
+-- 8. One call of a partner by the clock
+
+-- whoever has a call of partner n by the clock is one
+abbrev IsOneOf : ℕ → List Connection → Type 0
+IsOneOf n cs = (i j : ℕ) → is_by_clock n (At i cs) ≡ true → is_by_clock n (At j cs) ≡ true → i ≡ j
+
+went_on : (n k : ℕ) (a b : Option Call) → Goes k a b → is_by_clock n b ≡ true → is_by_clock n a ≡ true
+went_on n k a None g y = cc
+went_on n k None (Some d) g y = elim g [ ]
+went_on n k (Some c) (Some d) (p, a, t) y =
+    ap (λ (x : Partner). if is_clock c.asker then x.number == n else false) (sym p) ∙ ap (λ (x : Asker). if is_clock x then d.partner.number == n else false) (sym a) ∙ y
+
+none_of : (n i : ℕ) (cs : List Connection) → list_any (calls n) cs ≡ false → is_by_clock n (At i cs) ≡ true → ⊥
+none_of n i [] e y = cc
+none_of n i (c ∷ cs) e y = by (none_of n i cs) (is_by_clock n (call_in c.phase)) refl (c.id == i) e y
+  where
+    by : (list_any (calls n) cs ≡ false → is_by_clock n (At i cs) ≡ true → ⊥) → (b : Bool) → is_by_clock n (call_in c.phase) ≡ b → (d : Bool)
+        → (b || list_any (calls n) cs) ≡ false → is_by_clock n (call_at (cond d (Some c) (connection_at i cs))) ≡ true → ⊥
+    by rest true h d e y = cc
+    by rest false h true e y = let bad : true ≡ false = sym y ∙ h in cc
+    by rest false h false e y = rest e y
+
+one_after : (n : ℕ) (s : State) (m : Move) → IsDistinct s → IsOneOf n s.connections → IsOneOf n (step s m).0.connections
+one_after n s m o h i j y z = by (was i y) (was j z)
+  where
+    Was : ℕ → Type 0
+    Was i = (is_by_clock n (At i s.connections) ≡ true) ⊎ ((s.next ≡ i) × (list_any (calls n) s.connections ≡ false))
+
+    first : (i : ℕ) (b : Option Call) → s.next ≡ i → IsFirstCall s b → is_by_clock n b ≡ true → Was i
+    first i None e f y = cc
+    first i (Some d) e f y = inr (e, f.1 n y)
+
+    was : (i : ℕ) → is_by_clock n (At i (step s m).0.connections) ≡ true → Was i
+    was i y = of_moves (step_moves i s m o)
+      where
+        of_moves : Moves i s (step s m) → Was i
+        of_moves (le, inl g) = inl (went_on n (hung i (step s m).1) (At i s.connections) (At i (step s m).0.connections) g y)
+        of_moves (le, inr f) = first i (At i (step s m).0.connections) f.0 f.2 y
+
+    by : Was i → Was j → i ≡ j
+    by (inl y) (inl z) = h i j y z
+    by (inl y) (inr (e, none)) = absurd (none_of n i s.connections none y)
+    by (inr (e, none)) (inl z) = absurd (none_of n j s.connections none z)
+    by (inr (e, none)) (inr (f, none')) = sym e ∙ f
+
+always_one : (n : ℕ) (s : State) (ms : List Move) → IsDistinct s → IsOneOf n s.connections → IsOneOf n (run s ms).connections
+always_one n s [] o h = h
+always_one n s (m ∷ ms) o h = always_one n (step s m).0 ms (step_distinct s m o) (one_after n s m o h)
+
+counted_one : (n hi : ℕ) (cs : List Connection) → Distinct hi cs → IsOneOf n cs → how_many (is_clocks_call n) cs ≤ 1
+counted_one n hi [] o u = omega arith
+counted_one n hi (c ∷ cs) o u = by (counted_one n hi cs o.1.1) (is_by_clock n (call_in c.phase)) refl
+  where
+    -- one of the rest is in the whole
+    more : (i : ℕ) → is_by_clock n (At i cs) ≡ true → is_by_clock n (At i (c ∷ cs)) ≡ true
+    more i y = split (c.id == i) refl
+      where
+        split : (b : Bool) → (c.id == i) ≡ b → is_by_clock n (call_at (cond b (Some c) (connection_at i cs))) ≡ true
+        split true q =
+            let is : c.id ≡ i = grind (arith, nat_tests, q) in
+            let none : connection_at i cs ≡ None = ap (λ j. connection_at j cs) (sym is) ∙ absent c.id cs o.1.0 in
+            let bad : false ≡ true = sym (ap (λ at. is_by_clock n (call_at at)) none) ∙ y in cc
+        split false q = y
+
+    -- no other is, if this one is
+    alone : is_by_clock n (call_in c.phase) ≡ true → (at : Option Connection) → find (in_phase (is_clocks_call n)) cs ≡ at → how_many (is_clocks_call n) cs ≡ 0
+    alone y None e = none_found (is_clocks_call n) cs e
+    alone y (Some d) e =
+        let there = found_at (in_phase (is_clocks_call n)) hi cs d e o.1.1 in
+        let yes : is_by_clock n (At d.id cs) ≡ true = ap (λ at. is_by_clock n (call_at at)) there ∙ (found (in_phase (is_clocks_call n)) hi cs d e o.1.1).1 in
+        let head : is_by_clock n (At c.id (c ∷ cs)) ≡ true = ap (λ b. is_by_clock n (call_at (cond b (Some c) (connection_at c.id cs)))) (same c.id) ∙ y in
+        let is : c.id ≡ d.id = u c.id d.id head (more d.id yes) in
+        let bad : None ≡ Some d = sym (absent c.id cs o.1.0) ∙ ap (λ i. connection_at i cs) is ∙ there in cc
+
+    by : (IsOneOf n cs → how_many (is_clocks_call n) cs ≤ 1) → (b : Bool) → is_by_clock n (call_in c.phase) ≡ b → one_if b + how_many (is_clocks_call n) cs ≤ 1
+    by rest true y = let z = alone y (find (in_phase (is_clocks_call n)) cs) refl in omega (arith, z)
+    by rest false y = let h = rest (λ i j y z. u i j (more i y) (more j z)) in omega (arith, h)
+
+pub has_one_each : (l : Limits) (ms : List Move) → HasOneEach (run (start l) ms)
+has_one_each l ms n =
+    let s = run (start l) ms in counted_one n s.next s.connections (run_distinct (start l) ms tt) (always_one n (start l) ms tt (λ i j y z. cc))
