@@ -360,7 +360,8 @@ filter_goes id i cs = elim (eqb_tells i id) as (λ _. Goes 0 (At id cs) (At id (
   | inr n ↦ subst (Goes 0 (At id cs)) (sym (ap call_at (removed_elsewhere i id cs n.1))) (goes_on (At id cs))
 ]
 
-became_goes : (id i : ℕ) (q : Phase) (cs : List Connection) → ((c : Connection) → connection_at i cs ≡ Some c → Goes 0 (call_in c.phase) (call_in q)) → Goes 0 (At id cs) (At id (map (became i q) cs))
+became_goes : (id i : ℕ) (q : Phase) (cs : List Connection) → ((c : Connection) → connection_at i cs ≡ Some c → Goes 0 (call_in c.phase) (call_in q))
+    → Goes 0 (At id cs) (At id (map (became i q) cs))
 became_goes id i q cs k = elim (eqb_tells i id) as (λ _. Goes 0 (At id cs) (At id (map (became i q) cs))) [
   | inl y ↦ subst (λ (j : ℕ). Goes 0 (At j cs) (At j (map (became i q) cs))) y.1 (own (connection_at i cs) refl)
   | inr n ↦ subst (Goes 0 (At id cs)) (sym (ap call_at (became_elsewhere i id q cs n.1))) (goes_on (At id cs))
@@ -387,9 +388,11 @@ evicted_goes : (id : ℕ) (s : State) (at : Option Connection)
     → (s.next ≤ (evicted s at).0.next) × Goes (hung id (evicted s at).1) (At id s.connections) (At id (evicted s at).0.connections)
 evicted_goes id s None = (omega arith, goes_on (At id s.connections))
 evicted_goes id s (Some c) =
-    let out = filter (is_other c.id) s.connections in
-    (omega arith, subst (λ (k : ℕ). Goes k (At id s.connections) (At id (after_session (ends_session c.phase (Leave Evicted)) out))) (sym (hung_leave id c.id c.phase))
-    (subst (Goes 0 (At id s.connections)) (sym (after_at (ends_session c.phase (Leave Evicted)) id out)) (filter_goes id c.id s.connections)))
+    let out = filter (is_other c.id) s.connections in (
+      omega arith,
+      subst (λ (k : ℕ). Goes k (At id s.connections) (At id (after_session (ends_session c.phase (Leave Evicted)) out))) (sym (hung_leave id c.id c.phase))
+          (subst (Goes 0 (At id s.connections)) (sym (after_at (ends_session c.phase (Leave Evicted)) id out)) (filter_goes id c.id s.connections)),
+    )
 
 first_call : (now : ℕ) (l : Limits) (d : Door) → call_in (first_phase now l d) ≡ None
 first_call now l Partners = refl
@@ -404,9 +407,11 @@ came_moves id s c =
     let u = came s c in
     let h = evicted_goes id t (makes_room t c.door) in
     let g = became_goes id c.id q s.connections (λ d e. subst (Goes 0 (call_in d.phase)) (sym (first_call s.now s.limits c.door)) (ends (call_in d.phase))) in
-    let none : 0 + hung id u.1 ≡ hung id u.1 = omega arith in
-    (h.0, inl (subst (λ (k : ℕ). Goes k (At id s.connections) (At id u.0.connections)) none
-    (join 0 (hung id u.1) (At id s.connections) (At id t.connections) (At id u.0.connections) g h.1)))
+    let none : 0 + hung id u.1 ≡ hung id u.1 = omega arith in (
+      h.0,
+      inl (subst (λ (k : ℕ). Goes k (At id s.connections) (At id u.0.connections)) none
+          (join 0 (hung id u.1) (At id s.connections) (At id t.connections) (At id u.0.connections) g h.1)),
+    )
 
 gate_moves : (id : ℕ) (s t : State) (d : Door) (g : Gate) → s.next ≤ t.next → Goes 0 (At id s.connections) (At id t.connections) → Moves id s (with_gate t d g, [])
 gate_moves id s t Partners g le h = (le, inl h)
@@ -463,7 +468,8 @@ less_goes s id p q e (c, f, l, is) =
     subst (λ (o : Option Call). Goes 1 o (call_in q)) (sym f ∙ e) (subst (λ (z : Phase). Goes 1 (Some c) (call_in z)) (sym is) (refl, refl, omega (arith, l)))
 
 -- what may become of one without anything that is told
-settled_goes : (s : State) (id : ℕ) (p : Phase) (r : Reply) → call_at (connection_at id s.connections) ≡ call_in p → settles p r ≡ true → IsOnceLess s (Settle id r) → ReplyGoes (call_in p) r
+settled_goes : (s : State) (id : ℕ) (p : Phase) (r : Reply) → call_at (connection_at id s.connections) ≡ call_in p → settles p r ≡ true → IsOnceLess s (Settle id r)
+    → ReplyGoes (call_in p) r
 settled_goes s id (Stranger u r) (Leave why) e h l = refl
 settled_goes s id (Guest t) (Leave why) e h l = refl
 settled_goes s id (Between x) (Break why) e h l = ends (call_of x.way)
@@ -549,7 +555,8 @@ chosen_moves : (id : ℕ) (s : State) (c : Choice) → IsDistinct s → ChoiceFi
 chosen_moves id s c o f l b = cases c f l b
   where
     -- connection i comes into this phase
-    set : (i : ℕ) (q : Phase) → ((c : Connection) → connection_at i s.connections ≡ Some c → Goes 0 (call_in c.phase) (call_in q)) → Goes 0 (At id s.connections) (At id (map (became i q) s.connections))
+    set : (i : ℕ) (q : Phase) → ((c : Connection) → connection_at i s.connections ≡ Some c → Goes 0 (call_in c.phase) (call_in q))
+        → Goes 0 (At id s.connections) (At id (map (became i q) s.connections))
     set i q k = became_goes id i q s.connections k
 
     there : (i : ℕ) (c : Connection) → connection_at i s.connections ≡ Some c → phase_at i s.connections ≡ Some c.phase

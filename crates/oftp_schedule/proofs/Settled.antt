@@ -164,12 +164,13 @@ departure_holds Q h s (Called st) = h.nothing
 departure_holds Q h s Past = h.nothing
 departure_holds Q h s (Ending st) = elim (is_reviewing s.clock) as (λ b. Q (if b then Nothing else departed st s.connections)) [ true ↦ h.nothing | false ↦ departed_holds Q h st s.connections ]
 
-pub begun_choice : (Q : Choice → Type 0) → HoldsElse Q → (s : State) → Q (guest_session s) → Q (call_session s) → Q (expiry s) → Q (dismissed s s.course) → Q (orphaned s) → Q (call_over s) → Q (way_given s)
-    → Q (choice s)
+pub begun_choice : (Q : Choice → Type 0) → HoldsElse Q → (s : State) → Q (guest_session s) → Q (call_session s)
+    → Q (expiry s) → Q (dismissed s s.course) → Q (orphaned s) → Q (call_over s) → Q (way_given s) → Q (choice s)
 begun_choice Q h s guest call late away orphan over way =
     each_choice Q s h.nothing (finish_holds Q h s s.course) late away orphan over way (admission_holds Q h s) (dial_holds Q h s) (job_holds Q h s guest call) (departure_holds Q h s s.course)
 
-pub settled_choice : (Q : Choice → Type 0) → HoldsElse Q → Begun Q → (s : State) → Q (expiry s) → Q (dismissed s s.course) → Q (orphaned s) → Q (call_over s) → Q (way_given s) → Q (choice s)
+pub settled_choice : (Q : Choice → Type 0) → HoldsElse Q → Begun Q → (s : State)
+    → Q (expiry s) → Q (dismissed s s.course) → Q (orphaned s) → Q (call_over s) → Q (way_given s) → Q (choice s)
 settled_choice Q h b s late away orphan over way = begun_choice Q h s (guest_holds Q h b s) (call_holds Q h b s) late away orphan over way
 
 -- what holds of each of its replies holds of what becomes of one whom the end of the station concerns
