@@ -1,5 +1,5 @@
 -- Whom a call calls never changes, it hangs up as often as the limits say, and the clock has one call of a partner at a time.
-use Rattle.std.proofs.Common.{inl, inr, ◌⊎◌, nat_lt, subst, ◌≡◌, ◌≢◌, ℕ, zero, suc, ◌+◌, ◌-◌, ◌<◌, ◌≤◌, ◌==◌, ◌^◌, Bool, true, false, cond, ◌||◌, if◌then◌else◌, List, [], ◌∷◌, ◌++◌, Option, Some, None, map, filter, find, count_by, refl, ap, sym, ◌∙◌, arith}
+use Rattle.std.proofs.Common.{inl, inr, ◌⊎◌, nat_lt, subst, ◌≡◌, ◌≢◌, ℕ, zero, suc, ◌+◌, ◌-◌, ◌≤◌, ◌==◌, ◌^◌, Bool, true, false, cond, ◌||◌, if◌then◌else◌, List, [], ◌∷◌, ◌++◌, Option, Some, None, map, filter, find, refl, ap, sym, ◌∙◌, arith}
 use Rattle.std.proofs.lemmas.Bool.Decides.{nat_tests, eqb_tells}
 use Rattle.std.proofs.lemmas.List.Sums.{sum_by-cons, sum_by-append}
 use Rattle.std.specs.List.{list_any}
@@ -21,7 +21,7 @@ use Rattle.oftp_schedule.specs.declared.connection.Arrival.{Arrival}
 use Rattle.oftp_schedule.specs.declared.connection.Arrival.TheVariants.{Somebody, Nobody, Later, Never}
 use Rattle.oftp_schedule.specs.declared.connection.Event.{Event}
 use Rattle.oftp_schedule.specs.declared.connection.Event.TheVariants.{Knock, Accepted, Passed, Told, Due, Reviewed, Over}
-use Rattle.oftp_schedule.specs.declared.connection.Reason.TheVariants.{Evicted, TimedOut, Stalled, Unreached, Orphaned, Stopping, Finished}
+use Rattle.oftp_schedule.specs.declared.connection.Reason.TheVariants.{Evicted, TimedOut, Orphaned, Stopping, Finished}
 use Rattle.oftp_schedule.specs.declared.connection.Action.{Action}
 use Rattle.oftp_schedule.specs.declared.connection.Action.TheVariants.{Accept, Close, Part, Begin, Hear, Look, Change, Copy, Review, Resolve, Shut, Exit}
 use Rattle.oftp_schedule.specs.declared.connection.Reply.{Reply}
@@ -38,15 +38,15 @@ use Rattle.oftp_schedule.specs.declared.connection.Session.{Session}
 use Rattle.oftp_schedule.specs.declared.connection.Step.{Step}
 use Rattle.oftp_schedule.specs.declared.connection.Connection.{Connection}
 use Rattle.oftp_schedule.specs.declared.connection.Limits.{Limits}
-use Rattle.oftp_schedule.specs.Rules.{heard_on, after_step, at_end, answered, answered_whole, went, rule, is_late, late, hurried_phase, hurried, is_arriving_phase, is_between_phase, is_guest_phase, is_connected_phase, in_phase, is_ripe, is_at, call_of, call_in, call_at, is_clock, is_by_clock, calls, has_line, line, leaves_line, orders, ends_session, has_id, is_other, connection_at, phase_at, became, owed_phase, owed, shared_phase, shared, is_orphan, is_to_tell}
-use Rattle.oftp_schedule.specs.Machine.{State, Turn, with_connections, limits_now, new_call, at_door, edited, after_session, replied, in_numbers, replied_at, places, gate, with_gate, knocked, first_phase, makes_room, evicted, came, accepted, accepted_at, with_call, due_to, reviewed, received, guest_session, called_session, call_session, new_session, choice_of, is_to_yield, yielded, yield_to, yield_for, choice, welcomed, chosen, start, Move, step, run, Tell, Ask}
+use Rattle.oftp_schedule.specs.Rules.{heard_on, after_step, at_end, answered, answered_whole, went, rule, is_late, late, hurried_phase, hurried, is_arriving_phase, is_between_phase, is_guest_phase, is_connected_phase, in_phase, call_of, call_in, call_at, is_clock, is_by_clock, calls, has_line, line, leaves_line, orders, ends_session, has_id, is_other, connection_at, phase_at, became, owed_phase, owed, shared_phase, shared, is_orphan, is_to_tell}
+use Rattle.oftp_schedule.specs.Machine.{State, Turn, with_connections, limits_now, new_call, at_door, edited, after_session, replied, in_numbers, replied_at, gate, with_gate, knocked, first_phase, makes_room, evicted, came, accepted, accepted_at, with_call, due_to, reviewed, received, guest_session, called_session, call_session, new_session, choice_of, is_to_yield, yielded, yield_to, yield_for, choice, welcomed, chosen, start, Move, step, run, Tell, Ask}
 use Rattle.oftp_schedule.specs.Apart.{one_if, how_many}
-use Rattle.oftp_schedule.specs.History.{Note, Heard, Ordered, shown, history}
+use Rattle.oftp_schedule.specs.History.{Note, Heard, Ordered, history}
 use Rattle.oftp_schedule.specs.Life.{is_about, is_ordered}
 use Rattle.oftp_schedule.specs.Deadlines.{HasOneLess, IsOnceLess}
 use Rattle.oftp_schedule.specs.Calls.{is_clocks_call, HasOneEach, call_of_number, hangs_up, hang_ups, IsSameCall, KeepsCalls}
-use Rattle.oftp_schedule.proofs.Numbers.{Distinct, Distinct-map, same, differs, known, found, at_number}
-use Rattle.oftp_schedule.proofs.Places.{absent, map_found, mapped, became_here, became_elsewhere, moved_here, removed, removed_elsewhere, or_at_end, pushed_at, pushed_elsewhere, unborn_at, phase_of, phase_found, found_at}
+use Rattle.oftp_schedule.proofs.Numbers.{Distinct, same, differs, known, found, at_number}
+use Rattle.oftp_schedule.proofs.Places.{absent, map_found, mapped, became_here, became_elsewhere, moved_here, removed, removed_elsewhere, or_at_end, pushed_at, pushed_elsewhere, unborn_at, found_at}
 use Rattle.oftp_schedule.proofs.Fitting.{IsDistinct, step_distinct, settles, Settles, ChoiceFits, choice_fits, run_distinct}
 use Rattle.oftp_schedule.proofs.Counting.{none_found}
 use Rattle.oftp_schedule.proofs.Within.{step_limits}

@@ -17,7 +17,7 @@ use Rattle.oftp_schedule.specs.declared.connection.Session.{Session}
 use Rattle.oftp_schedule.specs.declared.connection.Limits.{Limits}
 use Rattle.oftp_schedule.specs.declared.connection.Connection.{Connection}
 use Rattle.oftp_schedule.specs.Rules.{is_awaited, answered, is_late, once_less, late, is_between_phase, is_guest_phase, in_phase, is_orphan, is_to_tell}
-use Rattle.oftp_schedule.specs.Machine.{State, limits_now, choice_of, finish, expiry, orphaned, call_over, yielded, yield_to, yield_for, way_given, admit, consult, choice}
+use Rattle.oftp_schedule.specs.Machine.{State, limits_now, choice_of, expiry, orphaned, call_over, yielded, yield_to, yield_for, way_given, choice}
 use Rattle.oftp_schedule.specs.Deadlines.{AreRivals, YieldsInTime}
 use Rattle.oftp_schedule.proofs.Settled.{HoldsElse, dismissed_holds, settled_choice}
 

@@ -10,7 +10,7 @@ use Rattle.oftp_schedule.specs.Apart.{how_many}
 use Rattle.oftp_schedule.specs.History.{Note, history}
 use Rattle.oftp_schedule.specs.Life.{times_ordered}
 
--- a call of partner n by the clock
+-- a call of partner n by the clock, until its session is over
 abbrev pub is_clocks_call : ℕ → Phase → Bool
 is_clocks_call n p = is_by_clock n (call_in p)
 
