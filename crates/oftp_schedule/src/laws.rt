@@ -106,8 +106,8 @@ pub fn one_at_a_time()
     ensures rested { (limits : Limits) (before during after : List Move) → IsRested (run (start limits) before) during after }
 {}
 
-/// A call is of one partner, and for one who asked, from its beginning to its end. It hangs up, to give way or because its session didn't begin,
-/// as often as the limits say and no more; what it has left is what it may do so still. The clock has one call of a partner at a time.
+/// A call is of one partner and for one asker as long as it is there, whatever comes. It hangs up, to give way or because its session didn't
+/// begin, as often as the limits say and no more, and what it may still do so is the rest. The clock has one call of a partner at a time.
 pub fn calls_are_bounded()
     ensures one_each { (limits : Limits) (moves : List Move) → HasOneEach (run (start limits) moves) }
     ensures keeps { (limits : Limits) (before during : List Move) → KeepsCalls (run (start limits) before) during }
