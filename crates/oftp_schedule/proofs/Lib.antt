@@ -18,6 +18,7 @@ pub mod Timely
 pub mod Deadlines
 pub mod Within
 pub mod Lengths
+pub mod Calls
 pub mod Wakeups
 pub mod Turns
 pub mod Resting

@@ -38,8 +38,8 @@ use Rattle.oftp_schedule.specs.Rules.{at_end, after_step, went, rule, line, has_
 use Rattle.oftp_schedule.specs.Machine.{State, Turn, with_connections, limits_now, new_call, at_door, edited, after_session, numbers, replied, in_numbers, replied_at, places, gate, with_gate, knocked, first_phase, makes_room, evicted, accepted, accepted_at, with_call, due_to, reviewed, received, choice, welcomed, chosen, start, Move, run, Tell, Ask}
 use Rattle.oftp_schedule.specs.History.{Note, Heard, Ordered, history, watch}
 use Rattle.oftp_schedule.specs.Life.{Stage, Unbegun, Coming, Between_steps, Awaits_call, Has_answer, Closed, Broken, entered, heard, closed, ordered, life, stage_in, stage_from, stage_of}
-use Rattle.oftp_schedule.proofs.Numbers.{Distinct, Distinct-map, same, known, found, at_number}
-use Rattle.oftp_schedule.proofs.Places.{map_found, mapped, became_elsewhere, removed, removed_elsewhere, or_at_end, pushed_at, unborn_at, phase_of, phase_found, found_at}
+use Rattle.oftp_schedule.proofs.Numbers.{Distinct, Distinct-map, known, found, at_number}
+use Rattle.oftp_schedule.proofs.Places.{map_found, mapped, became_here, became_elsewhere, moved_here, removed, removed_elsewhere, or_at_end, pushed_at, pushed_elsewhere, unborn_at, phase_of, phase_found, found_at}
 use Rattle.oftp_schedule.proofs.Fitting.{IsDistinct, received_distinct, chosen_distinct, settles, Settles, Begins, Asks, ChoiceFits, choice_fits}
 
 -- what these actions do to the life of id is what they do to its place in the table
@@ -129,14 +129,10 @@ known_at : (s : State) (c : Connection) → IsDistinct s → connection_at c.id 
 known_at s c o e = known c.id s.next s.connections c.phase (at_number c.id s.connections c e).1 o
 
 became_own : (c : Connection) (q : Phase) (b : Bool) (cs : List Connection) → connection_at c.id cs ≡ Some c → stage_from b (connection_at c.id (map (became c.id q) cs)) ≡ stage_in c.door q
-became_own c q b cs e =
-    ap (stage_from b) (mapped (became c.id q) (λ _. refl) c.id cs ∙ ap (map_found (became c.id q)) e)
-    ∙ ap (λ b. stage_in c.door (cond b q c.phase)) (same c.id)
+became_own c q b cs e = ap (stage_from b) (became_here c q cs e)
 
 moved_own : (c : Connection) (q : Phase) (b : Bool) (cs : List Connection) → stage_from b (connection_at c.id (filter (is_other c.id) cs ++ at_door c.id c.door q ∷ [])) ≡ stage_in c.door q
-moved_own c q b cs =
-    ap (stage_from b) (pushed_at c.id (filter (is_other c.id) cs) (at_door c.id c.door q) ∙ ap (λ at. or_at_end at (c.id == c.id) (at_door c.id c.door q)) (removed c.id cs) ∙ ap
-    (λ b. or_at_end None b (at_door c.id c.door q)) (same c.id))
+moved_own c q b cs = ap (stage_from b) (moved_here c q cs)
 
 gone_own : (id : ℕ) (b : Bool) (cs : List Connection) → b ≡ true → stage_from b (connection_at id (filter (is_other id) cs)) ≡ Closed
 gone_own id b cs k = ap (stage_from b) (removed id cs) ∙ ap (λ b. stage_from b None) k
@@ -151,12 +147,8 @@ edited_own s c Stay b k e = ap (stage_from b) e
 edited_own s c (Become q) b k e = became_own c q b s.connections e
 edited_own s c (Queue q) b k e = moved_own c q b s.connections
 edited_own s c (Want n) b k e =
-    let waits : Connection = record { id = c.id; door = c.door; phase = Calling s.next } in
-    let there : connection_at c.id (map (became c.id (Calling s.next)) s.connections) ≡ Some waits =
-    mapped (became c.id (Calling s.next)) (λ _. refl) c.id s.connections ∙ ap (map_found (became c.id (Calling s.next))) e
-    ∙ ap (λ (b : Bool). Some (record { id = c.id; door = c.door; phase = cond b (Calling s.next) c.phase })) (same c.id)
-    in
-    stays_there c.id b waits (at_door s.next Calls (Wanted (new_call s.limits n (By c.id)))) (map (became c.id (Calling s.next)) s.connections) there
+    stays_there c.id b (at_door c.id c.door (Calling s.next)) (at_door s.next Calls (Wanted (new_call s.limits n (By c.id)))) (map (became c.id (Calling s.next)) s.connections)
+    (became_here c (Calling s.next) s.connections e)
 edited_own s c (Respond q) b k e = became_own c q b s.connections e
 edited_own s c (Refuse q why) b k e = became_own c q b s.connections e
 edited_own s c (Connect q) b k e = became_own c q b s.connections e
@@ -195,12 +187,7 @@ moved_other : (i id : ℕ) (d : Connection) (b : Bool) (cs : List Connection) �
     → stage_from b (connection_at id (filter (is_other i) cs ++ d ∷ [])) ≡ stage_from b (connection_at id cs)
 moved_other i id d b cs q ne =
     let n : (d.id == id) ≡ false = grind (arith, nat_tests, q, ne) in
-    ap (stage_from b) (pushed_at id (filter (is_other i) cs) d ∙ ap (λ at. or_at_end at (d.id == id) d) (removed_elsewhere i id cs ne) ∙ ap
-    (λ b. or_at_end (connection_at id cs) b d) n) ∙ none_new b (connection_at id cs)
-  where
-    none_new : (b : Bool) (at : Option Connection) → stage_from b (or_at_end at false d) ≡ stage_from b at
-    none_new b None = refl
-    none_new b (Some c) = refl
+    ap (stage_from b) (pushed_elsewhere id (filter (is_other i) cs) d n ∙ removed_elsewhere i id cs ne)
 
 no_number_given : (id hi : ℕ) (b : Stage) (cs : List Connection) → stage_from (nat_lt id hi) (connection_at id cs) ≡ b → stage_from (nat_lt id (hi + 0)) (connection_at id cs) ≡ b
 no_number_given id hi b cs h = ap (λ n. stage_from (nat_lt id n) (connection_at id cs)) (add-zero hi) ∙ h

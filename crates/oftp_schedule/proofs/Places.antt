@@ -4,6 +4,7 @@ use Rattle.std.proofs.lemmas.Bool.Decides.{nat_tests}
 use Rattle.oftp_schedule.specs.declared.connection.Phase.{Phase}
 use Rattle.oftp_schedule.specs.declared.connection.Connection.{Connection}
 use Rattle.oftp_schedule.specs.Rules.{is_other, connection_at, phase_at, became}
+use Rattle.oftp_schedule.specs.Machine.{at_door}
 use Rattle.oftp_schedule.proofs.Numbers.{Distinct, same, above_none, at_number}
 
 -- its phase
@@ -66,6 +67,25 @@ pushed_at id [] d = elim (d.id == id) as (λ b. cond b (Some d) None ≡ or_at_e
 pushed_at id (c ∷ cs) d =
     elim (c.id == id) as (λ b. cond b (Some c) (connection_at id (cs ++ d ∷ [])) ≡ or_at_end (cond b (Some c) (connection_at id cs)) (d.id == id) d)
     [ true ↦ refl | false ↦ pushed_at id cs d ]
+
+-- who becomes something
+pub became_here : (c : Connection) (q : Phase) (cs : List Connection) → connection_at c.id cs ≡ Some c → connection_at c.id (map (became c.id q) cs) ≡ Some (at_door c.id c.door q)
+became_here c q cs e =
+    mapped (became c.id q) (λ _. refl) c.id cs ∙ ap (map_found (became c.id q)) e
+    ∙ ap (λ (b : Bool). Some (record { id = c.id; door = c.door; phase = cond b q c.phase })) (same c.id)
+
+-- who becomes something as the last in the table
+pub moved_here : (c : Connection) (q : Phase) (cs : List Connection) → connection_at c.id (filter (is_other c.id) cs ++ at_door c.id c.door q ∷ []) ≡ Some (at_door c.id c.door q)
+moved_here c q cs =
+    pushed_at c.id (filter (is_other c.id) cs) (at_door c.id c.door q) ∙ ap (λ at. or_at_end at (c.id == c.id) (at_door c.id c.door q)) (removed c.id cs)
+    ∙ ap (λ b. or_at_end None b (at_door c.id c.door q)) (same c.id)
+
+pub pushed_elsewhere : (id : ℕ) (cs : List Connection) (d : Connection) → (d.id == id) ≡ false → connection_at id (cs ++ d ∷ []) ≡ connection_at id cs
+pushed_elsewhere id cs d n = pushed_at id cs d ∙ ap (λ b. or_at_end (connection_at id cs) b d) n ∙ none_new (connection_at id cs)
+  where
+    none_new : (at : Option Connection) → or_at_end at false d ≡ at
+    none_new None = refl
+    none_new (Some c) = refl
 
 -- a number that wasn't given is nobody's
 pub unborn_at : (id hi : ℕ) (cs : List Connection) → Distinct hi cs → nat_lt id hi ≡ false → connection_at id cs ≡ None

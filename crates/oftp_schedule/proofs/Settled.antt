@@ -1,4 +1,4 @@
--- What holds of each choice that settles nobody holds of what is chosen, where it holds of those that settle somebody.
+-- What holds of each choice that settles nobody and begins no session holds of what is chosen, where it holds of the others.
 use Rattle.std.proofs.Common.{nat_le, nat_lt, min, ℕ, ◌+◌, ◌-◌, ◌==◌, ◌^◌, Bool, true, false, if◌then◌else◌, List, [], ◌∷◌, Option, Some, None, find}
 use Rattle.std.specs.List.{list_any}
 use Rattle.oftp_schedule.specs.declared.connection.Door.{Door}
@@ -33,7 +33,6 @@ pub record HoldsElse (Q : Choice → Type 0) : Type 0 where
   pub finish : (st : Status) → Q (Finish st)
   pub admit : (d : Door) → Q (Admit d)
   pub inspect : Q Inspect
-  pub start : (id : ℕ) (x : Session) → Q (Start id x)
   pub proceed : (id : ℕ) (x : Session) → Q (Proceed id x)
   pub consult : (id : ℕ) → Q (Consult id)
   pub perform : (id : ℕ) → Q (Perform id)
@@ -104,18 +103,22 @@ requested_holds Q h id p = h.nothing
 update_holds : (Q : Choice → Type 0) → HoldsElse Q → (s : State) (t : Phase → Bool) → Q (update s t)
 update_holds Q h s t = of_any Q (λ c. requested c.id c.phase) (find (in_phase t) s.connections) h.nothing (λ c. requested_holds Q h c.id c.phase)
 
-called_holds : (Q : Choice → Type 0) → HoldsElse Q → (now : ℕ) (l : Limits) (id : ℕ) (k : Option Call) → Q (called_session now l id k)
-called_holds Q h now l id None = h.nothing
-called_holds Q h now l id (Some k) = h.start id (new_session now l (Unanswered k (min (l.greeting + 1) (2 ^ 32 - 1))) k.partner.patience k.partner.longest)
+-- a session begins
+abbrev pub Begun : (Choice → Type 0) → Type 0
+Begun Q = (id : ℕ) (x : Session) → Q (Start id x)
 
-call_holds : (Q : Choice → Type 0) → HoldsElse Q → (s : State) → Q (call_session s)
-call_holds Q h s =
-    of_any Q (λ c. called_session s.now s.limits c.id (call_in c.phase)) (find (in_phase is_connected_phase) s.connections) h.nothing (λ c. called_holds Q h s.now s.limits c.id (call_in c.phase))
+called_holds : (Q : Choice → Type 0) → HoldsElse Q → Begun Q → (now : ℕ) (l : Limits) (id : ℕ) (k : Option Call) → Q (called_session now l id k)
+called_holds Q h b now l id None = h.nothing
+called_holds Q h b now l id (Some k) = b id (new_session now l (Unanswered k (min (l.greeting + 1) (2 ^ 32 - 1))) k.partner.patience k.partner.longest)
 
-guest_holds : (Q : Choice → Type 0) → HoldsElse Q → (s : State) → Q (guest_session s)
-guest_holds Q h s =
+call_holds : (Q : Choice → Type 0) → HoldsElse Q → Begun Q → (s : State) → Q (call_session s)
+call_holds Q h b s =
+    of_any Q (λ c. called_session s.now s.limits c.id (call_in c.phase)) (find (in_phase is_connected_phase) s.connections) h.nothing (λ c. called_holds Q h b s.now s.limits c.id (call_in c.phase))
+
+guest_holds : (Q : Choice → Type 0) → HoldsElse Q → Begun Q → (s : State) → Q (guest_session s)
+guest_holds Q h b s =
     of_any Q (λ c. Start c.id (new_session s.now s.limits In s.limits.patience s.limits.longest)) (find (in_phase is_guest_phase) s.connections) h.nothing
-    (λ c. h.start c.id (new_session s.now s.limits In s.limits.patience s.limits.longest))
+    (λ c. b c.id (new_session s.now s.limits In s.limits.patience s.limits.longest))
 
 turn_holds : (Q : Choice → Type 0) (k : Kind) (q g u : Choice) → Q q → Q g → Q u → Q (in_turn k q g u)
 turn_holds Q Queries q g u fq fg fu = either Q g (or_else u q) fg (either Q u q fu fq)
@@ -127,29 +130,29 @@ inspection_holds Q h s Off = h.nothing
 inspection_holds Q h s Reviewing = h.nothing
 inspection_holds Q h s (At t) = elim (nat_le t s.now) as (λ b. Q (if b then Inspect else Nothing)) [ true ↦ h.inspect | false ↦ h.nothing ]
 
-between_holds : (Q : Choice → Type 0) → HoldsElse Q → (s : State) → Q (between_jobs s)
-between_holds Q h s =
+between_holds : (Q : Choice → Type 0) → HoldsElse Q → (s : State) → Q (guest_session s) → Q (call_session s) → Q (between_jobs s)
+between_holds Q h s guest call =
     let turn = in_turn s.last (consult s) (guest_session s) (update s is_update_phase) in
     either Q (inspection s s.clock) (or_else (update s is_owed_phase) (or_else (call_session s) turn)) (inspection_holds Q h s s.clock)
     (either Q (update s is_owed_phase) (or_else (call_session s) turn) (update_holds Q h s is_owed_phase)
-    (either Q (call_session s) turn (call_holds Q h s)
-    (turn_holds Q s.last (consult s) (guest_session s) (update s is_update_phase) (consult_holds Q h s) (guest_holds Q h s) (update_holds Q h s is_update_phase))))
+    (either Q (call_session s) turn call
+    (turn_holds Q s.last (consult s) (guest_session s) (update s is_update_phase) (consult_holds Q h s) guest (update_holds Q h s is_update_phase))))
 
-outside_holds : (Q : Choice → Type 0) → HoldsElse Q → (s : State) → Q (outside s)
-outside_holds Q h s = cases (list_any (in_phase is_copying_phase) s.connections) (is_ending s.course)
+outside_holds : (Q : Choice → Type 0) → HoldsElse Q → (s : State) → Q (guest_session s) → Q (call_session s) → Q (outside s)
+outside_holds Q h s guest call = cases (list_any (in_phase is_copying_phase) s.connections) (is_ending s.course)
   where
     cases : (a b : Bool) → Q (if a then consult s else (if b then Nothing else between_jobs s))
     cases true b = consult_holds Q h s
     cases false true = h.nothing
-    cases false false = between_holds Q h s
+    cases false false = between_holds Q h s guest call
 
-job_for_holds : (Q : Choice → Type 0) → HoldsElse Q → (s : State) (at : Option Connection) → Q (job_for s at)
-job_for_holds Q h s None = outside_holds Q h s
-job_for_holds Q h s (Some c) = within_holds Q h s c.id c.phase
+job_for_holds : (Q : Choice → Type 0) → HoldsElse Q → (s : State) (at : Option Connection) → Q (guest_session s) → Q (call_session s) → Q (job_for s at)
+job_for_holds Q h s None guest call = outside_holds Q h s guest call
+job_for_holds Q h s (Some c) guest call = within_holds Q h s c.id c.phase
 
-job_holds : (Q : Choice → Type 0) → HoldsElse Q → (s : State) → Q (job s)
-job_holds Q h s = elim (is_busy s) as (λ b. Q (if b then Nothing else job_for s (find (in_phase is_between_phase) s.connections)))
-    [ true ↦ h.nothing | false ↦ job_for_holds Q h s (find (in_phase is_between_phase) s.connections) ]
+job_holds : (Q : Choice → Type 0) → HoldsElse Q → (s : State) → Q (guest_session s) → Q (call_session s) → Q (job s)
+job_holds Q h s guest call = elim (is_busy s) as (λ b. Q (if b then Nothing else job_for s (find (in_phase is_between_phase) s.connections)))
+    [ true ↦ h.nothing | false ↦ job_for_holds Q h s (find (in_phase is_between_phase) s.connections) guest call ]
 
 departed_holds : (Q : Choice → Type 0) → HoldsElse Q → (st : Status) (cs : List Connection) → Q (departed st cs)
 departed_holds Q h st [] = h.depart st
@@ -161,9 +164,14 @@ departure_holds Q h s (Called st) = h.nothing
 departure_holds Q h s Past = h.nothing
 departure_holds Q h s (Ending st) = elim (is_reviewing s.clock) as (λ b. Q (if b then Nothing else departed st s.connections)) [ true ↦ h.nothing | false ↦ departed_holds Q h st s.connections ]
 
-pub settled_choice : (Q : Choice → Type 0) → HoldsElse Q → (s : State) → Q (expiry s) → Q (dismissed s s.course) → Q (orphaned s) → Q (call_over s) → Q (way_given s) → Q (choice s)
-settled_choice Q h s late away orphan over way =
-    each_choice Q s h.nothing (finish_holds Q h s s.course) late away orphan over way (admission_holds Q h s) (dial_holds Q h s) (job_holds Q h s) (departure_holds Q h s s.course)
+pub begun_choice : (Q : Choice → Type 0) → HoldsElse Q → (s : State) → Q (guest_session s) → Q (call_session s)
+    → Q (expiry s) → Q (dismissed s s.course) → Q (orphaned s) → Q (call_over s) → Q (way_given s) → Q (choice s)
+begun_choice Q h s guest call late away orphan over way =
+    each_choice Q s h.nothing (finish_holds Q h s s.course) late away orphan over way (admission_holds Q h s) (dial_holds Q h s) (job_holds Q h s guest call) (departure_holds Q h s s.course)
+
+pub settled_choice : (Q : Choice → Type 0) → HoldsElse Q → Begun Q → (s : State)
+    → Q (expiry s) → Q (dismissed s s.course) → Q (orphaned s) → Q (call_over s) → Q (way_given s) → Q (choice s)
+settled_choice Q h b s late away orphan over way = begun_choice Q h s (guest_holds Q h b s) (call_holds Q h b s) late away orphan over way
 
 -- what holds of each of its replies holds of what becomes of one whom the end of the station concerns
 pub dismissal_holds : (Q : Reply → Type 0) → ((p : Phase) → Q (Refuse p Stopping)) → Q (Break Stopping) → Q (Leave Stopping) → (now : ℕ) (l : Limits) (d : Door) (p : Phase) → Q (dismissal now l d p)

@@ -30,7 +30,6 @@ others s = record {
   finish = λ st. tt;
   admit = λ d. tt;
   inspect = tt;
-  start = λ id x. tt;
   proceed = λ id x. tt;
   consult = λ id. tt;
   perform = λ id. tt;
@@ -77,7 +76,7 @@ way_timely s o = by_session (find (in_phase is_between_phase) s.connections) ref
 
 pub choice_timely : (s : State) → IsDistinct s → IsOfTime s (choice s)
 choice_timely s o =
-    settled_choice (IsOfTime s) (others s) s (expiry_timely s o) (dismissed_timely s s.course)
+    settled_choice (IsOfTime s) (others s) (λ id x. tt) s (expiry_timely s o) (dismissed_timely s s.course)
     (of_any (IsOfTime s) (λ c. Settle c.id (Leave Orphaned)) (find (is_orphan s.connections) s.connections) tt (λ c y. cc))
     (of_any (IsOfTime s) (λ c. Settle c.id (Respond (answered s.now (limits_now s) c.door 0))) (find (is_to_tell s.connections) s.connections) tt (λ c y. cc))
     (way_timely s o)
@@ -90,7 +89,6 @@ others_less s = record {
   finish = λ st. tt;
   admit = λ d. tt;
   inspect = tt;
-  start = λ id x. tt;
   proceed = λ id x. tt;
   consult = λ id. tt;
   perform = λ id. tt;
@@ -144,7 +142,7 @@ way_less s o = by_session (find (in_phase is_between_phase) s.connections) refl
 
 pub choice_less : (s : State) → IsDistinct s → IsOnceLess s (choice s)
 choice_less s o =
-    settled_choice (IsOnceLess s) (others_less s) s (expiry_less s o)
+    settled_choice (IsOnceLess s) (others_less s) (λ id x. tt) s (expiry_less s o)
     (dismissed_holds (IsOnceLess s) (others_less s) s s.course (λ id p. tt) (λ id. tt) (λ id. tt))
     (of_any (IsOnceLess s) (λ c. Settle c.id (Leave Orphaned)) (find (is_orphan s.connections) s.connections) tt (λ c. tt))
     (of_any (IsOnceLess s) (λ c. Settle c.id (Respond (answered s.now (limits_now s) c.door 0))) (find (is_to_tell s.connections) s.connections) tt (λ c. tt))

@@ -731,7 +731,7 @@ chosen_limits s (Lend id) = refl
 chosen_limits s (Seek id c) = refl
 chosen_limits s (Depart st) = refl
 
-step_limits : (s : State) (m : Move) → (step s m).0.limits ≡ s.limits
+pub step_limits : (s : State) (m : Move) → (step s m).0.limits ≡ s.limits
 step_limits s (Tell e) = received_limits s e
 step_limits s Ask = chosen_limits s (choice s)
 

@@ -17,7 +17,7 @@ use Rattle.oftp_schedule.specs.declared.connection.Session.{Session}
 use Rattle.oftp_schedule.specs.declared.connection.Limits.{Limits}
 use Rattle.oftp_schedule.specs.declared.connection.Connection.{Connection}
 use Rattle.oftp_schedule.specs.Rules.{is_awaited, answered, is_late, once_less, late, is_between_phase, is_guest_phase, in_phase, is_orphan, is_to_tell}
-use Rattle.oftp_schedule.specs.Machine.{State, limits_now, choice_of, finish, expiry, orphaned, call_over, yielded, yield_to, yield_for, way_given, admit, consult, choice}
+use Rattle.oftp_schedule.specs.Machine.{State, limits_now, choice_of, expiry, orphaned, call_over, yielded, yield_to, yield_for, way_given, choice}
 use Rattle.oftp_schedule.specs.Deadlines.{AreRivals, YieldsInTime}
 use Rattle.oftp_schedule.proofs.Settled.{HoldsElse, dismissed_holds, settled_choice}
 
@@ -58,7 +58,6 @@ else_yields s = record {
   finish = λ st y. cc;
   admit = λ d y. cc;
   inspect = λ y. cc;
-  start = λ id x y. cc;
   proceed = λ id x y. cc;
   consult = λ id y. cc;
   perform = λ id y. cc;
@@ -101,7 +100,7 @@ way_yields s = by_session (find (in_phase is_between_phase) s.connections) refl
 
 choice_yields : (s : State) → Yields s (choice s)
 choice_yields s =
-    settled_choice (Yields s) (else_yields s) s
+    settled_choice (Yields s) (else_yields s) (λ id x y. cc) s
     (no_yield s (expiry s) (else_any (λ c. Settle c.id (late s.now (limits_now s) c.door c.phase)) (find (is_late s.now) s.connections) (λ c. late_else c.id s.now (limits_now s) c.door c.phase)))
     (dismissed_holds (Yields s) (else_yields s) s s.course (λ id p y. cc) (λ id y. cc) (λ id y. cc))
     (no_yield s (orphaned s) (else_any (λ c. Settle c.id (Leave Orphaned)) (find (is_orphan s.connections) s.connections) (λ c. refl)))

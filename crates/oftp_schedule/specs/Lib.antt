@@ -7,5 +7,6 @@ pub mod Ends
 pub mod Doors
 pub mod Life
 pub mod Deadlines
+pub mod Calls
 pub mod Wakeups
 pub mod Accepting

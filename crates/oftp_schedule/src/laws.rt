@@ -1,6 +1,6 @@
 //! What holds of every run of the schedule, whatever is told: each law is the contract of a function that does nothing.
 
-ghost use Rattle.std.specs.Prelude.{◌≡◌, List, true, ◌≢◌, ◌≤◌, ◌+◌, ◌++◌, ◌∷◌, ℕ};
+ghost use Rattle.std.specs.Prelude.{◌≡◌, List, Some, true, ◌≢◌, ◌≤◌, ◌+◌, ◌++◌, ◌∷◌, ℕ};
 ghost use Rattle.oftp_schedule.specs.declared.connection.Limits.{Limits};
 ghost use Rattle.oftp_schedule.specs.Machine.{State, Move, start, run, step, choice, is_ending};
 ghost use Rattle.oftp_schedule.specs.Apart.{IsApart, ChosenApart, IsPaced, IsDated, IsBrief, IsRested};
@@ -14,7 +14,9 @@ ghost use Rattle.oftp_schedule.specs.History.{Note, Ordered, history, watch};
 ghost use Rattle.oftp_schedule.specs.Life.{Unbegun, Whole, Broken, life, stage_of, hands, answers, declines, refusals, prints, asks_for, wants_call, handing, is_lost, times_ordered, times_told};
 ghost use Rattle.oftp_schedule.specs.declared.connection.Event.{Event};
 ghost use Rattle.oftp_schedule.specs.declared.connection.Phase.{Phase};
+ghost use Rattle.oftp_schedule.specs.declared.connection.Call.{Call};
 ghost use Rattle.oftp_schedule.specs.Deadlines.{IsWithin, SessionsEnd, KeepsEnds, KnowsDeadlines, KnowsClock, KnowsRests, KnowsRoom, KnowsQuiet, KnowsWay, IsUnmovedBy, IsUnmoved, IsKept, IsOnTime, GivesWay, YieldsInTime, IsOfTime, IsOnceLess, IsHastened, IsToCome};
+ghost use Rattle.oftp_schedule.specs.Calls.{HasOneEach, KeepsCalls, call_of_number, hang_ups};
 ghost use Rattle.oftp_schedule.specs.Wakeups.{GuestsAreAwake, UpdatesAreAwake, UpsAreAwake, ClockIsAwake, QueriesAreAwake, SessionIsAwake, CallsAreAwake, CommandsAreAwake, DoorsAreAwake, EndIsAwake, EndComes};
 
 /// Each deadline lies within its limit, a session ends in its time, and nothing moves that. `Schedule::poll_timeout` is no later than any
@@ -102,6 +104,16 @@ pub fn one_at_a_time()
     ensures dated { (limits : Limits) (before during : List Move) → IsDated (run (start limits) before) during }
     ensures brief { (limits : Limits) (moves : List Move) (next : Move) → IsBrief (run (start limits) moves) next }
     ensures rested { (limits : Limits) (before during after : List Move) → IsRested (run (start limits) before) during after }
+{}
+
+/// A call is of one partner and for one asker as long as it is there, whatever comes. It hangs up, to give way or because its session didn't
+/// begin, as often as the limits say and no more, and what it may still do so is the rest. The clock has one call of a partner at a time.
+pub fn calls_are_bounded()
+    ensures one_each { (limits : Limits) (moves : List Move) → HasOneEach (run (start limits) moves) }
+    ensures keeps { (limits : Limits) (before during : List Move) → KeepsCalls (run (start limits) before) during }
+    ensures left { (limits : Limits) (moves : List Move) (id : ℕ) (call : Call) → call_of_number id (run (start limits) moves) ≡ Some call →
+        hang_ups id (history (start limits) moves) + call.times ≡ limits.times }
+    ensures most { (limits : Limits) (moves : List Move) (id : ℕ) → hang_ups id (history (start limits) moves) ≤ limits.times }
 {}
 
 /// Of each kind the first in the table is served first, and a session begins only where no change or copy is owed that came within the last
