@@ -47,8 +47,8 @@ impl Wanted {
         let address = partner.address.as_str();
         Ok(Wanted {
             partner: called,
-            code: String::from_str(alloc, code).map_err(|_| Fault::MEMORY)?,
-            address: String::from_str(alloc, address).map_err(|_| Fault::MEMORY)?,
+            code: String::from_str(alloc, code)?,
+            address: String::from_str(alloc, address)?,
             tracing,
         })
     }

@@ -24,8 +24,8 @@ pub fn codes_of(alloc: Global, octets: &[u8]) -> Result<Vec<String>, Fault> {
     };
     for partner in partners {
         if let Some(code) = code_in(partner) {
-            let code = String::from_str(alloc, code).map_err(|_| Fault::MEMORY)?;
-            codes.push(code).map_err(|_| Fault::MEMORY)?;
+            let code = String::from_str(alloc, code)?;
+            codes.push(code)?;
         }
     }
     Ok(codes)

@@ -92,7 +92,7 @@ fn addresses_of(rt: &HostRuntime, address: &str) -> Result<Vec<SocketAddr>, Faul
         .to_socket_addrs(rt)
         .map_err(|error| socket_fault(&error))?;
     for address in found.take(MOST_ADDRESSES) {
-        addresses.push(address).map_err(|_| Fault::MEMORY)?;
+        addresses.push(address)?;
     }
     Ok(addresses)
 }

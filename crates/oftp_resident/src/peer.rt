@@ -162,9 +162,8 @@ impl<'a> Peer<'a> {
             self.sent = 0;
             return Ok(());
         }
-        self.out
-            .extend_from_slice(octets.as_slice())
-            .map_err(|_| Fault::MEMORY)
+        self.out.extend_from_slice(octets.as_slice())?;
+        Ok(())
     }
 
     /// Whether something can be read of it that is to be read, or sent to it.

@@ -121,8 +121,8 @@ pub fn serve<O: Office + Drop>(
     let alloc = rt.alloc();
     let limits = limits_of(bench, station);
     let began = Instant::now(rt).map_err(|_| Fault::Socket)?;
-    let schedule = Schedule::new(alloc, limits).map_err(|_| Fault::MEMORY)?;
-    let peers = Vec::with_capacity(alloc, MOST_PLACES).map_err(|_| Fault::MEMORY)?;
+    let schedule = Schedule::new(alloc, limits)?;
+    let peers = Vec::with_capacity(alloc, MOST_PLACES)?;
     let mut shell = Shell {
         rt,
         station: *station,
@@ -241,7 +241,7 @@ impl<'a> Shell<'a> {
     fn next_action(&mut self) -> Result<Option<Action>, Fault> {
         self.attend_all()?;
         self.tell_time()?;
-        self.schedule.poll_action().map_err(|_| Fault::MEMORY)
+        Ok(self.schedule.poll_action()?)
     }
 
     /// Whether an action ends this stretch of the loop.
@@ -312,15 +312,12 @@ impl<'a> Shell<'a> {
         match event {
             Event::Passed(time) => {
                 if time < LATEST {
-                    return self
-                        .schedule
-                        .handle(Event::Passed(time))
-                        .map_err(|_| Fault::MEMORY);
+                    self.schedule.handle(Event::Passed(time))?;
                 }
-                Ok(())
             }
-            other => self.schedule.handle(other).map_err(|_| Fault::MEMORY),
+            other => self.schedule.handle(other)?,
         }
+        Ok(())
     }
 
     /// Tells the schedule something of a connection.
