@@ -31,7 +31,7 @@ hangs_up a = false
 abbrev pub hang_ups : ℕ → List Note → ℕ
 hang_ups id ns = times_ordered hangs_up id ns
 
--- d is what call c is after it hung up k times: of the same partner, for the same asker, and as often less as that may it do so
+-- d is call c after it hung up k times: it is of the same partner and for the same asker, and may do so k times less
 abbrev pub IsSameCall : ℕ → Call → Call → Type 0
 IsSameCall k c d = (d.partner ≡ c.partner) × (d.asker ≡ c.asker) × (d.times + k ≡ c.times)
 
