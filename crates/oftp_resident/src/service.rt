@@ -148,6 +148,23 @@ fn watch_over(rt: &HostRuntime, bench: &Bench<'_>) -> io::Result<Watch> {
     Ok(watch)
 }
 
+/// The service's own book, and that of a call if both are there.
+fn books_of<'b>(own: &'b Book, call: Option<u64>, book: &'b Option<Book>) -> Books<'b> {
+    let lent = match call {
+        Some(id) => lent_for(id, book),
+        None => None,
+    };
+    Books { own, lent }
+}
+
+/// The book that is lent for a call, if it is there.
+fn lent_for(id: u64, book: &Option<Book>) -> Option<(u64, &Book)> {
+    match book {
+        Some(book) => Some((id, book)),
+        None => None,
+    }
+}
+
 /// The limits of the schedule.
 fn limits_of(bench: &Bench<'_>, station: &Station<'_>) -> Limits {
     let most = u32::try_from(bench.places).unwrap_or(u32::MAX);
@@ -183,11 +200,8 @@ impl<'a> Shell<'a> {
         for _ in 0..u64::MAX {
             let own = self.station.book;
             let book = self.book_of_call(call);
-            let lent = match (call, &book) {
-                (Some(id), Some(book)) => Some((id, book)),
-                _ => None,
-            };
-            match self.work(Books { own, lent }, call, keeper, reporter)? {
+            let books = books_of(own, call, &book);
+            match self.work(books, call, keeper, reporter)? {
                 Pause::Ended(status) => return match result_at(self.fault, status) {
                     Some(fault) => Err(fault),
                     None => Ok(()),
