@@ -28,7 +28,7 @@ use Rattle.oftp_tables.specs.Schema.{office_schema}
 use Rattle.oftp_tables.specs.Stands.{Stands}
 use Rattle.oftp_tables.specs.Statements.{IsFaultOf, Looks}
 use Rattle.oftp_tables.specs.Tables.{Tables, register_in}
-use Rattle.oftp_store.specs.Causes.{Fits, HasCause, HasCommitCause, HasQueryCause, IsCause, IsQueryCause, Query, error, number, query, reading, row, size, sql_of, values_of, writing}
+use Rattle.oftp_store.specs.Causes.{Fits, HasCause, HasCauseWhere, HasCommitCause, HasQueryCause, IsCause, IsQueryCause, Misfits, Query, error, number, query, reading, row, size, sql_of, values_of, writing}
 use Rattle.oftp_store.specs.Commits.{AreCarriedOut, Finds, MakesEdits}
 use Rattle.oftp_store.specs.Edits.{IsStorable}
 use Rattle.oftp_store.specs.FileProgress.{incoming_told, outgoing_told}
@@ -80,6 +80,13 @@ query_misread_by g text params Fit old new first (Ok x) shown unfit = tt
 query_misread_by g text params Fit old new None (Err fault) shown unfit = absurd unfit
 query_misread_by g text params Fit old new (Some here) (Err fault) shown unfit = query_misread g text params Fit old new (Some here) here fault refl shown (λ is. unfit)
 
+-- one of its rows
+pub query_misread_in : {S T : Type 0} (g : Ghosts S) (text : List ℕ) (params : Row) (Fit : Row → Type 0) (old new : Held S) (rows : List Row) (result : Result T OfficeFault)
+    → (HasCleanDisk (state g new) → Shown text params (state g old) (state g new) rows) → IfErr result (λ fault. fault ≡ Store → Misfits Fit rows)
+    → IfErr result (HasQueryCause g text params Fit old new)
+query_misread_in g text params Fit old new rows (Ok x) shown unfit = tt
+query_misread_in g text params Fit old new rows (Err fault) shown unfit = record { cause = λ is clean. let m = unfit is in row rows m.0 m.1 (shown clean) m.2 m.3 }
+
 -- it is a query of the office
 
 pub asked : {S : Type 0} (g : Ghosts S) (q : Query) (params : Row) (old new : Held S) (fault : OfficeFault) → length params ≡ values_of q
@@ -115,12 +122,17 @@ pub passed_after : {S A B C : Type 0} (g : Ghosts S) (old mid new : Held S) (x :
 passed_after {B = B} g old mid new x fault result one two told passed =
     err_passed (HasCause g old new) fault result passed (told_after {B = B} g old mid new x (Err fault) one two told)
 
+-- what can't be over an office that stands has every cause
+pub never_told : {S : Type 0} (g : Ghosts S) (old new : Held S) (fault : OfficeFault) → (HasCleanDisk (state g new) → (limits : Limits) → Stands limits (state g old) → ⊥)
+    → HasCause g old new fault
+never_told g old new fault never = record { cause = λ is clean limits stands. absurd (never clean limits stands) }
+
 -- the file of a number that was read is there
 
 pub lost_told : {S T : Type 0} (g : Ghosts S) (old new : Held S) (fault : OfficeFault) (result : Result T OfficeFault)
     → (HasCleanDisk (state g new) → (limits : Limits) → Stands limits (state g old) → ⊥) → IsErrAnd result (λ (passed : OfficeFault). passed ≡ fault) → IfErr result (HasCause g old new)
 lost_told g old new fault result never passed =
-    err_passed (HasCause g old new) fault result passed (record { cause = λ is clean limits stands. absurd (never clean limits stands) })
+    err_passed (HasCause g old new) fault result passed (never_told g old new fault never)
 
 none_is : {A : Type 0} (o : Option A) → false ≡ is_some o → o ≡ None
 none_is None none = refl

@@ -2,7 +2,7 @@
 use Rattle.std.proofs.Common.{◌≡◌, ◌+◌, ◌*◌, ◌≤◌, ℕ, List, length, take, drop, min, sym, ap, ◌∙◌, arith, take_all, length-append}
 use Rattle.std.proofs.Math.Seq.{take-add}
 use Rattle.std.proofs.lemmas.Grind.{flat_map-append}
-use Rattle.std.proofs.lemmas.List.{length-drop, take_min}
+use Rattle.std.proofs.lemmas.List.{length-drop, length-take, take_min}
 use Rattle.oftp_vfile.specs.VirtualFile.{units_in}
 use Rattle.oftp_vfile.specs.declared.format.TheConstants.{MOST_ROWS}
 use Rattle.oftp_register.specs.declared.entries.Side.{Side}
@@ -18,6 +18,16 @@ asked_rows r which n from most sound =
     let few : length rest ≤ MOST_ROWS = omega (arith, few_rows r which n sound, length-drop from (file_rows r which n)) in
     let same : min (min most MOST_ROWS) (length rest) ≡ min most (length rest) = omega (arith, few) in
     sym (take_min (min most MOST_ROWS) rest) ∙ ap (λ m. take m rest) same ∙ take_min most rest
+
+-- so no more are returned, nor more than follow the first of them
+pub few_asked : (r : Register) (which : Side) (n from most count : ℕ) → IsSound r → count ≡ length (take (min most MOST_ROWS) (drop from (file_rows r which n)))
+    → (count ≤ most) × (from ≤ MOST_ROWS → from + count ≤ MOST_ROWS)
+few_asked r which n from most count sound is =
+    let rest = drop from (file_rows r which n) in
+    let part = length-take (min most MOST_ROWS) rest in
+    let left = length-drop from (file_rows r which n) in
+    let few = few_rows r which n sound in
+    (omega (arith, is, part), λ within. omega (arith, is, part, left, few, within))
 
 -- one page more
 pub page_more : (k : ℕ) (rows : List (List ℕ)) → units_in (take (k * 64) rows) + units_in (take 64 (drop (k * 64) rows)) ≡ units_in (take ((k + 1) * 64) rows)

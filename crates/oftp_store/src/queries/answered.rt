@@ -4,6 +4,8 @@ ghost use Rattle.std.specs.Prelude.{◌≡◌, Some, IfErr, IfOk};
 ghost use Rattle.oftp_register.specs.LookUps.{answered_entry, list_answered};
 ghost use Rattle.oftp_register.specs.Offices.{IsFailure};
 ghost use Rattle.oftp_store.specs.Reads.{all_listed, paged_answered, paged_answered_file, paged_answered_number};
+ghost use Rattle.oftp_store.specs.Causes.{HasAnswered, PageAnswered};
+ghost use Rattle.oftp_store.specs.declared.queries.last_number.Table.TheVariants as table;
 
 use super::last_number::Table;
 use super::lists::Listed;
@@ -16,6 +18,7 @@ use std::alloc::Global;
 // The number of the file in a row of a page, if there is one. A value that is no number is an error of the store.
 fn file_no_in(row: &Row) -> Result<Option<u64>, OfficeFault>
     ensures told { IfOk result (λ file. file ≡ paged_answered_file row.now) }
+    ensures unfit { IfErr result (λ _. ¬ HasAnswered row.now) }
     ensures fails { IfErr result IsFailure }
 {
     match row.get_ref(1) {
@@ -27,6 +30,7 @@ fn file_no_in(row: &Row) -> Result<Option<u64>, OfficeFault>
 // The response in a row of a page, with its number and that of its file.
 fn answered_in(row: &Row, no: u64) -> Result<Option<AnsweredEntry>, OfficeFault>
     ensures told { IfOk result (λ found. no ≡ paged_answered_number row.now → found ≡ Some (paged_answered row.now)) }
+    ensures unfit { IfErr result (λ _. ¬ HasAnswered row.now) }
     ensures fails { IfErr result IsFailure }
 {
     let file = file_no_in(row)?;
@@ -34,6 +38,10 @@ fn answered_in(row: &Row, no: u64) -> Result<Option<AnsweredEntry>, OfficeFault>
 }
 
 impl Listed for AnsweredEntry {
+    ghost asked = { PageAnswered };
+
+    ghost counted = { table.ReceivedResponses };
+
     ghost items = { λ r. all_listed (answered_entry r) r.received };
 
     ghost entries = { list_answered };

@@ -5,6 +5,8 @@ ghost use Rattle.oftp_register.specs.LookUps.{incoming_entry, issued_entry, list
 ghost use Rattle.oftp_register.specs.Offices.{IsFailure};
 ghost use Rattle.oftp_store.specs.Reads.{all_listed, paged_entry, paged_file, paged_issued, paged_number, paged_response};
 ghost use Rattle.oftp_store.specs.Texts.{in_page_text};
+ghost use Rattle.oftp_store.specs.Causes.{Fits, HasAnswer, PageIn};
+ghost use Rattle.oftp_store.specs.declared.queries.last_number.Table.TheVariants as table;
 
 use super::by_number::ByNumber;
 use super::file_by_number::incoming_of;
@@ -29,6 +31,7 @@ fn in_page_text() -> &'static str
 // The response in a row of a page, if there is one.
 fn response_in(alloc: Global, row: &Row) -> Result<Option<IssuedResponse>, OfficeFault>
     ensures told { IfOk result (λ response. response ≡ paged_response row.now) }
+    ensures unfit { IfErr result (λ fault. fault ≡ OfficeFault.Store → ¬ HasAnswer 9 row.now) }
     ensures fails { IfErr result IsFailure }
 {
     match row.get_ref(9) {
@@ -45,6 +48,7 @@ fn file_in(
     rows: u32,
 ) -> Result<Option<IncomingEntry>, OfficeFault>
     ensures told { IfOk result (λ found. no ≡ paged_number row.now → found ≡ Some (paged_file row.now rows)) }
+    ensures unfit { IfErr result (λ fault. fault ≡ OfficeFault.Store → ¬ Fits PageIn row.now) }
     ensures fails { IfErr result IsFailure }
 {
     let header = IncomingHeader::from_row(alloc, row)?;
@@ -55,6 +59,7 @@ fn file_in(
 // The response in a row of a page, if there is one, with the number and the identity of its file.
 fn issued_in(alloc: Global, row: &Row, no: u64) -> Result<Option<IssuedEntry>, OfficeFault>
     ensures told { IfOk result (λ found. no ≡ paged_number row.now → found ≡ paged_issued row.now) }
+    ensures unfit { IfErr result (λ fault. fault ≡ OfficeFault.Store → ¬ Fits PageIn row.now) }
     ensures fails { IfErr result IsFailure }
 {
     let Some(response) = response_in(alloc, row)? else {
@@ -71,6 +76,10 @@ fn issued_in(alloc: Global, row: &Row, no: u64) -> Result<Option<IssuedEntry>, O
 
 // One statement more counts the rows of each file.
 impl Listed for IncomingEntry {
+    ghost asked = { PageIn };
+
+    ghost counted = { table.IncomingFiles };
+
     ghost items = { λ r. all_listed incoming_entry r.incoming };
 
     ghost entries = { list_in };
@@ -101,6 +110,10 @@ impl Listed for IncomingEntry {
 }
 
 impl Listed for IssuedEntry {
+    ghost asked = { PageIn };
+
+    ghost counted = { table.IncomingFiles };
+
     ghost items = { λ r. numbered issued_entry 1 r.incoming };
 
     ghost entries = { list_issued };
