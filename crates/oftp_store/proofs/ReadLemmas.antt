@@ -29,6 +29,12 @@ got_at [] i x h is = absurd (omega (arith, h))
 got_at (y ∷ xs) zero x h is = ap Some (sym is)
 got_at (y ∷ xs) (suc i) x h is = got_at xs i x (omega (arith, h)) is
 
+-- a column that a row has
+pub column_got : (row : Row) (at : ℕ) (v : Value) → slice_get row at ≡ Some v → column row at ≡ v
+column_got [] at v is = absurd (let no_such = is in cc)
+column_got (first ∷ row) zero v is = cc
+column_got (first ∷ row) (suc at) v is = column_got row at v is
+
 -- the SQL of a look-up is this command over the office's tables, and nothing else
 pub record IsRead (text : List ℕ) (command : Command) : Type 0 where
   pub is : command_of (understood office_schema text) ≡ command

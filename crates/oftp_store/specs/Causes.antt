@@ -186,7 +186,7 @@ pub data IsCause {S : Type 0} (g : Ghosts S) (r : Register) (new : Held S) : Typ
 -- the cause of an error at a row of a page: that of a look-up, or the row fits no entry, and the connection is as it was
 pub data IsRowCause {S : Type 0} (g : Ghosts S) (asked : Query) (r : Register) (row : Row) (old new : Held S) : Type 0 where
   asking : IsCause g r new → IsRowCause g asked r row old new
-  unfit : ¬ Fits asked row → IsUnchanged (state g old) (state g new) → IsRowCause g asked r row old new
+  misread : ¬ Fits asked row → IsUnchanged (state g old) (state g new) → IsRowCause g asked r row old new
 
 -- The cause of a change: that of a look-up; or the register makes it, and its transaction ended with an error other than out of memory,
 -- or the database can't store what makes it.

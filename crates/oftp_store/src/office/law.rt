@@ -160,7 +160,7 @@ impl<S: Alter> Office for SqlOffice<S> {
         ensures looks { LooksUp (λ r entries. entries.items ≡ list_in r) (shown S.Store self.old) (shown S.Store self.new) result }
         ensures told { IfErr result (HasCause S.Store self.old.conn self.new.conn) }
     {
-        let entries = lists::list(self.alloc, &mut self.conn);
+        let entries = lists::list::<IncomingEntry, S>(self.alloc, &mut self.conn);
         counted(&mut self.faults, entries)
     }
 
@@ -168,7 +168,7 @@ impl<S: Alter> Office for SqlOffice<S> {
         ensures looks { LooksUp (λ r entries. entries.items ≡ list_out r) (shown S.Store self.old) (shown S.Store self.new) result }
         ensures told { IfErr result (HasCause S.Store self.old.conn self.new.conn) }
     {
-        let entries = lists::list(self.alloc, &mut self.conn);
+        let entries = lists::list::<OutgoingEntry, S>(self.alloc, &mut self.conn);
         counted(&mut self.faults, entries)
     }
 
@@ -176,7 +176,7 @@ impl<S: Alter> Office for SqlOffice<S> {
         ensures looks { LooksUp (λ r entries. entries.items ≡ list_issued r) (shown S.Store self.old) (shown S.Store self.new) result }
         ensures told { IfErr result (HasCause S.Store self.old.conn self.new.conn) }
     {
-        let entries = lists::list(self.alloc, &mut self.conn);
+        let entries = lists::list::<IssuedEntry, S>(self.alloc, &mut self.conn);
         counted(&mut self.faults, entries)
     }
 
@@ -184,7 +184,7 @@ impl<S: Alter> Office for SqlOffice<S> {
         ensures looks { LooksUp (λ r entries. entries.items ≡ list_received r) (shown S.Store self.old) (shown S.Store self.new) result }
         ensures told { IfErr result (HasCause S.Store self.old.conn self.new.conn) }
     {
-        let entries = lists::list(self.alloc, &mut self.conn);
+        let entries = lists::list::<ReceivedEntry, S>(self.alloc, &mut self.conn);
         counted(&mut self.faults, entries)
     }
 
@@ -192,7 +192,7 @@ impl<S: Alter> Office for SqlOffice<S> {
         ensures looks { LooksUp (λ r entries. entries.items ≡ list_answered r) (shown S.Store self.old) (shown S.Store self.new) result }
         ensures told { IfErr result (HasCause S.Store self.old.conn self.new.conn) }
     {
-        let entries = lists::list(self.alloc, &mut self.conn);
+        let entries = lists::list::<AnsweredEntry, S>(self.alloc, &mut self.conn);
         counted(&mut self.faults, entries)
     }
 

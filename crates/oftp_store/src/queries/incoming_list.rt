@@ -6,17 +6,15 @@ ghost use Rattle.oftp_register.specs.Offices.{IsFailure};
 ghost use Rattle.oftp_store.specs.Reads.{all_listed, paged_entry, paged_file, paged_issued, paged_number, paged_response};
 ghost use Rattle.oftp_store.specs.Texts.{in_page_text};
 ghost use Rattle.oftp_store.specs.Causes.{Fits, HasAnswer, PageIn};
-ghost use Rattle.oftp_store.specs.declared.queries.last_number.Table.TheVariants as table;
 
 use super::by_number::ByNumber;
 use super::file_by_number::incoming_of;
 use super::header::IncomingHeader;
 use super::last_number::Table;
-use super::lists::Listed;
+use super::lists::{Listed, is_null};
 use super::response::response_at;
 use super::rows::count_rows;
 use oftp_register::{IncomingEntry, IssuedEntry, IssuedResponse, OfficeFault, Side};
-use sqlite::types::ValueRef;
 use sqlite::{Alter, Connection, Row};
 use std::alloc::Global;
 
@@ -34,10 +32,10 @@ fn response_in(alloc: Global, row: &Row) -> Result<Option<IssuedResponse>, Offic
     ensures unfit { IfErr result (λ fault. fault ≡ OfficeFault.Store → ¬ HasAnswer 9 row.now) }
     ensures fails { IfErr result IsFailure }
 {
-    match row.get_ref(9) {
-        Ok(ValueRef::Null) => Ok(None),
-        _ => Ok(Some(response_at(alloc, row, 9)?)),
+    if is_null(row, 9) {
+        return Ok(None);
     }
+    Ok(Some(response_at(alloc, row, 9)?))
 }
 
 // The file in a row of a page, with its number and so many rows.
@@ -78,8 +76,6 @@ fn issued_in(alloc: Global, row: &Row, no: u64) -> Result<Option<IssuedEntry>, O
 impl Listed for IncomingEntry {
     ghost asked = { PageIn };
 
-    ghost counted = { table.IncomingFiles };
-
     ghost items = { λ r. all_listed incoming_entry r.incoming };
 
     ghost entries = { list_in };
@@ -111,8 +107,6 @@ impl Listed for IncomingEntry {
 
 impl Listed for IssuedEntry {
     ghost asked = { PageIn };
-
-    ghost counted = { table.IncomingFiles };
 
     ghost items = { λ r. numbered issued_entry 1 r.incoming };
 

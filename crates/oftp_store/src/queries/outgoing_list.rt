@@ -5,7 +5,6 @@ ghost use Rattle.oftp_register.specs.LookUps.{list_out, outgoing_entry};
 ghost use Rattle.oftp_register.specs.Offices.{IsFailure};
 ghost use Rattle.oftp_store.specs.Reads.{all_listed, outgoing_header_in, paged_out_entry, paged_out_file, paged_out_number};
 ghost use Rattle.oftp_store.specs.Causes.{Fits, PageOut};
-ghost use Rattle.oftp_store.specs.declared.queries.last_number.Table.TheVariants as table;
 
 use super::by_number::ByNumber;
 use super::file_by_number::outgoing_of;
@@ -37,8 +36,6 @@ fn file_in(
 // One statement more counts the rows of each file.
 impl Listed for OutgoingEntry {
     ghost asked = { PageOut };
-
-    ghost counted = { table.OutgoingFiles };
 
     ghost items = { λ r. all_listed outgoing_entry r.outgoing };
 

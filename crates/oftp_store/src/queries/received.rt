@@ -6,7 +6,6 @@ ghost use Rattle.oftp_register.specs.Offices.{IsFailure};
 ghost use Rattle.oftp_tables.specs.Tables.{TellsValues};
 ghost use Rattle.oftp_store.specs.Reads.{all_listed, paged_note, paged_received, paged_received_number, received_entry_of, received_header_in, received_note_in, received_note_values, received_values};
 ghost use Rattle.oftp_store.specs.Causes.{Fits, HasNote, HasReceived, HasTexts, PageReceived};
-ghost use Rattle.oftp_store.specs.declared.queries.last_number.Table.TheVariants as table;
 ghost use Rattle.oftp_store.specs.declared.queries.received.ReceivedHeader.{ReceivedHeader};
 ghost use Rattle.oftp_store.specs.declared.queries.received.ReceivedNote.{ReceivedNote};
 
@@ -120,8 +119,6 @@ fn received_in(alloc: Global, row: &Row, no: u64) -> Result<Option<ReceivedEntry
 
 impl Listed for ReceivedEntry {
     ghost asked = { PageReceived };
-
-    ghost counted = { table.ReceivedResponses };
 
     ghost items = { λ r. all_listed received_entry r.received };
 

@@ -1,4 +1,4 @@
-use Rattle.std.proofs.Common.{◌≡◌, ◌∙◌, length, min, take, drop, ap, sym, arith}
+use Rattle.std.proofs.Common.{◌≡◌, ◌∙◌, length, min, take, drop, ap, arith}
 use Rattle.oftp_register.specs.LookUps.{file_rows}
 use Rattle.oftp_store.proofs.CauseLemmas.{never_told}
 use Rattle.oftp_store.proofs.PageLemmas.{asked_rows, few_asked}
@@ -19,7 +19,7 @@ returns-then-len-most-clause-told g c =
     let r = register_in limits (state g.S.Store c.args.conn.now).now.trees in
     let rest = drop c.args.from (file_rows r c.args.side c.args.no) in
     let told = ap length (c.in_ok-rows.ensures.answer clean stands.holds.schema r stands.holds.tables ∙ ap (λ m. take m rest) c.min-few.ensures) in
-    let count : c.len-len.result ≡ length (take (min c.args.most MOST_ROWS) rest) = c.len-len.ensures ∙ sym c.in_ok-rows.rows.ok.0 ∙ told in
+    let count : c.len-len.result ≡ length (take (min c.args.most MOST_ROWS) rest) = omega (arith, c.len-len.ensures, c.in_ok-rows.rows.ok.0, told) in
     let few = few_asked r c.args.side c.args.no c.args.from c.args.most c.len-len.result stands.holds.sound count in
     elim c.then-len-most.branch [
       | then-len-most-via-then-len-most w ↦ omega (arith, few.0, w.if-len-most.true)
