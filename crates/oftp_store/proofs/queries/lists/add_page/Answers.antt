@@ -1,7 +1,7 @@
 use Rattle.std.proofs.Common.{◌≡◌, ◌∙◌, ◌++◌, ◌+◌, ◌<◌, ◌^◌, [], ◌∷◌, Some, suc, slice_get, length, map, take, ap, sym, append_assoc, append-nil, take_all, arith}
 use Rattle.std.specs.List.{filter_map}
 use Rattle.sqlite.specs.Held.{state}
-use Rattle.sqlite.specs.Order.{column}
+use Rattle.sqlite.specs.Order.{Row, column}
 use Rattle.oftp_register.specs.Register.{Register}
 use Rattle.oftp_register.specs.LookUps.{entry_at}
 use Rattle.oftp_tables.specs.Tables.{number_in, number_value, register_in}
@@ -50,6 +50,7 @@ rows-preserved g c =
             c.in_ok-add_if_any.ensures.added ∙ ap (λ es. es ++ listed found) known.0 ∙ append_assoc before so_far (listed found)
                 ∙ ap (λ es. before ++ es) (listed_more told items c.rows.row-index row found c.rows-test.true (sym c.row-item.is) is),
             known.1,
+            known.2,
           ));
       last = omega (arith, c.in_ok-no.ensures.next, c.rows.invariant.last);
     }
@@ -60,7 +61,7 @@ returns-clause-answer g c clean has r kept sound =
     let before = c.args.entries.now.items in
     known.0
     ∙ ap (λ rows. before ++ filter_map (λ item. item) (map (g.E.Listed.told r) rows)) (take_all c.rows.row-index c.as_slice-row-items.result.now (omega arith))
-    ∙ ap (λ told. before ++ filter_map (λ item. item) told) known.1.0
+    ∙ ap (λ told. before ++ filter_map (λ item. item) told) known.1
 
 pub returns-in_err-rows-clause-told : goal.returns-in_err-rows-clause-told
 returns-in_err-rows-clause-told g c =
@@ -71,15 +72,14 @@ pub returns-in_err-no-clause-told : goal.returns-in_err-no-clause-told
 returns-in_err-no-clause-told g c =
     let items = c.as_slice-row-items.result.now in
     let row = c.row-item.result in
-    let number = λ row. number_in (column row g.E.Listed.NUMBER) in
     err_passed (HasCauseWhere g.S.Store (λ r. length (g.E.Listed.items r) < 2 ^ 63) c.args.conn.now c.rows.conn) c.in_err-no.field-0.0 _ c.from_residual-in_err-no.ensures.1 (record {
       cause = λ is clean limits stands few.
           let r = register_in limits (state g.S.Store c.args.conn.now).now.trees in
           let known = c.rows.invariant.known.known clean stands.holds.schema r stands.holds.tables stands.holds.sound in
-          let numbers = c.in_ok-rows.ensures.numbers known.1.1 stands.holds.schema r stands.holds.tables stands.holds.sound in
+          let numbers = c.in_ok-rows.ensures.numbers known.2 stands.holds.schema r stands.holds.tables stands.holds.sound in
           let here = got_at items c.rows.row-index row c.rows-test.true c.row-item.is in
           let next = number_at g.E.Listed.NUMBER items (g.E.Listed.items r) c.args.behind c.rows.row-index c.rows.last row
-          (ap (map number) c.as_slice-row-items.ensures.value ∙ numbers) here c.rows.invariant.last in
+          (ap (map (λ (row : Row). number_in (column row g.E.Listed.NUMBER))) c.as_slice-row-items.ensures.value ∙ numbers) here c.rows.invariant.last in
           let far = c.in_err-no.ensures.unfit (ap (column row) c.NUMBER.ensures ∙ next.0) in
           absurd (omega (arith, few, next.1, far));
     })
@@ -97,8 +97,8 @@ returns-in_err-found-clause-told g c =
     let r = register_in limits (state g.S.Store c.args.conn.now).now.trees in
     let known = c.rows.invariant.known.known clean stands.holds.schema r stands.holds.tables stands.holds.sound in
     let number : c.in_ok-no.no ≡ suc (c.args.behind + c.rows.row-index) = omega (arith, c.in_ok-no.ensures.next, c.rows.invariant.last) in
-    let item = item_at (g.E.Listed.told r) items (g.E.Listed.items r) c.args.behind c.rows.row-index row known.1.0 here in
-    (c.in_ok-rows.ensures.shown known.1.1, ap (λ n. entry_at n (g.E.Listed.items r)) number ∙ item))
+    let item = item_at (g.E.Listed.told r) items (g.E.Listed.items r) c.args.behind c.rows.row-index row known.1 here in
+    (c.in_ok-rows.ensures.shown known.2, ap (λ n. entry_at n (g.E.Listed.items r)) number ∙ item))
     (c.in_err-found.ensures.told (c.in_ok-no.ensures.told ∙ ap (λ at. number_in (column row at)) c.NUMBER.ensures)) c.from_residual-in_err-found.ensures.1
 
 pub returns-in_err-add_if_any-clause-told : goal.returns-in_err-add_if_any-clause-told

@@ -11,4 +11,4 @@ pub returns-clause-answer : goal.returns-clause-answer
 returns-clause-answer g c clean has = IfOk-weaker c.issued_in.result _ _ (λ found told r kept sound. told) c.issued_in.ensures.told
 
 pub returns-clause-told : goal.returns-clause-told
-returns-clause-told g c no_is = row_unfit g.S.Store PageIn _ c.args.row.now c.args.conn.now c.issued_in.result c.issued_in.ensures.unfit
+returns-clause-told g c no_is = row_unfit g.S.Store PageIn _ c.args.row.now c.args._conn.now c.issued_in.result c.issued_in.ensures.unfit

@@ -11,4 +11,4 @@ pub returns-clause-answer : goal.returns-clause-answer
 returns-clause-answer g c clean has = IfOk-weaker c.received_in.result _ _ (λ found told r kept sound. told) c.received_in.ensures.told
 
 pub returns-clause-told : goal.returns-clause-told
-returns-clause-told g c no_is = row_unfit g.S.Store PageReceived _ c.args.row.now c.args.conn.now c.received_in.result c.received_in.ensures.unfit
+returns-clause-told g c no_is = row_unfit g.S.Store PageReceived _ c.args.row.now c.args._conn.now c.received_in.result c.received_in.ensures.unfit
