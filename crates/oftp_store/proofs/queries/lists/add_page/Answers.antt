@@ -21,10 +21,10 @@ rows-init g c = record {
   known = record {
     looks = looks_other _ _ c.in_ok-rows.rows 0 c.in_ok-rows.ensures.looks;
     known = λ clean has r kept sound. (
-        sym (append-nil c.args.entries.now.items),
-        ap (map (g.E.Listed.told r)) c.as_slice-row-items.ensures.value ∙ c.in_ok-rows.ensures.answer clean has r kept sound,
-        clean,
-      );
+      sym (append-nil c.args.entries.now.items),
+      ap (map (g.E.Listed.told r)) c.as_slice-row-items.ensures.value ∙ c.in_ok-rows.ensures.answer clean has r kept sound,
+      clean,
+    );
   };
   last = omega arith;
 }
@@ -91,7 +91,8 @@ returns-in_err-found-clause-told g c =
     let here = got_at items c.rows.row-index row c.rows-test.true c.row-item.is in
     let At : Register → Type 0 = λ r. entry_at c.in_ok-no.no (g.E.Listed.items r) ≡ Some (g.E.Listed.told r row) in
     row_told g.S.Store g.E.Listed.asked _ At row (number_value c.args.behind ∷ number_value 128 ∷ []) c.in_ok-rows.rows.items c.rows.row-index c.args.conn.now c.find_page.new.conn c.rows.conn
-    c.from_page.new.conn 0 c.in_err-found.field-0.0 _ (sym c.in_ok-rows.ensures.given) c.in_ok-rows.ensures.plain (ap (λ rows. slice_get rows c.rows.row-index) (sym c.as_slice-row-items.ensures.value) ∙ here)
+    c.from_page.new.conn 0 c.in_err-found.field-0.0 _ (sym c.in_ok-rows.ensures.given) c.in_ok-rows.ensures.plain
+    (ap (λ rows. slice_get rows c.rows.row-index) (sym c.as_slice-row-items.ensures.value) ∙ here)
     c.rows.invariant.known.looks (clean_before g.S.Store _ _ _ c.in_err-found.ensures.looks)
     (λ clean limits stands.
     let r = register_in limits (state g.S.Store c.args.conn.now).now.trees in

@@ -11,4 +11,6 @@ pub returns-clause-answer : goal.returns-clause-answer
 returns-clause-answer g c clean has = IfOk-weaker c.answered_in.result _ _ (λ found told r kept sound. told) c.answered_in.ensures.told
 
 pub returns-clause-told : goal.returns-clause-told
-returns-clause-told g c no_is = row_unfit g.S.Store PageAnswered _ c.args.row.now c.args._conn.now c.answered_in.result (err_weaker c.answered_in.result (λ fault no is. no) c.answered_in.ensures.unfit)
+returns-clause-told g c no_is =
+    row_unfit g.S.Store PageAnswered _ c.args.row.now c.args._conn.now c.answered_in.result
+    (err_weaker c.answered_in.result (λ fault no is. no) c.answered_in.ensures.unfit)
