@@ -11,7 +11,7 @@ use Rattle.oftp_register.specs.declared.entry.ResponseKind.TheVariants.{EndRespo
 use Rattle.oftp_register.specs.Soundness.{IsResponse}
 use Rattle.oftp_tables.specs.Tables.{format_in, kind_in, number_in, number_value, reason_text}
 use Rattle.oftp_tables.proofs.BackLemmas.{format_back, kind_back}
-use Rattle.oftp_store.specs.Causes.{HasFile, HasReceived, HasResponse}
+use Rattle.oftp_store.specs.Causes.{HasFile, HasReceivedHeader, HasResponse}
 use Rattle.oftp_store.specs.Reads.{TellsResponse, if_told, paged_answered_file, paged_response, response_from}
 use Rattle.oftp_store.specs.declared.queries.header.FileHeader.{FileHeader}
 use Rattle.oftp_store.specs.declared.queries.received.ReceivedHeader.{ReceivedHeader}
@@ -46,10 +46,10 @@ response_fits row at kind reason text x kind_told reason_told text_told has =
 -- ---- received responses
 
 -- the kind that was read is that of the response
-pub received_kind : (row : Row) (kind : ResponseKind) (h : ReceivedHeader) → kind ≡ kind_in (bytes (column row 0)) → HasReceived h row → kind ≡ h.kind
+pub received_kind : (row : Row) (kind : ResponseKind) (h : ReceivedHeader) → kind ≡ kind_in (bytes (column row 0)) → HasReceivedHeader h row → kind ≡ h.kind
 received_kind row kind h is has = is ∙ ap (λ v. kind_in (bytes v)) has.values.0 ∙ kind_back h.kind
 
-pub received_reason : (row : Row) (kind : ResponseKind) (h : ReceivedHeader) → kind ≡ kind_in (bytes (column row 0)) → HasReceived h row
+pub received_reason : (row : Row) (kind : ResponseKind) (h : ReceivedHeader) → kind ≡ kind_in (bytes (column row 0)) → HasReceivedHeader h row
     → column row 6 ≡ value.Text (reason_text kind h.reason)
 received_reason row kind h is has = has.values.1.1.1.1.1.1.0 ∙ ap (λ k. value.Text (reason_text k h.reason)) (sym (received_kind row kind h is has))
 

@@ -132,7 +132,7 @@ abbrev pub HasAnswered : Row → Type 0
 HasAnswered row = (slice_get row 1 ≡ Some value.Null) ⊎ ((n : ℕ) × (column row 1 ≡ number_value n))
 
 -- a received response without its texts
-pub record HasReceived (h : ReceivedHeader) (row : Row) : Type 0 where
+pub record HasReceivedHeader (h : ReceivedHeader) (row : Row) : Type 0 where
   pub identity : TellsIdentity h.identity 1 row
   pub values : TellsValues (received_values h) 0 row
 
@@ -164,10 +164,10 @@ Fits (LastRow which) row = HasPosition row
 Fits (SomeRows which) row = HasBody row
 Fits PageIn row = HasIncoming row × HasAnswer 9 row
 Fits PageOut row = HasOutgoing row
-Fits PageReceived row = (h : ReceivedHeader) × HasReceived h row × HasTexts h.kind row
+Fits PageReceived row = (h : ReceivedHeader) × HasReceivedHeader h row × HasTexts h.kind row
 Fits PageAnswered row = HasAnswered row
 
--- one of the rows isn't
+-- one of the rows doesn't fit
 abbrev pub Misfits : (Row → Type 0) → List Row → Type 0
 Misfits Fit rows = (at : ℕ) × (row : Row) × (slice_get rows at ≡ Some row) × ¬ Fit row
 
@@ -203,7 +203,7 @@ pub record HasQueryCause {S : Type 0} (g : Ghosts S) (text : List ℕ) (params :
 pub record HasCause {S : Type 0} (g : Ghosts S) (old new : Held S) (fault : OfficeFault) : Type 0 where
   pub cause : fault ≡ Store → HasCleanDisk (state g new) → (limits : Limits) → Stands limits (state g old) → IsCause g (register_in limits (state g old).now.trees) new
 
--- the same, in a register of which this holds
+-- in a register of which this holds
 
 pub record HasCauseWhere {S : Type 0} (g : Ghosts S) (Holds : Register → Type 0) (old new : Held S) (fault : OfficeFault) : Type 0 where
   pub cause : fault ≡ Store → HasCleanDisk (state g new) → (limits : Limits) → Stands limits (state g old) → Holds (register_in limits (state g old).now.trees)
@@ -213,6 +213,7 @@ pub record HasRowCause {S : Type 0} (g : Ghosts S) (asked : Query) (Holds : Regi
   pub cause : fault ≡ Store → HasCleanDisk (state g new) → (limits : Limits) → Stands limits (state g old) → Holds (register_in limits (state g old).now.trees)
       → IsRowCause g asked (register_in limits (state g old).now.trees) row old new
 
--- that of a commit
+-- of a commit
+
 pub record HasCommitCause {S : Type 0} (g : Ghosts S) (limits : Limits) (change : Change) (old new : Held S) (fault : OfficeFault) : Type 0 where
   pub cause : fault ≡ Store → HasCleanDisk (state g new) → Stands limits (state g old) → IsCommitCause g (register_in limits (state g old).now.trees) change new

@@ -5,7 +5,7 @@ ghost use Rattle.oftp_register.specs.LookUps.{list_received, received_entry};
 ghost use Rattle.oftp_register.specs.Offices.{IsFailure};
 ghost use Rattle.oftp_tables.specs.Tables.{TellsValues};
 ghost use Rattle.oftp_store.specs.Reads.{all_listed, paged_note, paged_received, paged_received_number, received_entry_of, received_header_in, received_note_in, received_note_values, received_values};
-ghost use Rattle.oftp_store.specs.Causes.{Fits, HasNote, HasReceived, HasTexts, PageReceived};
+ghost use Rattle.oftp_store.specs.Causes.{Fits, HasNote, HasReceivedHeader, HasTexts, PageReceived};
 ghost use Rattle.oftp_store.specs.declared.queries.received.ReceivedHeader.{ReceivedHeader};
 ghost use Rattle.oftp_store.specs.declared.queries.received.ReceivedNote.{ReceivedNote};
 
@@ -38,7 +38,7 @@ pub(crate) struct ReceivedNote {
 fn header_in(row: &Row) -> Result<ReceivedHeader, OfficeFault>
     ensures told { IfOk result (λ header. header ≡ received_header_in row.now) }
     ensures fits { IfOk result (λ header. TellsValues (received_values header) 0 row.now) }
-    ensures unfit { IfErr result (λ _. (header : ReceivedHeader) → ¬ HasReceived header row.now) }
+    ensures unfit { IfErr result (λ _. (header : ReceivedHeader) → ¬ HasReceivedHeader header row.now) }
     ensures fails { IfErr result IsFailure }
 {
     let kind = kind_at(row, 0).ok_or(OfficeFault::Store)?;
