@@ -1,5 +1,4 @@
 use Rattle.std.proofs.Common.{◌∙◌, inl, inr, sym}
-use Rattle.oftp_store.specs.Causes.{HasAnswer}
 use Rattle.oftp_store.proofs.CommitLemmas.{err_passed}
 use Rattle.oftp_store.proofs.MisreadLemmas.{no_response_shown, response_shown}
 use Rattle.oftp_store.proofs.queries.incoming_list.response_in.Goals as goal
