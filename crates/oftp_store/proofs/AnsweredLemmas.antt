@@ -22,11 +22,11 @@ use Rattle.oftp_register.proofs.NameLemmas.{same_identity-true}
 use Rattle.oftp_tables.specs.Schema.{out_file_tree, received_tree}
 use Rattle.oftp_tables.specs.Tables.{number_in, out_file_row, received_row, rows_from}
 use Rattle.oftp_tables.proofs.TermLemmas.{and_true, equal, equal_texts}
-use Rattle.oftp_store.specs.Reads.{all_listed, if_told, paged_answered}
+use Rattle.oftp_store.specs.Reads.{all_listed, if_told, numbers_of, paged_answered, paged_answered_number}
 use Rattle.oftp_store.specs.Tells.{FindsPages}
 use Rattle.oftp_store.specs.Texts.{answered_page_text}
 use Rattle.oftp_store.proofs.FilingLemmas.{name_of, no_other}
-use Rattle.oftp_store.proofs.ListPageLemmas.{finds_by, joins_one, page_params, page_query, page_told}
+use Rattle.oftp_store.proofs.ListPageLemmas.{finds_also, finds_by, joins_one, numbers_same, page_params, page_query, page_told}
 use Rattle.oftp_store.proofs.ReadLemmas.{IsRead}
 
 -- ---- the query
@@ -111,16 +111,25 @@ joined r db behind n x table once =
     let test = λ (s : Row). list_all (holds (page_params behind ∷ received_row n x ∷ s ∷ [])) identity_on in
     ap (λ rows. or_nulls (filter test rows)) table ∙ one_named x.identity test (λ m f. answer_passes behind n m x f) 1 r.outgoing once
 
-row_back : (r : Register) (behind n : ℕ) (x : Received)
-    → paged_answered (eval_all page_project (page_params behind ∷ received_row n x ∷ answered_row r x ∷ [])) ≡ answered_entry r n x
+abbrev page_row : Register → ℕ → ℕ → Received → Row
+page_row r behind n x = eval_all page_project (page_params behind ∷ received_row n x ∷ answered_row r x ∷ [])
+
+row_back : (r : Register) (behind n : ℕ) (x : Received) → paged_answered (page_row r behind n x) ≡ answered_entry r n x
 row_back r behind n x = ap (λ file. let e : AnsweredEntry = record { no = n; file = file } in e) (named_number x.identity 1 r.outgoing)
 
+module _ {E : Type 0} (told : Row → E) (entry : Register → ℕ → Received → E) (back : (r : Register) (behind n : ℕ) (x : Received) → told (page_row r behind n x) ≡ entry r n x) where
+  finds_page : FindsPages answered_page_text (λ r row. told row) (λ r. numbered (entry r) 1 r.received)
+  finds_page = finds_by page_read (λ db behind rows answer r kept sound.
+      page_told received_row received_tree (left out_file_tree identity_on end) page_project db.trees behind r.received
+      (λ n x. page_params behind ∷ received_row n x ∷ answered_row r x ∷ []) (λ n x. refl)
+      (λ n before x after placed.
+      joins_one received_row (λ n x. refl) db.trees behind n x out_file_tree identity_on (answered_row r x)
+      (joined r db.trees behind n x kept.outgoing.headers sound.outgoing_once))
+      told (entry r) (λ n before x after placed. back r behind n x)
+      rows kept.received.responses_are (answer.answer Null))
+
 pub finds_answered : FindsPages answered_page_text (λ r row. Some (paged_answered row)) (λ r. all_listed (answered_entry r) r.received)
-finds_answered = finds_by page_read (λ db behind rows answer r kept sound.
-    page_told received_row received_tree (left out_file_tree identity_on end) page_project db.trees behind r.received
-    (λ n x. page_params behind ∷ received_row n x ∷ answered_row r x ∷ []) (λ n x. refl)
-    (λ n before x after placed.
-    joins_one received_row (λ n x. refl) db.trees behind n x out_file_tree identity_on (answered_row r x)
-    (joined r db.trees behind n x kept.outgoing.headers sound.outgoing_once))
-    (λ row. Some (paged_answered row)) (λ n x. Some (answered_entry r n x)) (λ n before x after placed. ap Some (row_back r behind n x))
-    rows kept.received.responses_are (answer.answer Null))
+finds_answered = finds_page (λ row. Some (paged_answered row)) (λ r n x. Some (answered_entry r n x)) (λ r behind n x. ap Some (row_back r behind n x))
+
+pub numbers_answered : FindsPages answered_page_text (λ r row. paged_answered_number row) (λ r. numbers_of (all_listed (answered_entry r) r.received))
+numbers_answered = finds_also _ (finds_page paged_answered_number (λ r n x. n) (λ r behind n x. refl)) (λ r. numbers_same (λ n x. Some (answered_entry r n x)) r.received)

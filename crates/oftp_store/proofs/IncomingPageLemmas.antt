@@ -23,12 +23,12 @@ use Rattle.oftp_register.specs.LookUps.{file_rows, incoming_entry, issued_entry,
 use Rattle.oftp_tables.specs.Schema.{in_file_tree, issued_tree}
 use Rattle.oftp_tables.specs.Tables.{HasReason, Tables, in_file_row, in_state_in, in_state_text, issued_if_any, issued_row, rows_in}
 use Rattle.oftp_tables.proofs.BackLemmas.{all_at_place, at_place, format_back, in_state_back, issued_back}
-use Rattle.oftp_store.specs.Reads.{IsPlaced, all_listed, incoming_entry_of, incoming_header_in, paged_entry, paged_file, paged_issued, paged_number, paged_response}
+use Rattle.oftp_store.specs.Reads.{IsPlaced, all_listed, incoming_entry_of, incoming_header_in, numbers_of, paged_entry, paged_file, paged_issued, paged_number, paged_response}
 use Rattle.oftp_store.specs.declared.queries.header.IncomingHeader.{IncomingHeader}
 use Rattle.oftp_store.specs.Tells.{FindsPages}
 use Rattle.oftp_store.specs.Texts.{in_page_text}
 use Rattle.oftp_store.proofs.EditLemmas.{issued_number, issued_piece, issued_pieces}
-use Rattle.oftp_store.proofs.ListPageLemmas.{finds_by, joins, page_on, page_params, page_query, page_told}
+use Rattle.oftp_store.proofs.ListPageLemmas.{finds_also, finds_by, joins, numbers_same, page_on, page_params, page_query, page_told}
 use Rattle.oftp_store.proofs.ProgressLemmas.{mapped_placed}
 use Rattle.oftp_store.proofs.ReadLemmas.{IsRead}
 
@@ -142,3 +142,6 @@ finds_issued = finds_page (λ r row. paged_issued row) issued_entry (λ r behind
     twice : (n : ℕ) (f : Incoming) (o : Option Issued) → option_map (so n f) (option_map issued_response o) ≡ option_map (λ x. so n f (issued_response x)) o
     twice n f None = refl
     twice n f (Some x) = refl
+
+pub numbers_incoming : {E : Type 0} (entry : ℕ → Incoming → E) → FindsPages in_page_text (λ r row. paged_number row) (λ r. numbers_of (numbered entry 1 r.incoming))
+numbers_incoming entry = finds_also _ (finds_page (λ r row. paged_number row) (λ n f. n) (λ r behind n f fit. refl)) (λ r. numbers_same entry r.incoming)

@@ -12,11 +12,12 @@ use Rattle.oftp_register.specs.declared.entries.IssuedResponse.{IssuedResponse}
 use Rattle.oftp_register.specs.declared.entries.Item.TheVariants as item
 use Rattle.oftp_register.specs.declared.entries.OutgoingEntry.{OutgoingEntry}
 use Rattle.oftp_register.specs.Register.{Register, Incoming, Issued, Outgoing}
-use Rattle.oftp_register.specs.LookUps.{is_next_file, is_next_response, issued_entry, issued_response, item_of, next_file, next_item, next_response, numbered, outgoing_entry}
+use Rattle.oftp_register.specs.LookUps.{entry_at, is_next_file, is_next_response, issued_entry, issued_response, item_of, next_file, next_item, next_response, numbered, outgoing_entry}
 use Rattle.oftp_tables.proofs.SpotLemmas.{Spot, past, spot, there, zeroth}
 use Rattle.oftp_store.specs.Reads.{IsPlaced, IsResponseTo, IsToldOf, incoming_header_of}
 use Rattle.oftp_store.specs.Tells.{issued_by_no, listed}
 use Rattle.oftp_store.specs.declared.queries.header.IncomingHeader.{IncomingHeader}
+use Rattle.oftp_store.proofs.NumberLemmas.{entry_placed}
 
 -- ---- all entries
 
@@ -190,6 +191,10 @@ issued_none r k is = go (spot k r.incoming)
     go (past h) = sym (issued_past k 1 r.incoming (omega (arith, h)))
     go (there before f after here at) =
         let placed : IsPlaced r.incoming k before f after = record { here = here; number = at } in issued_placed r k None before f after placed (is before f after placed)
+
+-- an unknown file has none
+pub issued_unknown : (r : Register) (k : ℕ) → entry_at k r.incoming ≡ None → None ≡ issued_by_no r k
+issued_unknown r k unknown = issued_none r k (λ before f after placed. absurd (let no_such = sym unknown ∙ entry_placed k r.incoming before f after placed in cc))
 
 pub issued_some : (r : Register) (k : ℕ) (h : IncomingHeader) (x : IssuedResponse) → IsToldOf incoming_header_of r.incoming k (Some h) → IsResponseTo r k (Some x)
     → (let e : IssuedEntry = record { no = k; identity = h.file.identity; response = x } in Some e ≡ issued_by_no r k)

@@ -1,15 +1,17 @@
 -- What a page of a table answers, whatever its entries, with what is joined to each.
-use Rattle.std.proofs.Common.{◌≡◌, ◌==◌, ◌&&◌, ◌+◌, ◌<◌, ◌++◌, ℕ, zero, suc, nat_lt, Bool, true, false, cond, if◌then◌else◌, List, [], ◌∷◌, length, map, flat_map, filter, take, drop, Less, refl, sym, ap, subst, ◌∙◌, arith, append_assoc, append-nil, length-append}
+use Rattle.std.proofs.Common.{◌≡◌, ◌==◌, ◌&&◌, ◌+◌, ◌<◌, ◌++◌, ℕ, zero, suc, pos, negsuc, nat_lt, slice_get, Some, option_map, Bool, true, false, cond, if◌then◌else◌, List, [], ◌∷◌, length, map, flat_map, filter, take, drop, Less, refl, sym, ap, subst, ◌∙◌, arith, append_assoc, append-nil, length-append}
 use Rattle.std.specs.List.{AllByRecursion, list_all}
 use Rattle.std.specs.List.Sorted.{IsPermutation}
 use Rattle.std.proofs.lemmas.Bool.Decides.{nat_tests}
 use Rattle.std.proofs.lemmas.Cmp.{on_total}
 use Rattle.std.proofs.lemmas.List.{take-map}
+use Rattle.std.proofs.lemmas.Option.{slice_get-map}
 use Rattle.sqlite_sql.proofs.QueryLemmas.{key_cmp_total}
 use Rattle.sqlite_keyed.proofs.SortLemmas.{sorted_unique}
 use Rattle.sqlite_trees.specs.Tree.{IsAscending}
 use Rattle.sqlite.specs.Collation.TheVariants.{Binary}
 use Rattle.sqlite.specs.declared.types.Value.{Value}
+use Rattle.sqlite.specs.declared.types.Value.TheVariants.{Blob, Int, Null, Real, Text}
 use Rattle.sqlite.specs.Order.{Row, column}
 use Rattle.sqlite.specs.Tree.{Trees}
 use Rattle.sqlite.specs.Term.{Term, Env, col, eval, eval_all, holds}
@@ -26,12 +28,12 @@ use Rattle.oftp_register.specs.LookUps.{numbered}
 use Rattle.oftp_register.specs.Register.{Register}
 use Rattle.oftp_register.specs.Soundness.{IsSound}
 use Rattle.oftp_tables.specs.Schema.{office_schema}
-use Rattle.oftp_tables.specs.Tables.{Tables, number_value, rows_from}
+use Rattle.oftp_tables.specs.Tables.{Tables, number_in, number_value, rows_from}
 use Rattle.oftp_tables.proofs.QueryLemmas.{no_overlay}
 use Rattle.oftp_tables.proofs.SortedLemmas.{ordered_query}
 use Rattle.oftp_tables.proofs.SplitLemmas.{HaveNumber, IsAbove, IsSplit, among, pieces_from}
 use Rattle.oftp_tables.proofs.TermLemmas.{and_true, equal, equal_numbers}
-use Rattle.oftp_store.specs.Reads.{IsPlaced}
+use Rattle.oftp_store.specs.Reads.{IsPlaced, numbers_of}
 use Rattle.oftp_store.specs.Tells.{FindsPages}
 use Rattle.oftp_store.proofs.FirstLemmas.{less_number, rising}
 use Rattle.oftp_store.proofs.NextNumberLemmas.{above, greater_numbers}
@@ -252,3 +254,63 @@ pub page_found : {A : Type 0} (text : List ℕ) (told : Register → Row → A) 
     → map (told r) rows ≡ take 128 (drop behind (items r))
 page_found text told items old new behind rows by has shown =
     by.finds old.now behind rows (reads_as text (page_params behind) old new office_schema has _ refl by.plain by.unlisted rows shown)
+
+-- the same of other items
+pub finds_also : {A : Type 0} {text : List ℕ} {told : Register → Row → A} {items : Register → List A} (others : Register → List A) → FindsPages text told items
+    → ((r : Register) → items r ≡ others r) → FindsPages text told others
+finds_also others by same = record {
+  plain = by.plain;
+  unlisted = by.unlisted;
+  finds = λ db behind rows answer r kept sound. by.finds db behind rows answer r kept sound ∙ ap (λ es. take 128 (drop behind es)) (same r);
+}
+
+-- ---- the numbers of a page
+
+numbers_from : {X E : Type 0} (entry : ℕ → X → E) (n : ℕ) (xs : List X) → numbered (λ (k : ℕ) (x : X). k) n xs ≡ numbered (λ (k : ℕ) (e : E). k) n (numbered entry n xs)
+numbers_from entry n [] = refl
+numbers_from entry n (x ∷ xs) = ap (λ ns. n ∷ ns) (numbers_from entry (n + 1) xs)
+
+pub numbers_same : {X E : Type 0} (entry : ℕ → X → E) (xs : List X) → numbers_of xs ≡ numbers_of (numbered entry 1 xs)
+numbers_same entry xs = numbers_from entry 1 xs
+
+-- ---- one row of a page
+
+taken : {A : Type 0} (m : ℕ) (xs : List A) (i : ℕ) (x : A) → slice_get (take m xs) i ≡ Some x → slice_get xs i ≡ Some x
+taken zero xs i x is = absurd (let no_such = is in cc)
+taken (suc m) [] i x is = is
+taken (suc m) (y ∷ xs) zero x is = is
+taken (suc m) (y ∷ xs) (suc i) x is = taken m xs i x is
+
+dropped : {A : Type 0} (m : ℕ) (xs : List A) (i : ℕ) → slice_get (drop m xs) i ≡ slice_get xs (m + i)
+dropped zero xs i = let same : 0 + i ≡ i = omega arith in ap (slice_get xs) (sym same)
+dropped (suc m) [] i = refl
+dropped (suc m) (y ∷ xs) i = let later : suc m + i ≡ suc (m + i) = omega arith in dropped m xs i ∙ ap (slice_get (y ∷ xs)) (sym later)
+
+-- the item that a row of a page is read as
+pub item_at : {B : Type 0} (told : Row → B) (rows : List Row) (items : List B) (behind i : ℕ) (row : Row) → map told rows ≡ take 128 (drop behind items) → slice_get rows i ≡ Some row
+    → slice_get items (behind + i) ≡ Some (told row)
+item_at told rows items behind i row is at =
+    sym (dropped behind items i) ∙ taken 128 (drop behind items) i (told row) (sym (ap (λ es. slice_get es i) is) ∙ slice_get-map told rows i ∙ ap (option_map told) at)
+
+numbered_at : {A : Type 0} (n : ℕ) (xs : List A) (i m : ℕ) → slice_get (numbered (λ (k : ℕ) (x : A). k) n xs) i ≡ Some m → (m ≡ n + i) × (i < length xs)
+numbered_at n [] i m is = absurd (let no_such = is in cc)
+numbered_at n (x ∷ xs) zero m is = let same : n ≡ m = cc in (omega (arith, same), omega arith)
+numbered_at n (x ∷ xs) (suc i) m is = let later = numbered_at (n + 1) xs i m is in (omega (arith, later.0), omega (arith, later.1))
+
+number_is : (v : Value) (k : ℕ) → number_in v ≡ suc k → v ≡ number_value (suc k)
+number_is (Int (pos n)) k is = ap number_value is
+number_is (Int (negsuc n)) k is = absurd (let no_such = is in cc)
+number_is Null k is = absurd (let no_such = is in cc)
+number_is (Real x) k is = absurd (let no_such = is in cc)
+number_is (Text t) k is = absurd (let no_such = is in cc)
+number_is (Blob b) k is = absurd (let no_such = is in cc)
+
+-- it has the next number, which is within the entries
+pub number_at : {A : Type 0} (column_at : ℕ) (rows : List Row) (items : List A) (behind i last : ℕ) (row : Row)
+    → map (λ row. number_in (column row column_at)) rows ≡ take 128 (drop behind (numbers_of items)) → slice_get rows i ≡ Some row → last ≡ behind + i
+    → (column row column_at ≡ number_value (last + 1)) × (last < length items)
+number_at column_at rows items behind i last row is at last_is =
+    let found = numbered_at 1 items (behind + i) (number_in (column row column_at)) (item_at (λ row. number_in (column row column_at)) rows (numbers_of items) behind i row is at) in
+    let next : suc (behind + i) ≡ last + 1 = omega (arith, last_is) in
+    let same : number_in (column row column_at) ≡ suc (behind + i) = omega (arith, found.0) in
+    (number_is (column row column_at) (behind + i) same ∙ ap number_value next, omega (arith, last_is, found.1))

@@ -44,7 +44,7 @@ module _ {S T : Type 0} (g : Ghosts S) (mid now : Held S) (result : Result T Off
   looks_after first before (inl (same, fails)) = looks_then first _ 0 result (subst (λ h. Looks {T = ℕ} first (state g h) (Ok 0)) (sym same) before) fails
   looks_after first before (inr looks) = looks_both first _ _ 0 result before looks
 
-  clean_before : LooksAtMost g mid now result → HasCleanDisk (state g now) → HasCleanDisk (state g mid)
+  pub clean_before : LooksAtMost g mid now result → HasCleanDisk (state g now) → HasCleanDisk (state g mid)
   clean_before (inl (same, fails)) clean = subst (λ h. HasCleanDisk (state g h)) same clean
   clean_before (inr looks) clean = omega (arith, looks.clean, clean)
 

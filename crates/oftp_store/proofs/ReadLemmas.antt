@@ -1,5 +1,5 @@
 -- How the SQL of the look-ups is read, and what a query by a number returns.
-use Rattle.std.proofs.Common.{◌≡◌, ◌<◌, ◌^◌, ℕ, ℤ, pos, w64, to_z, of_z, false, List, [], ◌∷◌, slice_get, option_map, Option, refl, sym, ap, subst, ◌∙◌}
+use Rattle.std.proofs.Common.{◌≡◌, ◌<◌, ◌^◌, ℕ, zero, suc, ℤ, pos, w64, to_z, of_z, false, List, [], ◌∷◌, length, get_or, slice_get, option_map, Option, Some, refl, sym, ap, subst, ◌∙◌, arith}
 use Rattle.std.specs.List.Sorted.{IsPermutation}
 use Rattle.sqlite.specs.declared.types.Value.{Value}
 use Rattle.sqlite.specs.declared.types.Value.TheVariants.{Int, Null}
@@ -22,6 +22,18 @@ use Rattle.oftp_store.specs.Reads.{IsPlaced, IsToldOf, first_told}
 use Rattle.oftp_store.specs.Tells.{FindsByNumber}
 use Rattle.oftp_store.specs.Texts.{IsPlainText}
 use Rattle.oftp_store.proofs.NumberLemmas.{OneRow, nowhere, one_row, somewhere}
+
+-- the element at an index
+pub got_at : {A : Type 0} (xs : List A) (i : ℕ) (x : A) → i < length xs → x ≡ get_or xs i x → slice_get xs i ≡ Some x
+got_at [] i x h is = absurd (omega (arith, h))
+got_at (y ∷ xs) zero x h is = ap Some (sym is)
+got_at (y ∷ xs) (suc i) x h is = got_at xs i x (omega (arith, h)) is
+
+-- a column that a row has
+pub column_got : (row : Row) (at : ℕ) (v : Value) → slice_get row at ≡ Some v → column row at ≡ v
+column_got [] at v is = absurd (let no_such = is in cc)
+column_got (first ∷ row) zero v is = cc
+column_got (first ∷ row) (suc at) v is = column_got row at v is
 
 -- the SQL of a look-up is this command over the office's tables, and nothing else
 pub record IsRead (text : List ℕ) (command : Command) : Type 0 where

@@ -15,16 +15,16 @@ use Rattle.oftp_register.specs.declared.entry.ResponseKind.{ResponseKind}
 use Rattle.oftp_register.specs.declared.entry.ResponseKind.TheVariants.{EndResponse, NegativeEndResponse}
 use Rattle.oftp_register.specs.Register.{Issued, Received}
 use Rattle.oftp_register.specs.Soundness.{IsResponse, IsSoundReceived}
-use Rattle.oftp_register.specs.LookUps.{received_entry}
+use Rattle.oftp_register.specs.LookUps.{numbered, received_entry}
 use Rattle.oftp_tables.specs.Schema.{note_tree, received_tree}
 use Rattle.oftp_tables.specs.Tables.{note_if_negative, number_value, reason_text, received_row}
 use Rattle.oftp_tables.proofs.BackLemmas.{all_at_place, at_place, issued_back, kind_back}
-use Rattle.oftp_store.specs.Reads.{all_listed, paged_note, paged_received, paged_received_number, received_entry_of, received_header_in}
+use Rattle.oftp_store.specs.Reads.{all_listed, numbers_of, paged_note, paged_received, paged_received_number, received_entry_of, received_header_in}
 use Rattle.oftp_store.specs.Tells.{FindsPages}
 use Rattle.oftp_store.specs.Texts.{received_page_text}
 use Rattle.oftp_store.specs.declared.queries.received.ReceivedHeader.{ReceivedHeader}
 use Rattle.oftp_store.specs.declared.queries.received.ReceivedNote.{ReceivedNote}
-use Rattle.oftp_store.proofs.ListPageLemmas.{finds_by, joins, page_on, page_params, page_query, page_told}
+use Rattle.oftp_store.proofs.ListPageLemmas.{finds_also, finds_by, joins, numbers_same, page_on, page_params, page_query, page_told}
 use Rattle.oftp_store.proofs.ReadLemmas.{IsRead}
 use Rattle.oftp_store.proofs.ReceivedEditLemmas.{note_number, note_piece, notes_pieces}
 
@@ -98,14 +98,22 @@ received_told row k header note header_is note_is number_is =
     ap (received_entry_of k header) note_is ∙ ap (λ (h : ReceivedHeader). received_entry_of k h (paged_note h.kind row)) header_is
     ∙ ap (λ n. received_entry_of n (received_header_in row) (paged_note (received_header_in row).kind row)) number_is
 
+module _ {E : Type 0} (told : Row → E) (entry : ℕ → Received → E) (back : (behind n : ℕ) (x : Received) → x.reason < 100 → IsSoundReceived x
+    → told (page_row behind n x x.kind) ≡ entry n x) where
+  finds_page : FindsPages received_page_text (λ r row. told row) (λ r. numbered entry 1 r.received)
+  finds_page = finds_by page_read (λ db behind rows answer r kept sound.
+      page_told received_row received_tree (left note_tree page_on end) page_project db.trees behind r.received (λ n x. page_env behind n x) (λ n x. refl)
+      (joins received_row (λ n x. refl) note_piece note_number (λ n x. note_row n x x.kind) (λ n x. or_null n x x.kind) note_tree db.trees behind r.received
+      (kept.received.notes_are ∙ notes_pieces 1 r.received))
+      told entry
+      (λ n before x after placed.
+      let small = at_place (λ (y : Received). y.reason < 100) before x after (subst (AllByRecursion (λ (y : Received). y.reason < 100)) placed.here kept.received.reasons) in
+      let right = all_at_place IsSoundReceived before x after (subst (All IsSoundReceived) placed.here sound.received) in
+      back behind n x small right)
+      rows kept.received.responses_are (answer.answer Null))
+
 pub finds_received : FindsPages received_page_text (λ r row. Some (paged_received row)) (λ r. all_listed received_entry r.received)
-finds_received = finds_by page_read (λ db behind rows answer r kept sound.
-    page_told received_row received_tree (left note_tree page_on end) page_project db.trees behind r.received (λ n x. page_env behind n x) (λ n x. refl)
-    (joins received_row (λ n x. refl) note_piece note_number (λ n x. note_row n x x.kind) (λ n x. or_null n x x.kind) note_tree db.trees behind r.received
-    (kept.received.notes_are ∙ notes_pieces 1 r.received))
-    (λ row. Some (paged_received row)) (λ n x. Some (received_entry n x))
-    (λ n before x after placed.
-    let small = at_place (λ (y : Received). y.reason < 100) before x after (subst (AllByRecursion (λ (y : Received). y.reason < 100)) placed.here kept.received.reasons) in
-    let right = all_at_place IsSoundReceived before x after (subst (All IsSoundReceived) placed.here sound.received) in
-    ap Some (row_back behind n x small right))
-    rows kept.received.responses_are (answer.answer Null))
+finds_received = finds_page (λ row. Some (paged_received row)) (λ n x. Some (received_entry n x)) (λ behind n x small right. ap Some (row_back behind n x small right))
+
+pub numbers_received : FindsPages received_page_text (λ r row. paged_received_number row) (λ r. numbers_of (all_listed received_entry r.received))
+numbers_received = finds_also _ (finds_page paged_received_number (λ n x. n) (λ behind n x small right. refl)) (λ r. numbers_same (λ n x. Some (received_entry n x)) r.received)

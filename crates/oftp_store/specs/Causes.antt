@@ -1,20 +1,22 @@
 -- Why a call of the office reports a failed store.
-use Rattle.std.specs.Prelude.{◌≡◌, ◌≢◌, ◌+◌, ◌<◌, ◌≤◌, ◌^◌, ℕ, List, All, length, slice_get, [], Some, Ok, ⊤}
+use Rattle.std.specs.Prelude.{◌≡◌, ◌≢◌, ◌⊎◌, ◌+◌, ◌<◌, ◌≤◌, ◌^◌, ℕ, List, All, length, slice_get, [], Some, Ok, ⊤}
 use Rattle.std.specs.Str.{IsUtf8}
 use Rattle.sqlite.specs.declared.error.Error.{Error}
 use Rattle.sqlite.specs.declared.error.Error.TheVariants.{SqliteFailure}
 use Rattle.sqlite.specs.declared.error.ErrorCode.TheVariants.{OutOfMemory}
 use Rattle.sqlite.specs.declared.types.Value.TheVariants as value
 use Rattle.sqlite.specs.Order.{Row, column}
-use Rattle.sqlite.specs.State.{HasCleanDisk, FailsToQuery, Shown}
+use Rattle.sqlite.specs.State.{HasCleanDisk, FailsToQuery, IsUnchanged, Shown}
 use Rattle.sqlite.specs.Held.{Held, state}
 use Rattle.sqlite_trees.specs.declared.store.Store.{Ghosts}
+use Rattle.oftp_wire.specs.Octets.{IsName}
 use Rattle.oftp_vfile.specs.declared.format.Limits.{Limits}
 use Rattle.oftp_vfile.specs.declared.format.TheConstants.{MOST_ROWS}
 use Rattle.oftp_register.specs.declared.change.Change.{Change}
 use Rattle.oftp_register.specs.declared.entries.Side.{Side}
 use Rattle.oftp_register.specs.declared.entries.IssuedResponse.{IssuedResponse}
 use Rattle.oftp_register.specs.declared.entry.ResponseKind.{ResponseKind}
+use Rattle.oftp_register.specs.declared.entry.ResponseKind.TheVariants.{EndResponse, NegativeEndResponse}
 use Rattle.oftp_register.specs.declared.office.OfficeFault.{OfficeFault}
 use Rattle.oftp_register.specs.declared.office.OfficeFault.TheVariants.{Store}
 use Rattle.oftp_register.specs.Register.{Register}
@@ -25,14 +27,16 @@ use Rattle.oftp_tables.specs.Tables.{HasRefusal, TellsIdentity, TellsValues, in_
 use Rattle.oftp_tables.specs.Transactions.{IsTransactionError}
 use Rattle.oftp_store.specs.Edits.{AreEdited, IsStorable}
 use Rattle.oftp_store.specs.Numbers.{entries_in, file_number_text, has_filed_text, last_text, next_text}
-use Rattle.oftp_store.specs.Reads.{IsFileWithin, TellsResponse, file_values, mark_and_state_values}
-use Rattle.oftp_store.specs.Texts.{in_header_text, last_row_text, out_header_text, response_text}
+use Rattle.oftp_store.specs.Reads.{IsFileWithin, TellsResponse, file_values, mark_and_state_values, received_note_values, received_values}
+use Rattle.oftp_store.specs.Texts.{answered_page_text, in_header_text, in_page_text, last_row_text, out_header_text, out_page_text, received_page_text, response_text, some_rows_text}
 use Rattle.oftp_store.specs.declared.changes.edit.Edit.{Edit}
 use Rattle.oftp_store.specs.declared.queries.header.FileHeader.{FileHeader}
 use Rattle.oftp_store.specs.declared.queries.header.IncomingHeader.{IncomingHeader}
 use Rattle.oftp_store.specs.declared.queries.header.OutgoingHeader.{OutgoingHeader}
 use Rattle.oftp_store.specs.declared.queries.last_number.Table.{Table}
 use Rattle.oftp_store.specs.declared.queries.next_number.Sendable.{Sendable}
+use Rattle.oftp_store.specs.declared.queries.received.ReceivedHeader.{ReceivedHeader}
+use Rattle.oftp_store.specs.declared.queries.received.ReceivedNote.{ReceivedNote}
 
 -- ---- the queries of the office
 
@@ -45,6 +49,11 @@ pub data Query : Type 0 where
   HeaderOut : Query
   Response : Query
   LastRow : Side → Query
+  SomeRows : Side → Query
+  PageIn : Query
+  PageOut : Query
+  PageReceived : Query
+  PageAnswered : Query
 
 -- its SQL
 abbrev pub sql_of : Query → List ℕ
@@ -56,6 +65,11 @@ sql_of HeaderIn = in_header_text
 sql_of HeaderOut = out_header_text
 sql_of Response = response_text
 sql_of (LastRow which) = last_row_text which
+sql_of (SomeRows which) = some_rows_text which
+sql_of PageIn = in_page_text
+sql_of PageOut = out_page_text
+sql_of PageReceived = received_page_text
+sql_of PageAnswered = answered_page_text
 
 -- how many values it is given
 abbrev pub values_of : Query → ℕ
@@ -67,6 +81,11 @@ values_of HeaderIn = 1
 values_of HeaderOut = 1
 values_of Response = 1
 values_of (LastRow which) = 1
+values_of (SomeRows which) = 3
+values_of PageIn = 2
+values_of PageOut = 2
+values_of PageReceived = 2
+values_of PageAnswered = 2
 
 -- ---- the rows of entries
 
@@ -96,16 +115,61 @@ pub record HasResponse (x : IssuedResponse) (at : ℕ) (row : Row) : Type 0 wher
   pub text : IsText x.text
   pub within : IsResponse x.kind x.reason [] x.text
 
+-- the columns of an incoming and of an outgoing file
+
+abbrev pub HasIncoming : Row → Type 0
+HasIncoming row = (h : IncomingHeader) × HasFile h.file row × (column row 8 ≡ value.Text (in_state_text h.state))
+
+abbrev pub HasOutgoing : Row → Type 0
+HasOutgoing row = (h : OutgoingHeader) × HasFile h.file row × (h.mark < 2 ^ 32) × HasRefusal h.state × TellsValues (mark_and_state_values h.mark h.state) 8 row
+
+-- the response to a file that may have none, in four columns from a place on
+abbrev pub HasAnswer : ℕ → Row → Type 0
+HasAnswer at row = (slice_get row at ≡ Some value.Null) ⊎ ((x : IssuedResponse) × HasResponse x at row)
+
+-- the number of the file that a response answers, if there is one
+abbrev pub HasAnswered : Row → Type 0
+HasAnswered row = (slice_get row 1 ≡ Some value.Null) ⊎ ((n : ℕ) × (column row 1 ≡ number_value n))
+
+-- a received response without its texts
+pub record HasReceivedHeader (h : ReceivedHeader) (row : Row) : Type 0 where
+  pub identity : TellsIdentity h.identity 1 row
+  pub values : TellsValues (received_values h) 0 row
+
+-- the texts of a Negative End Response
+pub record HasNote (m : ReceivedNote) (row : Row) : Type 0 where
+  pub creator : IsName 25 m.creator
+  pub text : IsText m.text
+  pub values : TellsValues (received_note_values m) 7 row
+
+-- the texts of a received response of a kind
+abbrev pub HasTexts : ResponseKind → Row → Type 0
+HasTexts EndResponse row = ⊤
+HasTexts NegativeEndResponse row = (m : ReceivedNote) × HasNote m row
+
+-- the octets of a row of a file
+abbrev pub HasBody : Row → Type 0
+HasBody row = (body : List ℕ) × (column row 0 ≡ value.Blob body)
+
 -- the row is one that the query returns for an entry
 abbrev pub Fits : Query → Row → Type 0
 Fits (LastNumber table) row = HasNumber row
 Fits (FileNumber which) row = HasNumber row
 Fits (Filed kind) row = ⊤
 Fits (NextNumber what) row = HasNumber row
-Fits HeaderIn row = (h : IncomingHeader) × HasFile h.file row × (column row 8 ≡ value.Text (in_state_text h.state))
-Fits HeaderOut row = (h : OutgoingHeader) × HasFile h.file row × (h.mark < 2 ^ 32) × HasRefusal h.state × TellsValues (mark_and_state_values h.mark h.state) 8 row
+Fits HeaderIn row = HasIncoming row
+Fits HeaderOut row = HasOutgoing row
 Fits Response row = (x : IssuedResponse) × HasResponse x 0 row
 Fits (LastRow which) row = HasPosition row
+Fits (SomeRows which) row = HasBody row
+Fits PageIn row = HasIncoming row × HasAnswer 9 row
+Fits PageOut row = HasOutgoing row
+Fits PageReceived row = (h : ReceivedHeader) × HasReceivedHeader h row × HasTexts h.kind row
+Fits PageAnswered row = HasAnswered row
+
+-- one of the rows doesn't fit
+abbrev pub Misfits : (Row → Type 0) → List Row → Type 0
+Misfits Fit rows = (at : ℕ) × (row : Row) × (slice_get rows at ≡ Some row) × ¬ Fit row
 
 -- ---- causes
 
@@ -118,6 +182,11 @@ pub data IsQueryCause {S : Type 0} (g : Ghosts S) (text : List ℕ) (params : Ro
 pub data IsCause {S : Type 0} (g : Ghosts S) (r : Register) (new : Held S) : Type 0 where
   query : (asked : Query) (old : Held S) (params : Row) → length params ≡ values_of asked → IsQueryCause g (sql_of asked) params (Fits asked) old new → IsCause g r new
   number : (table : Table) → 2 ^ 63 ≤ entries_in r table + 1 → IsCause g r new
+
+-- the cause of an error at a row of a page: that of a look-up, or the row fits no entry, and the connection is as it was
+pub data IsRowCause {S : Type 0} (g : Ghosts S) (asked : Query) (r : Register) (row : Row) (old new : Held S) : Type 0 where
+  asking : IsCause g r new → IsRowCause g asked r row old new
+  misread : ¬ Fits asked row → IsUnchanged (state g old) (state g new) → IsRowCause g asked r row old new
 
 -- The cause of a change: that of a look-up; or the register makes it, and its transaction ended with an error other than out of memory,
 -- or the database can't store what makes it.
@@ -133,6 +202,18 @@ pub record HasQueryCause {S : Type 0} (g : Ghosts S) (text : List ℕ) (params :
 
 pub record HasCause {S : Type 0} (g : Ghosts S) (old new : Held S) (fault : OfficeFault) : Type 0 where
   pub cause : fault ≡ Store → HasCleanDisk (state g new) → (limits : Limits) → Stands limits (state g old) → IsCause g (register_in limits (state g old).now.trees) new
+
+-- in a register of which this holds
+
+pub record HasCauseWhere {S : Type 0} (g : Ghosts S) (Holds : Register → Type 0) (old new : Held S) (fault : OfficeFault) : Type 0 where
+  pub cause : fault ≡ Store → HasCleanDisk (state g new) → (limits : Limits) → Stands limits (state g old) → Holds (register_in limits (state g old).now.trees)
+      → IsCause g (register_in limits (state g old).now.trees) new
+
+pub record HasRowCause {S : Type 0} (g : Ghosts S) (asked : Query) (Holds : Register → Type 0) (row : Row) (old new : Held S) (fault : OfficeFault) : Type 0 where
+  pub cause : fault ≡ Store → HasCleanDisk (state g new) → (limits : Limits) → Stands limits (state g old) → Holds (register_in limits (state g old).now.trees)
+      → IsRowCause g asked (register_in limits (state g old).now.trees) row old new
+
+-- of a commit
 
 pub record HasCommitCause {S : Type 0} (g : Ghosts S) (limits : Limits) (change : Change) (old new : Held S) (fault : OfficeFault) : Type 0 where
   pub cause : fault ≡ Store → HasCleanDisk (state g new) → Stands limits (state g old) → IsCommitCause g (register_in limits (state g old).now.trees) change new

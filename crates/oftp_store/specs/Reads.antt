@@ -176,6 +176,10 @@ TellsCount (Some row) count = (at : ℕ) × (column row 0 ≡ number_value at) �
 abbrev pub all_listed : {A B : Type 0} → (ℕ → A → B) → List A → List (Option B)
 all_listed entry = numbered (λ n x. Some (entry n x)) 1
 
+-- their numbers
+abbrev pub numbers_of : {A : Type 0} → List A → List ℕ
+numbers_of = numbered (λ n x. n) 1
+
 -- ---- a page of incoming files
 
 abbrev pub paged_response : Row → Option IssuedResponse

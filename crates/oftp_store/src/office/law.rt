@@ -1,6 +1,6 @@
 //! The implementation of `Office` for [`SqlOffice`].
 
-ghost use Rattle.std.specs.Prelude.{◌≡◌, ◌||◌, ◌^◌, nat_le, nat_lt, IfErr, IfOk, IfSome};
+ghost use Rattle.std.specs.Prelude.{◌≡◌, ◌≤◌, ◌||◌, ◌^◌, nat_le, nat_lt, IfErr, IfOk, IfSome};
 ghost use Rattle.sqlite.specs.Held.{state};
 ghost use Rattle.oftp_vfile.specs.declared.format.TheConstants.{MOST_ROWS};
 ghost use Rattle.oftp_register.specs.Offices.{Counts, Commits, LooksUp};
@@ -8,7 +8,8 @@ ghost use Rattle.oftp_store.specs.Views.{content_alone, view_of};
 ghost use Rattle.oftp_store.specs.Causes.{HasCommitCause, HasCause};
 ghost use Rattle.oftp_store.specs.Shown.{shown};
 ghost use Rattle.oftp_register.specs.Register.{has_received};
-ghost use Rattle.oftp_register.specs.LookUps.{IsIncomingWithin, IsOutgoingWithin, files_full, in_by_no, look_in, look_out, out_by_no};
+ghost use Rattle.oftp_register.specs.LookUps.{AreRowsWithin, IsIncomingWithin, IsItemWithin, IsOutgoingWithin, files_full, in_by_no, list_answered, list_in, list_issued, list_out, list_received, look_in, look_out, next_item, out_by_no, rows_of, units_of};
+ghost use Rattle.oftp_register.specs.declared.fit.TheConstants.{MOST_UNITS};
 
 use super::SqlOffice;
 use crate::changes::commit::commit_change;
@@ -121,12 +122,20 @@ impl<S: Alter> Office for SqlOffice<S> {
         partner: &Name<25>,
         cursor: Cursor,
         files: bool,
-    ) -> Result<Option<Item>, OfficeFault> {
+    ) -> Result<Option<Item>, OfficeFault>
+        ensures looks { LooksUp (λ r item. item ≡ next_item r partner.now cursor files) (shown S.Store self.old) (shown S.Store self.new) result }
+        ensures within { IfOk result (λ found. IfSome found IsItemWithin) }
+        ensures told { IfErr result (HasCause S.Store self.old.conn self.new.conn) }
+    {
         let found = next_item::next_item(self.alloc, &mut self.conn, partner, cursor, files);
         counted(&mut self.faults, found)
     }
 
-    fn rows_of(&mut self, side: Side, no: u64, from: u64, most: u64) -> Result<Rows, OfficeFault> {
+    fn rows_of(&mut self, side: Side, no: u64, from: u64, most: u64) -> Result<Rows, OfficeFault>
+        ensures looks { LooksUp (λ r rows. rows ≡ rows_of r side no from most) (shown S.Store self.old) (shown S.Store self.new) result }
+        ensures within { IfOk result (AreRowsWithin from most) }
+        ensures told { IfErr result (HasCause S.Store self.old.conn self.new.conn) }
+    {
         if is_past(no, from) {
             let none = Vec::new(self.alloc);
             return Ok(Rows::new(none));
@@ -135,7 +144,11 @@ impl<S: Alter> Office for SqlOffice<S> {
         counted(&mut self.faults, found)
     }
 
-    fn units_of(&mut self, side: Side, no: u64) -> Result<u64, OfficeFault> {
+    fn units_of(&mut self, side: Side, no: u64) -> Result<u64, OfficeFault>
+        ensures looks { LooksUp (λ r units. units ≡ units_of r side no) (shown S.Store self.old) (shown S.Store self.new) result }
+        ensures within { IfOk result (λ units. units ≤ MOST_UNITS) }
+        ensures told { IfErr result (HasCause S.Store self.old.conn self.new.conn) }
+    {
         if no >= FIRST_FAR {
             return Ok(0);
         }
@@ -143,28 +156,43 @@ impl<S: Alter> Office for SqlOffice<S> {
         counted(&mut self.faults, found)
     }
 
-    fn list_in(&mut self) -> Result<Vec<IncomingEntry>, OfficeFault> {
-        let entries = lists::list(self.alloc, &mut self.conn);
+    fn list_in(&mut self) -> Result<Vec<IncomingEntry>, OfficeFault>
+        ensures looks { LooksUp (λ r entries. entries.items ≡ list_in r) (shown S.Store self.old) (shown S.Store self.new) result }
+        ensures told { IfErr result (HasCause S.Store self.old.conn self.new.conn) }
+    {
+        let entries = lists::list::<IncomingEntry, S>(self.alloc, &mut self.conn);
         counted(&mut self.faults, entries)
     }
 
-    fn list_out(&mut self) -> Result<Vec<OutgoingEntry>, OfficeFault> {
-        let entries = lists::list(self.alloc, &mut self.conn);
+    fn list_out(&mut self) -> Result<Vec<OutgoingEntry>, OfficeFault>
+        ensures looks { LooksUp (λ r entries. entries.items ≡ list_out r) (shown S.Store self.old) (shown S.Store self.new) result }
+        ensures told { IfErr result (HasCause S.Store self.old.conn self.new.conn) }
+    {
+        let entries = lists::list::<OutgoingEntry, S>(self.alloc, &mut self.conn);
         counted(&mut self.faults, entries)
     }
 
-    fn list_issued(&mut self) -> Result<Vec<IssuedEntry>, OfficeFault> {
-        let entries = lists::list(self.alloc, &mut self.conn);
+    fn list_issued(&mut self) -> Result<Vec<IssuedEntry>, OfficeFault>
+        ensures looks { LooksUp (λ r entries. entries.items ≡ list_issued r) (shown S.Store self.old) (shown S.Store self.new) result }
+        ensures told { IfErr result (HasCause S.Store self.old.conn self.new.conn) }
+    {
+        let entries = lists::list::<IssuedEntry, S>(self.alloc, &mut self.conn);
         counted(&mut self.faults, entries)
     }
 
-    fn list_received(&mut self) -> Result<Vec<ReceivedEntry>, OfficeFault> {
-        let entries = lists::list(self.alloc, &mut self.conn);
+    fn list_received(&mut self) -> Result<Vec<ReceivedEntry>, OfficeFault>
+        ensures looks { LooksUp (λ r entries. entries.items ≡ list_received r) (shown S.Store self.old) (shown S.Store self.new) result }
+        ensures told { IfErr result (HasCause S.Store self.old.conn self.new.conn) }
+    {
+        let entries = lists::list::<ReceivedEntry, S>(self.alloc, &mut self.conn);
         counted(&mut self.faults, entries)
     }
 
-    fn list_answered(&mut self) -> Result<Vec<AnsweredEntry>, OfficeFault> {
-        let entries = lists::list(self.alloc, &mut self.conn);
+    fn list_answered(&mut self) -> Result<Vec<AnsweredEntry>, OfficeFault>
+        ensures looks { LooksUp (λ r entries. entries.items ≡ list_answered r) (shown S.Store self.old) (shown S.Store self.new) result }
+        ensures told { IfErr result (HasCause S.Store self.old.conn self.new.conn) }
+    {
+        let entries = lists::list::<AnsweredEntry, S>(self.alloc, &mut self.conn);
         counted(&mut self.faults, entries)
     }
 

@@ -59,6 +59,7 @@ pub(crate) fn next_file<S: Alter>(
     ensures looks { Looks (state S.Store conn.old) (state S.Store conn.new) result }
     ensures answer { TellsStored (λ r found. found ≡ next_file r partner.now tried) (state S.Store conn.old) (state S.Store conn.new) result }
     ensures within { IfOk result (λ found. IfSome found IsOutgoingWithin) }
+    ensures told { IfErr result (HasCause S.Store conn.old conn.new) }
 {
     match next_number(conn, Sendable::File, partner, tried)? {
         Some(no) => find_outgoing_file(alloc, conn, no),

@@ -5,16 +5,16 @@ ghost use Rattle.oftp_register.specs.LookUps.{incoming_entry, issued_entry, list
 ghost use Rattle.oftp_register.specs.Offices.{IsFailure};
 ghost use Rattle.oftp_store.specs.Reads.{all_listed, paged_entry, paged_file, paged_issued, paged_number, paged_response};
 ghost use Rattle.oftp_store.specs.Texts.{in_page_text};
+ghost use Rattle.oftp_store.specs.Causes.{Fits, HasAnswer, PageIn};
 
 use super::by_number::ByNumber;
 use super::file_by_number::incoming_of;
 use super::header::IncomingHeader;
 use super::last_number::Table;
-use super::lists::Listed;
+use super::lists::{Listed, is_null};
 use super::response::response_at;
 use super::rows::count_rows;
 use oftp_register::{IncomingEntry, IssuedEntry, IssuedResponse, OfficeFault, Side};
-use sqlite::types::ValueRef;
 use sqlite::{Alter, Connection, Row};
 use std::alloc::Global;
 
@@ -29,12 +29,13 @@ fn in_page_text() -> &'static str
 // The response in a row of a page, if there is one.
 fn response_in(alloc: Global, row: &Row) -> Result<Option<IssuedResponse>, OfficeFault>
     ensures told { IfOk result (λ response. response ≡ paged_response row.now) }
+    ensures unfit { IfErr result (λ fault. fault ≡ OfficeFault.Store → ¬ HasAnswer 9 row.now) }
     ensures fails { IfErr result IsFailure }
 {
-    match row.get_ref(9) {
-        Ok(ValueRef::Null) => Ok(None),
-        _ => Ok(Some(response_at(alloc, row, 9)?)),
+    if is_null(row, 9) {
+        return Ok(None);
     }
+    Ok(Some(response_at(alloc, row, 9)?))
 }
 
 // The file in a row of a page, with its number and so many rows.
@@ -45,6 +46,7 @@ fn file_in(
     rows: u32,
 ) -> Result<Option<IncomingEntry>, OfficeFault>
     ensures told { IfOk result (λ found. no ≡ paged_number row.now → found ≡ Some (paged_file row.now rows)) }
+    ensures unfit { IfErr result (λ fault. fault ≡ OfficeFault.Store → ¬ Fits PageIn row.now) }
     ensures fails { IfErr result IsFailure }
 {
     let header = IncomingHeader::from_row(alloc, row)?;
@@ -55,6 +57,7 @@ fn file_in(
 // The response in a row of a page, if there is one, with the number and the identity of its file.
 fn issued_in(alloc: Global, row: &Row, no: u64) -> Result<Option<IssuedEntry>, OfficeFault>
     ensures told { IfOk result (λ found. no ≡ paged_number row.now → found ≡ paged_issued row.now) }
+    ensures unfit { IfErr result (λ fault. fault ≡ OfficeFault.Store → ¬ Fits PageIn row.now) }
     ensures fails { IfErr result IsFailure }
 {
     let Some(response) = response_in(alloc, row)? else {
@@ -71,6 +74,8 @@ fn issued_in(alloc: Global, row: &Row, no: u64) -> Result<Option<IssuedEntry>, O
 
 // One statement more counts the rows of each file.
 impl Listed for IncomingEntry {
+    ghost asked = { PageIn };
+
     ghost items = { λ r. all_listed incoming_entry r.incoming };
 
     ghost entries = { list_in };
@@ -101,6 +106,8 @@ impl Listed for IncomingEntry {
 }
 
 impl Listed for IssuedEntry {
+    ghost asked = { PageIn };
+
     ghost items = { λ r. numbered issued_entry 1 r.incoming };
 
     ghost entries = { list_issued };

@@ -1,9 +1,10 @@
 //! The responses to incoming files, as an office returns them.
 
-ghost use Rattle.std.specs.Prelude.{◌≡◌, ◌<◌, ◌^◌};
+ghost use Rattle.std.specs.Prelude.{◌≡◌, ◌<◌, ◌^◌, IfErr};
 ghost use Rattle.sqlite.specs.Held.{state};
 ghost use Rattle.oftp_tables.specs.Statements.{Looks};
 ghost use Rattle.oftp_store.specs.Tells.{Tells, issued_by_no};
+ghost use Rattle.oftp_store.specs.Causes.{HasCause};
 
 use super::by_number::find;
 use super::header::IncomingHeader;
@@ -11,7 +12,7 @@ use oftp_register::{IssuedEntry, IssuedResponse, OfficeFault};
 use sqlite::{Alter, Connection};
 use std::alloc::Global;
 
-/// The response to the incoming file with a number, with the file's identity. A response without a file is an error of the store.
+/// The response to the incoming file with a number, with the file's identity.
 pub(crate) fn find_issued<S: Alter>(
     alloc: Global,
     conn: &mut Connection<S>,
@@ -20,11 +21,14 @@ pub(crate) fn find_issued<S: Alter>(
     requires { no < 2 ^ 63 }
     ensures looks { Looks (state S.Store conn.old) (state S.Store conn.new) result }
     ensures answer { Tells (λ r found. found ≡ issued_by_no r no) (state S.Store conn.old) (state S.Store conn.new) result }
+    ensures told { IfErr result (HasCause S.Store conn.old conn.new) }
 {
+    let Some(header) = find::<IncomingHeader, S>(alloc, conn, no)? else {
+        return Ok(None);
+    };
     let Some(response) = find::<IssuedResponse, S>(alloc, conn, no)? else {
         return Ok(None);
     };
-    let header = find::<IncomingHeader, S>(alloc, conn, no)?.ok_or(OfficeFault::Store)?;
     let file = header.file;
     Ok(Some(IssuedEntry {
         no,

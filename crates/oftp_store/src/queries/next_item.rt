@@ -1,10 +1,11 @@
 //! What is sent next to a partner: a file or a response.
 
-ghost use Rattle.std.specs.Prelude.{◌≡◌, ◌≤◌, ◌<◌, ◌+◌, ◌^◌, IfOk, IfSome};
+ghost use Rattle.std.specs.Prelude.{◌≡◌, ◌≤◌, ◌<◌, ◌+◌, ◌^◌, IfOk, IfErr, IfSome};
 ghost use Rattle.sqlite.specs.Held.{state};
 ghost use Rattle.oftp_register.specs.LookUps.{IsItemWithin, next_item, next_response};
 ghost use Rattle.oftp_tables.specs.Statements.{Looks};
 ghost use Rattle.oftp_store.specs.Tells.{Tells};
+ghost use Rattle.oftp_store.specs.Causes.{HasCause};
 
 use super::file_by_identity::next_file;
 use super::issued::find_issued;
@@ -33,6 +34,7 @@ pub(crate) fn next_response<S: Alter>(
     requires { tried < 2 ^ 63 }
     ensures looks { Looks (state S.Store conn.old) (state S.Store conn.new) result }
     ensures answer { Tells (λ r found. found ≡ next_response r partner.now tried) (state S.Store conn.old) (state S.Store conn.new) result }
+    ensures told { IfErr result (HasCause S.Store conn.old conn.new) }
 {
     match next_number(conn, Sendable::Response, partner, tried)? {
         Some(no) => find_issued(alloc, conn, no),
@@ -51,6 +53,7 @@ pub(crate) fn next_item<S: Alter>(
     ensures looks { Looks (state S.Store conn.old) (state S.Store conn.new) result }
     ensures answer { Tells (λ r item. item ≡ next_item r partner.now cursor files) (state S.Store conn.old) (state S.Store conn.new) result }
     ensures within { IfOk result (λ found. IfSome found IsItemWithin) }
+    ensures told { IfErr result (HasCause S.Store conn.old conn.new) }
 {
     let tried = within_store(cursor.response);
     if let Some(response) = next_response(alloc, conn, partner, tried)? {

@@ -1,9 +1,10 @@
 //! The outgoing files, as a page lists them.
 
-ghost use Rattle.std.specs.Prelude.{◌≡◌, ◌≤◌, Some, IfErr, IfOk, IfSome};
+ghost use Rattle.std.specs.Prelude.{◌≡◌, ◌≤◌, ◌<◌, Some, IfErr, IfOk, IfSome};
 ghost use Rattle.oftp_register.specs.LookUps.{list_out, outgoing_entry};
 ghost use Rattle.oftp_register.specs.Offices.{IsFailure};
-ghost use Rattle.oftp_store.specs.Reads.{all_listed, paged_out_entry, paged_out_file, paged_out_number};
+ghost use Rattle.oftp_store.specs.Reads.{all_listed, outgoing_header_in, paged_out_entry, paged_out_file, paged_out_number};
+ghost use Rattle.oftp_store.specs.Causes.{Fits, PageOut};
 
 use super::by_number::ByNumber;
 use super::file_by_number::outgoing_of;
@@ -24,6 +25,7 @@ fn file_in(
 ) -> Result<Option<OutgoingEntry>, OfficeFault>
     ensures told { IfOk result (λ found. no ≡ paged_out_number row.now → found ≡ Some (paged_out_file row.now rows)) }
     ensures mark { IfOk result (λ found. IfSome found (λ entry. entry.mark ≤ entry.rows)) }
+    ensures unfit { IfErr result (λ fault. fault ≡ OfficeFault.Store → Fits PageOut row.now → rows < (outgoing_header_in row.now).mark) }
     ensures fails { IfErr result IsFailure }
 {
     let header = OutgoingHeader::from_row(alloc, row)?;
@@ -33,6 +35,8 @@ fn file_in(
 
 // One statement more counts the rows of each file.
 impl Listed for OutgoingEntry {
+    ghost asked = { PageOut };
+
     ghost items = { λ r. all_listed outgoing_entry r.outgoing };
 
     ghost entries = { list_out };

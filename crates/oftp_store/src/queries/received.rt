@@ -5,6 +5,9 @@ ghost use Rattle.oftp_register.specs.LookUps.{list_received, received_entry};
 ghost use Rattle.oftp_register.specs.Offices.{IsFailure};
 ghost use Rattle.oftp_tables.specs.Tables.{TellsValues};
 ghost use Rattle.oftp_store.specs.Reads.{all_listed, paged_note, paged_received, paged_received_number, received_entry_of, received_header_in, received_note_in, received_note_values, received_values};
+ghost use Rattle.oftp_store.specs.Causes.{Fits, HasNote, HasReceivedHeader, HasTexts, PageReceived};
+ghost use Rattle.oftp_store.specs.declared.queries.received.ReceivedHeader.{ReceivedHeader};
+ghost use Rattle.oftp_store.specs.declared.queries.received.ReceivedNote.{ReceivedNote};
 
 use super::last_number::Table;
 use super::lists::Listed;
@@ -35,6 +38,7 @@ pub(crate) struct ReceivedNote {
 fn header_in(row: &Row) -> Result<ReceivedHeader, OfficeFault>
     ensures told { IfOk result (λ header. header ≡ received_header_in row.now) }
     ensures fits { IfOk result (λ header. TellsValues (received_values header) 0 row.now) }
+    ensures unfit { IfErr result (λ _. (header : ReceivedHeader) → ¬ HasReceivedHeader header row.now) }
     ensures fails { IfErr result IsFailure }
 {
     let kind = kind_at(row, 0).ok_or(OfficeFault::Store)?;
@@ -51,6 +55,7 @@ fn header_in(row: &Row) -> Result<ReceivedHeader, OfficeFault>
 fn note_in(alloc: Global, row: &Row) -> Result<ReceivedNote, OfficeFault>
     ensures told { IfOk result (λ note. note ≡ received_note_in row.now) }
     ensures fits { IfOk result (λ note. TellsValues (received_note_values note) 7 row.now) }
+    ensures unfit { IfErr result (λ fault. fault ≡ OfficeFault.Store → (note : ReceivedNote) → ¬ HasNote note row.now) }
     ensures fails { IfErr result IsFailure }
 {
     let creator = name_at(row, 7).ok_or(OfficeFault::Store)?;
@@ -61,6 +66,7 @@ fn note_in(alloc: Global, row: &Row) -> Result<ReceivedNote, OfficeFault>
 // The texts of an End-to-End Response, which are empty.
 fn empty_note(alloc: Global) -> Result<ReceivedNote, OfficeFault>
     ensures told { IfOk result (λ note. note ≡ record { creator = []; text = [] }) }
+    ensures memory { IfErr result (λ fault. fault ≡ OfficeFault.Memory) }
     ensures fails { IfErr result IsFailure }
 {
     let (Some(creator), Some(text)) = (X::new(b""), Text::new("")) else {
@@ -75,6 +81,7 @@ fn empty_note(alloc: Global) -> Result<ReceivedNote, OfficeFault>
 // The texts in a row of a page, for a response of a kind.
 fn texts_in(alloc: Global, row: &Row, kind: ResponseKind) -> Result<ReceivedNote, OfficeFault>
     ensures told { IfOk result (λ note. note ≡ paged_note kind row.now) }
+    ensures unfit { IfErr result (λ fault. fault ≡ OfficeFault.Store → ¬ HasTexts kind row.now) }
     ensures fails { IfErr result IsFailure }
 {
     match kind {
@@ -102,6 +109,7 @@ fn entry_of(no: u64, header: ReceivedHeader, note: ReceivedNote) -> ReceivedEntr
 // The response in a row of a page, with its number.
 fn received_in(alloc: Global, row: &Row, no: u64) -> Result<Option<ReceivedEntry>, OfficeFault>
     ensures told { IfOk result (λ found. no ≡ paged_received_number row.now → found ≡ Some (paged_received row.now)) }
+    ensures unfit { IfErr result (λ fault. fault ≡ OfficeFault.Store → ¬ Fits PageReceived row.now) }
     ensures fails { IfErr result IsFailure }
 {
     let header = header_in(row)?;
@@ -110,6 +118,8 @@ fn received_in(alloc: Global, row: &Row, no: u64) -> Result<Option<ReceivedEntry
 }
 
 impl Listed for ReceivedEntry {
+    ghost asked = { PageReceived };
+
     ghost items = { λ r. all_listed received_entry r.received };
 
     ghost entries = { list_received };

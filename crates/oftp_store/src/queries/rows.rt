@@ -11,7 +11,7 @@ ghost use Rattle.oftp_tables.specs.Statements.{Looks};
 ghost use Rattle.oftp_store.specs.Reads.{TellsCount};
 ghost use Rattle.oftp_store.specs.Tells.{Tells, TellsStored};
 ghost use Rattle.oftp_store.specs.Texts.{last_row_text, some_rows_text};
-ghost use Rattle.oftp_store.specs.Causes.{HasCause, HasPosition};
+ghost use Rattle.oftp_store.specs.Causes.{HasBody, HasCause, HasPosition, Misfits};
 
 use super::first_row::first_row;
 use oftp_register::{OfficeFault, Side};
@@ -77,6 +77,7 @@ pub(crate) fn count_rows<S: Alter>(
 // The contents of the rows that a query returned.
 fn bodies_told(alloc: Global, rows: &[Row]) -> Result<Vec<oftp_vfile::Row>, OfficeFault>
     ensures told { IfOk result (λ out. out.items ≡ map (λ row. bytes (column row 0)) rows.now) }
+    ensures unfit { IfErr result (λ fault. fault ≡ OfficeFault.Store → Misfits HasBody rows.now) }
     ensures fails { IfErr result IsFailure }
 {
     let mut out = Vec::new(alloc);
@@ -99,6 +100,7 @@ pub(crate) fn find_rows<S: Alter>(
     requires { no < 2 ^ 63 }
     ensures looks { Looks (state S.Store conn.old) (state S.Store conn.new) result }
     ensures answer { TellsStored (λ r rows. rows.items ≡ take most (drop from (file_rows r side no))) (state S.Store conn.old) (state S.Store conn.new) result }
+    ensures told { IfErr result (HasCause S.Store conn.old conn.new) }
 {
     let rows = ask(conn, some_rows_text(side), params![number(no), from, most])?;
     bodies_told(alloc, rows.as_slice())
@@ -119,6 +121,7 @@ pub(crate) fn rows_of<S: Alter>(
     ensures looks { Looks (state S.Store conn.old) (state S.Store conn.new) result }
     ensures answer { Tells (λ r rows. rows ≡ rows_of r side no from most) (state S.Store conn.old) (state S.Store conn.new) result }
     ensures within { IfOk result (AreRowsWithin from most) }
+    ensures told { IfErr result (HasCause S.Store conn.old conn.new) }
 {
     let few = most.min(MOST_ROWS as u64) as u32;
     let rows = find_rows(alloc, conn, side, no, from as u32, few)?;

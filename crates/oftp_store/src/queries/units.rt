@@ -10,6 +10,7 @@ ghost use Rattle.oftp_register.specs.Units.{file_format, units_in_blocks, units_
 ghost use Rattle.oftp_register.specs.declared.fit.TheConstants.{MOST_UNITS};
 ghost use Rattle.oftp_tables.specs.Statements.{Looks};
 ghost use Rattle.oftp_store.specs.Tells.{Tells, TellsStored};
+ghost use Rattle.oftp_store.specs.Causes.{HasCause, HasCauseWhere};
 
 use super::by_number::find;
 use super::header::{IncomingHeader, OutgoingHeader};
@@ -27,6 +28,7 @@ fn add_units(units: u64, rows: &[Row]) -> Result<u64, OfficeFault>
     requires { units ≤ MOST_UNITS }
     ensures told { IfOk result (λ sum. sum ≡ units + units_in rows.now) }
     ensures within { IfOk result (λ sum. sum ≤ MOST_UNITS) }
+    ensures beyond { IfErr result (λ _. MOST_UNITS < units + units_in rows.now) }
     ensures fails { IfErr result IsFailure }
 {
     let mut sum = units;
@@ -50,6 +52,7 @@ fn count_octets<S: Alter>(
     ensures looks { Looks (state S.Store conn.old) (state S.Store conn.new) result }
     ensures answer { Tells (λ r units. units ≡ units_in (file_rows r side no)) (state S.Store conn.old) (state S.Store conn.new) result }
     ensures within { IfOk result (λ units. units ≤ MOST_UNITS) }
+    ensures told { IfErr result (HasCause S.Store conn.old conn.new) }
 {
     let count = count_rows(conn, side, no)?;
     let mut units = 0;
@@ -72,6 +75,7 @@ fn count_records<S: Alter>(
     ensures looks { Looks (state S.Store conn.old) (state S.Store conn.new) result }
     ensures answer { TellsStored (λ r units. units ≡ length (file_rows r side no) * longest) (state S.Store conn.old) (state S.Store conn.new) result }
     ensures within { IfOk result (λ units. units ≤ MOST_UNITS) }
+    ensures told { IfErr result (HasCause S.Store conn.old conn.new) }
 {
     let count = count_rows(conn, side, no)?;
     Ok(u64::from(count) * u64::from(longest))
@@ -88,6 +92,7 @@ fn count_blocks<S: Alter>(
     ensures looks { Looks (state S.Store conn.old) (state S.Store conn.new) result }
     ensures answer { TellsStored (λ r units. units ≡ units_in_blocks (file_rows r side no)) (state S.Store conn.old) (state S.Store conn.new) result }
     ensures within { IfOk result (λ units. units ≤ MOST_UNITS) }
+    ensures told { IfErr result (HasCauseWhere S.Store (λ r. units_in_blocks (file_rows r side no) ≤ MOST_UNITS) conn.old conn.new) }
 {
     let count = count_rows(conn, side, no)?;
     let full = count.saturating_sub(1);
@@ -109,6 +114,7 @@ fn count_in_format<S: Alter>(
     ensures looks { Looks (state S.Store conn.old) (state S.Store conn.new) result }
     ensures answer { Tells (λ r units. units ≡ units_told format longest (file_rows r side no)) (state S.Store conn.old) (state S.Store conn.new) result }
     ensures within { IfOk result (λ units. units ≤ MOST_UNITS) }
+    ensures told { IfErr result (HasCauseWhere S.Store (λ r. units_told format longest (file_rows r side no) ≤ MOST_UNITS) conn.old conn.new) }
 {
     match format {
         Format::Fixed => count_records(conn, side, no, longest),
@@ -128,6 +134,7 @@ fn find_format<S: Alter>(
     ensures looks { Looks (state S.Store conn.old) (state S.Store conn.new) result }
     ensures answer { TellsStored (λ r found. found ≡ file_format r side no) (state S.Store conn.old) (state S.Store conn.new) result }
     ensures within { IfOk result (λ found. IfSome found (λ format. IsLongest format.0 format.1)) }
+    ensures told { IfErr result (HasCause S.Store conn.old conn.new) }
 {
     match side {
         Side::Incoming => {
@@ -153,6 +160,7 @@ pub(crate) fn count_units<S: Alter>(
     ensures looks { Looks (state S.Store conn.old) (state S.Store conn.new) result }
     ensures answer { Tells (λ r units. units ≡ units_of r side no) (state S.Store conn.old) (state S.Store conn.new) result }
     ensures within { IfOk result (λ units. units ≤ MOST_UNITS) }
+    ensures told { IfErr result (HasCause S.Store conn.old conn.new) }
 {
     let Some((format, longest)) = find_format(alloc, conn, side, no)? else {
         return Ok(0);

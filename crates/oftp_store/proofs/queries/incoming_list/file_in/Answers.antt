@@ -1,8 +1,17 @@
 use Rattle.std.proofs.Common.{◌∙◌, Some, ap}
 use Rattle.oftp_store.proofs.IncomingPageLemmas.{file_told}
+use Rattle.oftp_store.proofs.CommitLemmas.{err_passed}
 use Rattle.oftp_store.proofs.queries.incoming_list.file_in.Goals as goal
 
 pub returns-clause-told : goal.returns-clause-told
 returns-clause-told c no_is =
     ap Some (c.incoming_of.ensures ∙ file_told c.args.row.now c.args.no c.args.rows c.in_ok-header.header c.in_ok-response.response
     c.in_ok-header.ensures.told c.in_ok-response.ensures.told no_is)
+
+pub returns-in_err-header-clause-unfit : goal.returns-in_err-header-clause-unfit
+returns-in_err-header-clause-unfit c =
+    err_passed _ c.in_err-header.field-0.0 _ c.from_residual.ensures.1 (λ is fits. c.in_err-header.ensures.unfit is fits.0)
+
+pub returns-in_err-response-clause-unfit : goal.returns-in_err-response-clause-unfit
+returns-in_err-response-clause-unfit c =
+    err_passed _ c.in_err-response.field-0.0 _ c.from_residual-in_err-response.ensures.1 (λ is fits. c.in_err-response.ensures.unfit is fits.1)

@@ -3,6 +3,9 @@ use Rattle.std.specs.List.{filter_map}
 use Rattle.std.proofs.Math.Seq.{take-add}
 use Rattle.std.proofs.lemmas.Bool.Decides.{nat_tests}
 use Rattle.std.proofs.lemmas.List.Elements.{filter_map-append}
+use Rattle.sqlite.specs.Held.{state}
+use Rattle.oftp_tables.specs.Tables.{register_in}
+use Rattle.oftp_store.proofs.CauseLemmas.{passed_where}
 use Rattle.oftp_store.proofs.LoopLemmas.{begins_known, goes_on_known}
 use Rattle.oftp_store.proofs.queries.lists.list.Goals as goal
 
@@ -29,3 +32,11 @@ returns-clause-answer g c clean has r kept sound =
     let known = c.pages.invariant.known clean has r kept sound in
     let last : c.in_ok-last.last / 128 + 1 ≤ c.pages.page = grind (arith, nat_tests, c.pages-test.false) in
     known.1 ∙ ap (filter_map (λ item. item)) (take_all (c.pages.page * 128) (g.E.Listed.items r) (omega (arith, known.0, last))) ∙ c.table.ensures.entries r
+
+pub returns-in_err-add_page-clause-told : goal.returns-in_err-add_page-clause-told
+returns-in_err-add_page-clause-told g c =
+    passed_where g.S.Store _ c.args.conn.now c.pages.conn c.add_page.new.conn 0 c.in_err-add_page.field-0.0 _ c.pages.invariant.looks c.in_err-add_page.ensures.looks
+    (λ clean limits stands.
+    let r = register_in limits (state g.S.Store c.args.conn.now).now.trees in
+    let known = c.pages.invariant.known clean stands.holds.schema r stands.holds.tables stands.holds.sound in
+    omega (arith, known.0, c.in_ok-last.ensures.small)) c.in_err-add_page.ensures.told c.from_residual-in_err-add_page.ensures.1

@@ -2,6 +2,7 @@ use Rattle.std.proofs.Common.{◌≡◌, ◌∙◌, None, rules}
 use Rattle.oftp_register.specs.LookUps.{item_of}
 use Rattle.oftp_store.proofs.ListLemmas.{file_within, item_file, item_nothing, item_response, response_within}
 use Rattle.oftp_store.proofs.LookLemmas.{left_by}
+use Rattle.oftp_store.proofs.CauseLemmas.{passed_after}
 use Rattle.oftp_store.proofs.queries.next_item.next_item.Goals as goal
 
 pub returns-in-Some-clause-answer : goal.returns-in-Some-clause-answer
@@ -26,3 +27,7 @@ returns-clause-answer g c clean has r kept sound =
     ∙ item_file r _ c.args.cursor _ c.in_ok-file.file c.if-not-files.false (rw c.in_default.is at (c.in_ok-response.ensures.answer mid.clean has r kept sound) ∙ within)
     (c.in_ok-file.ensures.answer clean mid.schema r mid.tables
     ∙ file_within r c.args.partner.now c.args.cursor.file c.within_store.result kept.outgoing.few c.within_store.ensures.same c.within_store.ensures.far)
+
+pub returns-in_err-file-clause-told : goal.returns-in_err-file-clause-told
+returns-in_err-file-clause-told g c =
+    passed_after g.S.Store _ _ _ _ _ _ c.in_ok-response.ensures.looks c.in_err-file.ensures.looks c.in_err-file.ensures.told c.from_residual-in_err-file.ensures.1

@@ -6,6 +6,9 @@ use Rattle.oftp_tables.proofs.BindLemmas.{number_bound}
 use Rattle.oftp_tables.proofs.LookupLemmas.{looks_then}
 use Rattle.oftp_store.proofs.LookLemmas.{looks_failed}
 use Rattle.oftp_store.proofs.RowQueryLemmas.{some_read, finds_rows}
+use Rattle.oftp_store.specs.Causes.{HasBody, SomeRows}
+use Rattle.oftp_store.proofs.CommitLemmas.{err_passed}
+use Rattle.oftp_store.proofs.CauseLemmas.{asked, asked_by, query_failed, query_misread_in}
 use Rattle.oftp_store.proofs.queries.rows.find_rows.Goals as goal
 
 bodies_back : (bodies : List (List ℕ)) → map (λ (row : Row). bytes (column row 0)) (map (λ b. Blob b ∷ []) bodies) ≡ bodies
@@ -25,3 +28,14 @@ returns-clause-answer g c clean has =
     IfOk-weaker c.bodies_told.result _ _ (λ out told r kept.
     told ∙ ap (map (λ (row : Row). bytes (column row 0))) (c.as_slice.ensures.value ∙ finds_rows c.args.side _ _ c.args.no c.args.from c.args.most _ has shown r kept) ∙ bodies_back _)
     c.bodies_told.ensures.told
+
+pub returns-in_err-rows-clause-told : goal.returns-in_err-rows-clause-told
+returns-in_err-rows-clause-told g c =
+    err_passed _ c.in_err-rows.field-0.0 _ c.from_residual.ensures.1 (asked g.S.Store (SomeRows c.args.side) _ _ _ _ refl
+    (query_failed g.S.Store _ _ HasBody _ _ _ (rw c.some_rows_text.ensures at c.in_err-rows.ensures.error)))
+
+pub returns-clause-told : goal.returns-clause-told
+returns-clause-told g c =
+    asked_by g.S.Store (SomeRows c.args.side) _ _ _ c.bodies_told.result refl
+    (query_misread_in g.S.Store _ _ HasBody _ _ c.in_ok-rows.rows.items c.bodies_told.result (rw c.some_rows_text.ensures at c.in_ok-rows.ensures.shown)
+    (rw c.as_slice.ensures.value at c.bodies_told.ensures.unfit))

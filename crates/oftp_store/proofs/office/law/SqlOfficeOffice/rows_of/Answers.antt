@@ -12,3 +12,7 @@ pub returns-clause-looks : goal.returns-clause-looks
 returns-clause-looks g c =
     rw c.counted.ensures.same (looks_up (λ r rows. rows ≡ rows_of r c.args.side c.args.no c.args.from c.args.most) _ _ _ _ _ c.rows_of-found.result
     (settled_alone g.S.Store g.met.S.Store.settled _ c.args.self.now.conn) c.rows_of-found.ensures.looks c.rows_of-found.ensures.answer c.counted.ensures.counts)
+
+pub returns-clause-told : goal.returns-clause-told
+returns-clause-told g c =
+    rw c.counted.ensures.same c.rows_of-found.ensures.told

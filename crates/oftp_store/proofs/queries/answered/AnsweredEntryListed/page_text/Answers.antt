@@ -1,5 +1,8 @@
-use Rattle.oftp_store.proofs.AnsweredLemmas.{finds_answered}
+use Rattle.oftp_store.proofs.AnsweredLemmas.{finds_answered, numbers_answered}
 use Rattle.oftp_store.proofs.queries.answered.AnsweredEntryListed.page_text.Goals as goal
 
-pub returns : goal.returns
-returns c = finds_answered
+pub returns-clause-finds : goal.returns-clause-finds
+returns-clause-finds c = finds_answered
+
+pub returns-clause-numbers : goal.returns-clause-numbers
+returns-clause-numbers c = numbers_answered

@@ -1,10 +1,15 @@
-use Rattle.std.proofs.Common.{◌∙◌, Some, length, inr, ap}
+use Rattle.std.proofs.Common.{◌∙◌, Some, length, inr, ap, arith}
 use Rattle.std.proofs.lemmas.Result.{IfOk-weaker}
 use Rattle.oftp_register.specs.declared.entries.Side.TheVariants as side
 use Rattle.oftp_register.specs.LookUps.{file_rows}
-use Rattle.oftp_store.specs.Reads.{paged_out_file}
+use Rattle.oftp_store.specs.Reads.{paged_out_entry, paged_out_file}
 use Rattle.oftp_tables.proofs.LookupLemmas.{looks_then}
 use Rattle.oftp_store.proofs.LookLemmas.{looks_failed}
+use Rattle.sqlite.specs.Held.{state}
+use Rattle.oftp_tables.specs.Tables.{register_in}
+use Rattle.oftp_store.specs.Causes.{PageOut}
+use Rattle.oftp_store.proofs.CauseLemmas.{row_asked, row_misread}
+use Rattle.oftp_store.proofs.OutgoingPageLemmas.{listed_mark}
 use Rattle.oftp_store.proofs.queries.outgoing_list.OutgoingEntryListed.from_page.Goals as goal
 
 pub returns-in_err-rows-clause-looks : goal.returns-in_err-rows-clause-looks
@@ -20,3 +25,15 @@ returns-clause-answer g c clean has =
     (λ found told r kept sound no_is.
     told no_is ∙ ap (λ n. Some (paged_out_file row n)) (c.in_ok-rows.ensures.answer clean has r kept ∙ ap (λ n. length (file_rows r side.Outgoing n)) no_is))
     c.file_in.ensures.told
+
+pub returns-in_err-rows-clause-told : goal.returns-in_err-rows-clause-told
+returns-in_err-rows-clause-told g c no_is =
+    row_asked g.S.Store PageOut _ c.args.row.now c.args.conn.now c.count_rows.new.conn c.in_err-rows.field-0.0 c.from_residual.result c.in_err-rows.ensures.told c.from_residual.ensures.1
+
+pub returns-clause-told : goal.returns-clause-told
+returns-clause-told g c no_is =
+    row_misread g.S.Store PageOut _ c.args.row.now c.args.conn.now c.count_rows.new.conn _ c.in_ok-rows.rows c.file_in.result c.in_ok-rows.ensures.looks (λ clean limits stands at beyond.
+    let r = register_in limits (state g.S.Store c.args.conn.now).now.trees in
+    let marked = listed_mark r c.args.no (paged_out_entry r c.args.row.now) stands.holds.sound at in
+    let counted = c.in_ok-rows.ensures.answer clean stands.holds.schema r stands.holds.tables ∙ ap (λ n. length (file_rows r side.Outgoing n)) no_is in
+    omega (arith, beyond, marked, counted)) c.file_in.ensures.unfit

@@ -1,5 +1,7 @@
 use Rattle.std.proofs.Common.{inl, refl}
 use Rattle.std.proofs.lemmas.Result.{IfOk-weaker}
+use Rattle.oftp_store.specs.Causes.{PageReceived}
+use Rattle.oftp_store.proofs.CauseLemmas.{row_unfit}
 use Rattle.oftp_store.proofs.queries.received.ReceivedEntryListed.from_page.Goals as goal
 
 pub returns-clause-looks : goal.returns-clause-looks
@@ -7,3 +9,6 @@ returns-clause-looks g c = inl (refl, c.received_in.ensures.fails)
 
 pub returns-clause-answer : goal.returns-clause-answer
 returns-clause-answer g c clean has = IfOk-weaker c.received_in.result _ _ (λ found told r kept sound. told) c.received_in.ensures.told
+
+pub returns-clause-told : goal.returns-clause-told
+returns-clause-told g c no_is = row_unfit g.S.Store PageReceived _ c.args.row.now c.args._conn.now c.received_in.result c.received_in.ensures.unfit
