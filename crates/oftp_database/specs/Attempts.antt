@@ -1,6 +1,6 @@
 -- Which databases an attempt to open one takes.
 use Rattle.sqlite.specs.Effect.{Database}
-use Rattle.oftp_store.specs.Opens.{IsMigratable, IsOpenable}
+use Rattle.oftp_store.specs.Opens.{Demand, IsMigratable, IsOpenable, to_migrate, to_open}
 use Rattle.oftp_database.specs.declared.opening.Opening.{Opening}
 use Rattle.oftp_database.specs.declared.opening.Opening.TheVariants.{Migrate, Open}
 
@@ -8,3 +8,8 @@ use Rattle.oftp_database.specs.declared.opening.Opening.TheVariants.{Migrate, Op
 abbrev pub Takes : Opening → Database → Type 0
 Takes Open = IsOpenable
 Takes Migrate = IsMigratable
+
+-- what is demanded of it, and so what a refusal leaves
+abbrev pub demanded : Opening → Demand
+demanded Open = to_open
+demanded Migrate = to_migrate

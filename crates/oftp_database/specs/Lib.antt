@@ -1,2 +1,4 @@
 pub mod Attempts
+pub mod GoingOn
+pub mod Openings
 pub mod Seen

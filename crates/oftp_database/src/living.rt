@@ -1,13 +1,17 @@
 //! The lives of a station over the database that a command line names.
 
 ghost use Rattle.std.specs.Prelude.{IfOk};
+ghost use Rattle.sqlite.specs.Files.{over_files};
+ghost use Rattle.sqlite.specs.WalFiles.{image_at};
 ghost use Rattle.oftp_durable.specs.LifeTables.{HasDoneNothing};
+ghost use Rattle.oftp_database.specs.Openings.{IsOpened};
 
 use crate::office::DatabaseOffice;
 use crate::opening::{open, open_if_free, open_shared};
 use oftp_life::Life;
 use oftp_outcomes::Fault;
 use oftp_store::PathFault;
+use sqlite::{Start, Unknown};
 
 /// Opens the office of a database as [`open`] does, and begins a life with it.
 ///
@@ -15,6 +19,7 @@ use oftp_store::PathFault;
 /// Those of [`open`], with what they leave.
 pub fn live(rt: &HostRuntime, path: &str, patience: u32) -> Result<Life<DatabaseOffice>, Fault>
     ensures begins { IfOk result HasDoneNothing }
+    ensures opened { IfOk result (λ l. IsOpened over_files (image_at ⟦<Unknown as Start>⟧) l.began.office) }
 {
     let office = open(rt, path, patience)?;
     Ok(Life::new(office))
@@ -26,6 +31,7 @@ pub fn live(rt: &HostRuntime, path: &str, patience: u32) -> Result<Life<Database
 /// Those of [`open_shared`], with what they leave.
 pub fn live_shared(rt: &HostRuntime, path: &str) -> Result<Life<DatabaseOffice>, Fault>
     ensures begins { IfOk result HasDoneNothing }
+    ensures opened { IfOk result (λ l. IsOpened over_files (image_at ⟦<Unknown as Start>⟧) l.began.office) }
 {
     let office = open_shared(rt, path)?;
     Ok(Life::new(office))
@@ -41,6 +47,7 @@ pub fn live_if_free(
     patience: u32,
 ) -> Result<Life<DatabaseOffice>, PathFault>
     ensures begins { IfOk result HasDoneNothing }
+    ensures opened { IfOk result (λ l. IsOpened over_files (image_at ⟦<Unknown as Start>⟧) l.began.office) }
 {
     let office = open_if_free(rt, path, patience)?;
     Ok(Life::new(office))

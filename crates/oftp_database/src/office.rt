@@ -1,5 +1,6 @@
 //! The office over a database's files: how it is lent, and closed.
 
+ghost use Rattle.std.specs.Prelude.{◌≡◌};
 ghost use Rattle.sqlite.specs.Files.{over_files};
 ghost use Rattle.oftp_register.specs.Offices.{View};
 ghost use Rattle.oftp_database.specs.Seen.{seen_over};
@@ -11,18 +12,17 @@ use oftp_listing::RememberingOffice;
 use oftp_outcomes::Fault;
 use oftp_store::SqlOffice;
 use sqlite::{Alter, FileFrom, FileStore, Unknown};
-use std::alloc::Global;
 
-/// The office over files. A torn write is assumed to leave each octet old or new.
-pub(crate) type FileOffice = SqlOffice<FileStore<FileFrom<Unknown>>>;
+/// The office over files, which remembers the numbers of octets of their files. `S` stands for what they held as they were opened.
+pub(crate) type FileOffice<S> = RememberingOffice<SqlOffice<FileStore<FileFrom<S>>>>;
 
 /// The office over a database's files, which are closed when it is dropped. For lists and replies it remembers the numbers of octets of
-/// files, as long as it lives.
+/// files, as long as it lives. A torn write is assumed to leave each octet old or new ([`Unknown`]).
 ///
 /// It hides its store. The proof of a function that drops a [`FileOffice`], or calls a generic function over offices with one, has to go
 /// through the whole store. Two functions here and `limits` of its `Office` need this, and no function with a `DatabaseOffice` does.
 pub struct DatabaseOffice {
-    office: RememberingOffice<FileOffice>,
+    office: FileOffice<Unknown>,
 }
 
 impl Drop for DatabaseOffice {
@@ -47,10 +47,10 @@ trait StoreErrand {
 
 impl DatabaseOffice {
     /// The office over these files.
-    pub(crate) fn new(alloc: Global, office: FileOffice) -> DatabaseOffice {
-        DatabaseOffice {
-            office: RememberingOffice::new(alloc, office),
-        }
+    pub(crate) fn new(office: FileOffice<Unknown>) -> DatabaseOffice
+        ensures office { result.office ≡ office }
+    {
+        DatabaseOffice { office }
     }
 
     /// Writes the log into the database's file, so that it has the whole database, and closes both.

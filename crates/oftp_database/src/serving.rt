@@ -1,5 +1,11 @@
 //! The lives for the sessions and requests of a service, each of one session or one request.
 
+ghost use Rattle.std.specs.Prelude.{IfOk};
+ghost use Rattle.sqlite.specs.Files.{over_files};
+ghost use Rattle.sqlite.specs.WalFiles.{image_at};
+ghost use Rattle.oftp_durable.specs.LifeTables.{HasDoneNothing};
+ghost use Rattle.oftp_database.specs.Openings.{IsOpened};
+
 use crate::living::live_if_free;
 use crate::office::DatabaseOffice;
 use crate::opening::PATIENCE;
@@ -8,6 +14,7 @@ use oftp_life::Life;
 use oftp_outcomes::{Fault, Term, Trouble};
 use oftp_sockets::Keeper;
 use oftp_store::{PathFault, StoreFault};
+use sqlite::{Start, Unknown};
 use std::time::{Clock, Duration};
 
 /// The pause before descriptors are asked for again, in milliseconds.
@@ -33,7 +40,10 @@ impl<'a> Opened<'a> {
     }
 
     /// A life over the database. A database that stays locked, or for which there stays no descriptor, is an error of this caller alone.
-    fn life(&mut self, rt: &HostRuntime) -> Result<Life<DatabaseOffice>, Trouble> {
+    fn life(&mut self, rt: &HostRuntime) -> Result<Life<DatabaseOffice>, Trouble>
+        ensures begins { IfOk result HasDoneNothing }
+        ensures opened { IfOk result (λ l. IsOpened over_files (image_at ⟦<Unknown as Start>⟧) l.began.office) }
+    {
         for _ in 0..PATIENCE {
             if self.spare.hold(rt) == Supply::Enough {
                 self.spare.release();
@@ -55,7 +65,10 @@ impl<'a> Opened<'a> {
 
 impl Keeper<Life<DatabaseOffice>> for Opened<'_> {
     // A database that stays locked, or for which there stays no descriptor, is an error of this job alone.
-    fn open(&mut self, rt: &HostRuntime) -> Result<Life<DatabaseOffice>, Trouble> {
+    fn open(&mut self, rt: &HostRuntime) -> Result<Life<DatabaseOffice>, Trouble>
+        ensures begins { IfOk result HasDoneNothing }
+        ensures opened { IfOk result (λ l. IsOpened over_files (image_at ⟦<Unknown as Start>⟧) l.began.office) }
+    {
         let opened = self.life(rt);
         if opened.is_err() {
             let _ = self.spare.hold(rt);

@@ -201,8 +201,13 @@ pub fn is_over_durable<S: Alter>(life: &Life<SqlOffice<S>>) -> bool
 pub fn end_durable<S: Alter>(session: LifeSession<'_, SqlOffice<S>>) -> (Life<SqlOffice<S>>, Outbox)
     ensures life { result.0 ≡ record { office = session.entry.office; began = session.entry.began; acts = session.entry.acts; faults = session.entry.faults; over = is_over_at session.entry.stage } }
     ensures out { result.1 ≡ session.entry.out.inner }
+    // The headline.
+    ensures leaves { HasCleanDisk (database_of S.Store result.0.office) → (r : Register) → Has (limits_of result.0.began) r (database_of S.Store result.0.began)
+        → AllLeaves r result.0.acts result.0.over (limits_of result.0.office) (database_of S.Store result.0.office) }
 {
-    session.end()
+    let (life, out) = session.end();
+    is_over_durable(&life);
+    (life, out)
 }
 
 /// Carries out an operator's call, as [`Life::order`] does.

@@ -1,5 +1,12 @@
+use Rattle.sqlite.specs.Files.{over_files}
 use Rattle.oftp_durable.proofs.LifeTables.{done_nothing}
+use Rattle.oftp_database.specs.Openings.{IsOpened}
+use Rattle.oftp_database.proofs.Beginning.{began_with}
+use Rattle.oftp_database.specs.declared.office.DatabaseOffice.{DatabaseOffice}
 use Rattle.oftp_database.proofs.living.live.Goals as goal
 
-pub returns : goal.returns
-returns c = record { begins = done_nothing c.new.result c.in_ok-office.office c.new.ensures }
+pub returns-clause-begins : goal.returns-clause-begins
+returns-clause-begins c = done_nothing c.new.result c.in_ok-office.office c.new.ensures
+
+pub returns-clause-opened : goal.returns-clause-opened
+returns-clause-opened c = began_with (λ (o : DatabaseOffice). IsOpened over_files _ o.office) c.new.result c.in_ok-office.office c.new.ensures c.in_ok-office.ensures.opened
