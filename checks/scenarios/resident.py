@@ -1683,7 +1683,7 @@ def with_files(room, count):
 
 
 def killed_before_it_hears_a_command(room):
-    """Each command whose station is killed before it would hear a request says that nothing was asked, and has done nothing."""
+    """Each command whose station is killed before it has heard the request says so, and has done nothing."""
     file, fetched = room / "file", room / "fetched"
     file.write_bytes(b"A")
     with_files(room, 2)
@@ -1701,7 +1701,7 @@ def killed_before_it_hears_a_command(room):
         until_connected(asked)
         service.program.kill()
         for program in asked:
-            expect(told(program), (1, b"", b"fault: 8 socket\n"), f"{program.args[1]} of a station that is killed")
+            expect(told(program), (1, b"", b"fault: 3 office\n"), f"{program.args[1]} of a station that is killed")
     expect_untouched(room, service.database)
 
 

@@ -55,18 +55,14 @@ fn connected(rt: &HostRuntime, database: &str) -> Option<UnixStream> {
     SocketPlace::beside(rt, database).ok()?.connect(rt).ok()
 }
 
-/// Sends a request, once the station will read it. Of a station that ends before that nothing is asked.
+/// Sends a request, once the station will read it. A station that ends meanwhile reads no more of it, and its answer says so.
 fn send(alloc: Global, stream: &UnixStream, request: &Request<'_>) -> Result<(), Fault> {
-    let ready = read_ready(alloc, &mut Port::new(stream, u64::MAX));
-    ready.map_err(|fault| fault_of(fault, Fault::Socket))?;
+    read_ready(alloc, &mut Port::new(stream, u64::MAX)).map_err(fault_of)?;
     if !fits(request) {
         return Err(Fault::MEMORY);
     }
-    if write_request(&mut Port::new(stream, 0), request) {
-        Ok(())
-    } else {
-        Err(GONE)
-    }
+    let _ = write_request(&mut Port::new(stream, 0), request);
+    Ok(())
 }
 
 /// Writes the pieces of an answer to `out` as they arrive. Returns its end.
@@ -78,7 +74,7 @@ fn receive(
 ) -> Result<Ending, Fault> {
     let mut reader = Port::new(stream, u64::MAX);
     for _ in 0..u64::MAX {
-        match read_part(alloc, &mut reader).map_err(|fault| fault_of(fault, GONE))? {
+        match read_part(alloc, &mut reader).map_err(fault_of)? {
             AnswerPart::End(Ending::Failed(fault)) => return Err(fault),
             AnswerPart::End(ending) => return Ok(ending),
             AnswerPart::Piece(_, octets) => {
@@ -106,10 +102,10 @@ fn take_piece(
     Ok(())
 }
 
-/// The error for octets that can't be read, where the station is gone with this one.
-fn fault_of(fault: HearFault, gone: Fault) -> Fault {
+/// The error for an answer that can't be read.
+fn fault_of(fault: HearFault) -> Fault {
     match fault {
         HearFault::Memory => Fault::MEMORY,
-        HearFault::Input | HearFault::Form => gone,
+        HearFault::Input | HearFault::Form => GONE,
     }
 }

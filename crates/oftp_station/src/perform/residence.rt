@@ -1,5 +1,6 @@
 //! The command `run`, over sockets.
 
+use oftp_channel::{Ending, READY};
 use oftp_command_line::Run;
 use oftp_commands::{admission_of, station_of, trace_of};
 use oftp_database::{self as database, DatabaseOffice, PATIENCE};
@@ -7,15 +8,19 @@ use oftp_files::read_book_octets;
 use oftp_life::Life;
 use oftp_listing::Site;
 use oftp_outcomes::Fault;
-use oftp_requests::codes_of;
+use oftp_requests::{bare_answer, codes_of};
 use oftp_resident::{Bench, Kept, SessionLines, Start, serve};
 use oftp_schedule::connection::Counted;
 use oftp_sockets::{SocketPlace, Station, bound, socket_fault};
 use std::alloc::Global;
 use std::io::Write;
+use std::os::unix::net::UnixListener;
 
 /// For how many seconds a call is connected at most: the system has sent four SYNs by then.
 const DIALING: u64 = 15;
+
+/// How many commands wait to be accepted at most, as the system is set up by itself.
+const MOST_WAITING: u32 = 4_096;
 
 /// Serves partners and commands over the database, which stays open. Writes a line to `out` when it is ready, and one for each session.
 pub(super) fn run(rt: &HostRuntime, line: &Run<'_>, out: &mut impl Write) -> Result<(), Fault> {
@@ -84,5 +89,22 @@ fn run_over(
         &mut SessionLines::new(out),
     );
     let _ = place.remove(rt);
+    dismiss(rt.alloc(), &commands);
     ended
+}
+
+/// Answers each command that was never accepted that the station has ended, so that nothing of it was begun.
+fn dismiss(alloc: Global, commands: &UnixListener) {
+    let answer = bare_answer(alloc, Ending::Failed(Fault::Socket));
+    if commands.set_nonblocking(true).is_err() {
+        return;
+    }
+    for _ in 0..MOST_WAITING {
+        let Ok((socket, _)) = commands.accept() else {
+            return;
+        };
+        let mut socket = &socket;
+        let _ = socket.write(&[READY]);
+        let _ = socket.write(answer.as_slice());
+    }
 }
