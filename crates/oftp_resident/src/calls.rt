@@ -174,7 +174,7 @@ impl<'a> Shell<'a> {
     pub(crate) fn hang_up(&mut self, id: u64) {
         let alloc = self.rt.alloc();
         if let Some(peer) = peer_in(&mut self.peers, id) {
-            if peer.reading == Reading::Session
+            if let Reading::Session | Reading::Sending = peer.reading
                 && let Some(trace) = &mut peer.trace
             {
                 let ended: Result<End, Fault> = Err(Fault::Run(RunFault::Read));

@@ -28,6 +28,8 @@ pub(crate) enum Reading {
     Opening,
     /// The next piece of a session.
     Session,
+    /// Nothing, while a session sends a file. What comes meanwhile, and an end, is read after that.
+    Sending,
     /// A command's request.
     Command,
     /// A request over HTTP.
@@ -174,7 +176,7 @@ impl<'a> Peer<'a> {
     /// Whether something can be read of it that is to be read.
     pub(crate) fn is_ready_to_read(&self) -> bool {
         let is_read = match self.reading {
-            Reading::Nothing | Reading::Dial => false,
+            Reading::Nothing | Reading::Dial | Reading::Sending => false,
             Reading::Session => self.heard.is_empty(),
             _ => true,
         };

@@ -160,9 +160,12 @@ impl<'a> Peer<'a> {
 
     /// What a step leaves that heard so many octets. A session that sends a file goes on without more octets.
     fn step(&mut self, stage: &Option<Stage>, heard: u32) -> Step {
-        let input = match stage {
-            Some(Stage::Sends) => Input::Here,
-            _ => self.input(),
+        let input = if let Some(Stage::Sends) = stage {
+            self.reading = Reading::Sending;
+            Input::Here
+        } else {
+            self.reading = Reading::Session;
+            self.input()
         };
         Step {
             heard,
