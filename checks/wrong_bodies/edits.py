@@ -102,9 +102,10 @@ class Function:
         return path == self.path and self.first <= line <= self.last
 
 
-def plain(name):
-    """A type or a trait as rattle prints it: the last part of its path, with its type arguments after it."""
-    return re.sub(r"\W", "", re.sub(r"\w+::|\bmut\b|\bdyn\b|'\w+", "", re.sub(r"(<.*)<.*>>", r"\1>", name)))
+def plain(name, parameters=()):
+    """A type or a trait as rattle prints it: the last part of its path, with its type arguments after it. Theirs follow, but for parameters."""
+    name = re.sub(r"(?<=<)(.*)<(.*)>(?=>)", lambda it: it[1] + "".join(word for word in re.findall(r"\w+", it[2]) if word not in parameters), name)
+    return re.sub(r"\W", "", re.sub(r"\w+::|\bmut\b|\bdyn\b|'\w+", "", name))
 
 
 def owner_of(kind, head):
@@ -118,7 +119,7 @@ def owner_of(kind, head):
     trait, _, of = head[end:].rpartition(" for ")
     kind = plain(re.sub(r"<.*>", "", of))
     kind = "Any" if kind in parameters else kind
-    return kind, kind + plain(trait)
+    return kind, kind + plain(trait, parameters)
 
 
 def module_of(path, source):
