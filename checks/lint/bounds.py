@@ -65,17 +65,17 @@ LIMITS = {name: constant("oftp_schedule/src/sizes.rt", name.lower()) for name in
 # These are in milliseconds there.
 LIMITS |= {name: constant("oftp_schedule/src/sizes.rt", name.lower()) // 1000 for name in "SHELTER ASKING REQUESTING FAREWELL COPYING STANDING".split()}
 PAUSES = tuple(constant("oftp_schedule/src/durations.rt", name) // 1000 for name in ("LESSER", "GREATER"))
-DIALING = constant("oftp_station/src/perform/residence.rt", "DIALING")
-PIECE = constant("oftp_engine/src/serving.rt", "PIECE")
-TURNS = constant("oftp_engine/src/serving.rt", "MOST_TURNS")
-FIRST_ROWS = constant("oftp_session/src/sending.rt", "FIRST_ROWS")
+DIALING = constant("oftp_services/src/residence.rt", "DIALING")
+PIECE = constant("oftp_engine/src/limits.rt", "PIECE")
+TURNS = constant("oftp_engine/src/limits.rt", "MOST_TURNS")
+FIRST_ROWS = constant("oftp_session/src/payloads.rt", "FIRST_ROWS")
 ADMISSION = constant(LINE, "MOST_ADMISSION")
 DURATION = constant(LINE, "MOST_DURATION")
 PATIENCE = constant(LINE, "MOST_PATIENCE")
 CALLERS = constant(LINE, "MOST_CALLERS")
 INTERVAL = constant(LINE, "MOST_INTERVAL")
 
-LONGEST_FRAME = constant("oftp_engine/src/conversation.rt", "LONGEST_FRAME")
+LONGEST_FRAME = constant("oftp_engine/src/limits.rt", "LONGEST_FRAME")
 
 COMMANDS = variants("oftp_wire/src/command.rt", "Command")
 CHANGES = variants("oftp_register/src/change.rt", "Change")

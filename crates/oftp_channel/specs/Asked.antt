@@ -1,5 +1,6 @@
 -- Requests as typed values, and the words that stand for each.
-use Rattle.std.specs.Prelude.{ℕ, ◌<◌, ◌^◌, List, [], ◌∷◌}
+use Rattle.std.specs.Prelude.{ℕ, ◌<◌, ◌^◌, List, [], ◌∷◌, map}
+use Rattle.std.specs.Global.{Vec}
 use Rattle.std.specs.Int.{w64, to_be_bytes}
 use Rattle.std.specs.Str.{IsUtf8}
 use Rattle.oftp_vfile.specs.declared.format.Format.{Format}
@@ -31,6 +32,14 @@ abbrev pub octets_in : Word → List ℕ
 octets_in (words.Octet octet) = octet_word octet
 octets_in (words.Number number) = number_word number
 octets_in (words.Octets octets) = octets.now
+
+-- the octets of words that are written
+abbrev pub written_words : List Word → List (List ℕ)
+written_words words = map (λ word. octets_in word) words
+
+-- the octets of words that were read
+abbrev pub read_words : List (Vec ℕ) → List (List ℕ)
+read_words words = map (λ word. word.items) words
 
 -- the octet that encodes the kind of a request
 abbrev pub request_code : RequestKind → ℕ

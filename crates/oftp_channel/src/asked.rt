@@ -1,7 +1,7 @@
 //! The request that words stand for.
 
-ghost use Rattle.std.specs.Prelude.{◌≡◌, [], None, IfSome, map};
-ghost use Rattle.oftp_channel.specs.Asked.{IsAskable, request_fields, request_kind, submission_fields, words_of};
+ghost use Rattle.std.specs.Prelude.{◌≡◌, [], None, IfSome};
+ghost use Rattle.oftp_channel.specs.Asked.{IsAskable, read_words, request_fields, request_kind, submission_fields, words_of};
 ghost use Rattle.oftp_channel.specs.InsideAsked.{IsFor, IsNoRequest, IsNoSubmission};
 ghost use Rattle.oftp_channel.specs.declared.asking.Request.{Request};
 ghost use Rattle.oftp_channel.specs.declared.codes.RequestKind.TheVariants.{Call, Fetch, Holds, Outgoing, Refuse, Release, Report, Submit};
@@ -18,8 +18,8 @@ impl<'a> Request<'a> {
     /// The request that these words stand for. `None` if they stand for none: if their number is another, a text isn't UTF-8, or a number or
     /// an octet is out of its range.
     pub fn of(words: &'a [Vec<u8>]) -> Option<Request<'a>>
-        ensures some { IfSome result (λ request. words_of request ≡ map (λ word. word.items) words.now) }
-        ensures none { result ≡ None → (request : Request) → IsAskable request → words_of request ≡ map (λ word. word.items) words.now → ⊥ }
+        ensures some { IfSome result (λ request. words_of request ≡ read_words words.now) }
+        ensures none { result ≡ None → (request : Request) → IsAskable request → words_of request ≡ read_words words.now → ⊥ }
     {
         let [kind, fields @ ..] = words else {
             return None;
@@ -30,8 +30,8 @@ impl<'a> Request<'a> {
 
 // The request of this kind that has these fields.
 fn request_in<'a>(kind: RequestKind, fields: &'a [Vec<u8>]) -> Option<Request<'a>>
-    ensures some { IfSome result (IsFor kind (map (λ word. word.items) fields.now)) }
-    ensures none { result ≡ None → IsNoRequest kind (map (λ word. word.items) fields.now) }
+    ensures some { IfSome result (IsFor kind (read_words fields.now)) }
+    ensures none { result ≡ None → IsNoRequest kind (read_words fields.now) }
 {
     match kind {
         RequestKind::Submit => submit_in(fields),
@@ -50,8 +50,8 @@ fn request_in<'a>(kind: RequestKind, fields: &'a [Vec<u8>]) -> Option<Request<'a
 
 // The request to submit a file that has these fields.
 fn submit_in<'a>(fields: &'a [Vec<u8>]) -> Option<Request<'a>>
-    ensures some { IfSome result (IsFor Submit (map (λ word. word.items) fields.now)) }
-    ensures none { result ≡ None → IsNoRequest Submit (map (λ word. word.items) fields.now) }
+    ensures some { IfSome result (IsFor Submit (read_words fields.now)) }
+    ensures none { result ≡ None → IsNoRequest Submit (read_words fields.now) }
 {
     let [book, others @ ..] = fields else {
         return None;
@@ -62,8 +62,8 @@ fn submit_in<'a>(fields: &'a [Vec<u8>]) -> Option<Request<'a>>
 
 // The submission that has these fields.
 fn submission_in<'a>(fields: &'a [Vec<u8>]) -> Option<Submission<'a>>
-    ensures some { IfSome result (λ submission. submission_fields submission ≡ map (λ word. word.items) fields.now) }
-    ensures none { result ≡ None → IsNoSubmission (map (λ word. word.items) fields.now) }
+    ensures some { IfSome result (λ submission. submission_fields submission ≡ read_words fields.now) }
+    ensures none { result ≡ None → IsNoSubmission (read_words fields.now) }
 {
     let [
         dataset,
@@ -93,8 +93,8 @@ fn submission_in<'a>(fields: &'a [Vec<u8>]) -> Option<Submission<'a>>
 
 // The request to release a file that has these fields.
 fn release_in<'a>(fields: &'a [Vec<u8>]) -> Option<Request<'a>>
-    ensures some { IfSome result (IsFor Release (map (λ word. word.items) fields.now)) }
-    ensures none { result ≡ None → IsNoRequest Release (map (λ word. word.items) fields.now) }
+    ensures some { IfSome result (IsFor Release (read_words fields.now)) }
+    ensures none { result ≡ None → IsNoRequest Release (read_words fields.now) }
 {
     let [book, no] = fields else {
         return None;
@@ -105,8 +105,8 @@ fn release_in<'a>(fields: &'a [Vec<u8>]) -> Option<Request<'a>>
 
 // The request to refuse a file that has these fields.
 fn refuse_in<'a>(fields: &'a [Vec<u8>]) -> Option<Request<'a>>
-    ensures some { IfSome result (IsFor Refuse (map (λ word. word.items) fields.now)) }
-    ensures none { result ≡ None → IsNoRequest Refuse (map (λ word. word.items) fields.now) }
+    ensures some { IfSome result (IsFor Refuse (read_words fields.now)) }
+    ensures none { result ≡ None → IsNoRequest Refuse (read_words fields.now) }
 {
     let [book, no, reason, text] = fields else {
         return None;
@@ -121,8 +121,8 @@ fn refuse_in<'a>(fields: &'a [Vec<u8>]) -> Option<Request<'a>>
 
 // The request for a call that has these fields.
 fn call_in<'a>(fields: &'a [Vec<u8>]) -> Option<Request<'a>>
-    ensures some { IfSome result (IsFor Call (map (λ word. word.items) fields.now)) }
-    ensures none { result ≡ None → IsNoRequest Call (map (λ word. word.items) fields.now) }
+    ensures some { IfSome result (IsFor Call (read_words fields.now)) }
+    ensures none { result ≡ None → IsNoRequest Call (read_words fields.now) }
 {
     let [book, partner, patience, longest, tracing] = fields else {
         return None;
@@ -138,8 +138,8 @@ fn call_in<'a>(fields: &'a [Vec<u8>]) -> Option<Request<'a>>
 
 // The request for a report that has these fields.
 fn report_asked<'a>(fields: &'a [Vec<u8>]) -> Option<Request<'a>>
-    ensures some { IfSome result (IsFor Report (map (λ word. word.items) fields.now)) }
-    ensures none { result ≡ None → IsNoRequest Report (map (λ word. word.items) fields.now) }
+    ensures some { IfSome result (IsFor Report (read_words fields.now)) }
+    ensures none { result ≡ None → IsNoRequest Report (read_words fields.now) }
 {
     let [kind] = fields else {
         return None;
@@ -149,8 +149,8 @@ fn report_asked<'a>(fields: &'a [Vec<u8>]) -> Option<Request<'a>>
 
 // The request for outgoing files that has these fields.
 fn outgoing_in<'a>(fields: &'a [Vec<u8>]) -> Option<Request<'a>>
-    ensures some { IfSome result (IsFor Outgoing (map (λ word. word.items) fields.now)) }
-    ensures none { result ≡ None → IsNoRequest Outgoing (map (λ word. word.items) fields.now) }
+    ensures some { IfSome result (IsFor Outgoing (read_words fields.now)) }
+    ensures none { result ≡ None → IsNoRequest Outgoing (read_words fields.now) }
 {
     let [to] = fields else {
         return None;
@@ -160,8 +160,8 @@ fn outgoing_in<'a>(fields: &'a [Vec<u8>]) -> Option<Request<'a>>
 
 // The request for a content that has these fields.
 fn fetch_in<'a>(fields: &'a [Vec<u8>]) -> Option<Request<'a>>
-    ensures some { IfSome result (IsFor Fetch (map (λ word. word.items) fields.now)) }
-    ensures none { result ≡ None → IsNoRequest Fetch (map (λ word. word.items) fields.now) }
+    ensures some { IfSome result (IsFor Fetch (read_words fields.now)) }
+    ensures none { result ≡ None → IsNoRequest Fetch (read_words fields.now) }
 {
     let [no] = fields else {
         return None;
@@ -171,8 +171,8 @@ fn fetch_in<'a>(fields: &'a [Vec<u8>]) -> Option<Request<'a>>
 
 // The request to compare a content that has these fields.
 fn holds_in<'a>(fields: &'a [Vec<u8>]) -> Option<Request<'a>>
-    ensures some { IfSome result (IsFor Holds (map (λ word. word.items) fields.now)) }
-    ensures none { result ≡ None → IsNoRequest Holds (map (λ word. word.items) fields.now) }
+    ensures some { IfSome result (IsFor Holds (read_words fields.now)) }
+    ensures none { result ≡ None → IsNoRequest Holds (read_words fields.now) }
 {
     let [no, content] = fields else {
         return None;
@@ -185,8 +185,8 @@ fn holds_in<'a>(fields: &'a [Vec<u8>]) -> Option<Request<'a>>
 
 // A request that has no fields.
 fn alone<'a>(request: Request<'a>, fields: &[Vec<u8>]) -> Option<Request<'a>>
-    ensures some { IfSome result (λ asked. (asked ≡ request.entry) × (map (λ word. word.items) fields.now ≡ [])) }
-    ensures none { result ≡ None → map (λ word. word.items) fields.now ≡ [] → ⊥ }
+    ensures some { IfSome result (λ asked. (asked ≡ request.entry) × (read_words fields.now ≡ [])) }
+    ensures none { result ≡ None → read_words fields.now ≡ [] → ⊥ }
 {
     if fields.is_empty() {
         Some(request)

@@ -1,8 +1,8 @@
 //! Requests of commands as typed values, and how they are written.
 
-ghost use Rattle.std.specs.Prelude.{◌≡◌, ◌≤◌, ◌↔◌, ◌∷◌, [], IsTrue, length, map};
+ghost use Rattle.std.specs.Prelude.{◌≡◌, ◌≤◌, ◌↔◌, ◌∷◌, [], IsTrue, length};
 ghost use Rattle.oftp_io.specs.Ports.{Sent};
-ghost use Rattle.oftp_channel.specs.Asked.{call_fields, call_kind, number_word, octet_word, octets_in, request_code, submission_fields, tracing_code, words_of};
+ghost use Rattle.oftp_channel.specs.Asked.{call_fields, call_kind, number_word, octet_word, octets_in, request_code, submission_fields, tracing_code, words_of, written_words};
 ghost use Rattle.oftp_channel.specs.Requests.{IsRequest, spelled_request};
 ghost use Rattle.oftp_channel.specs.declared.codes.RequestKind.TheVariants.{Call, Holds, Refuse, Release, Submit};
 
@@ -107,7 +107,7 @@ fn listed<'a>(words: &[Word<'a>]) -> ArrayVec<Word<'a>, MOST_IN_ONE>
 impl<'a> Request<'a> {
     // Its words.
     fn words(&self) -> ArrayVec<Word<'a>, MOST_IN_ONE>
-        ensures { map (λ word. octets_in word) result.items ≡ words_of self.now }
+        ensures { written_words result.items ≡ words_of self.now }
     {
         match *self {
             Request::Operate { book, call } => operator_words(book, call),
@@ -135,21 +135,21 @@ impl<'a> Request<'a> {
 
 // The word of a request without fields.
 fn one_word<'a>(kind: RequestKind) -> ArrayVec<Word<'a>, MOST_IN_ONE>
-    ensures { map (λ word. octets_in word) result.items ≡ octet_word (request_code kind) ∷ [] }
+    ensures { written_words result.items ≡ octet_word (request_code kind) ∷ [] }
 {
     listed(&[Word::Octet(kind.code())])
 }
 
 // The words of a request with one field.
 fn two_words<'a>(kind: RequestKind, field: Word<'a>) -> ArrayVec<Word<'a>, MOST_IN_ONE>
-    ensures { map (λ word. octets_in word) result.items ≡ octet_word (request_code kind) ∷ octets_in field.entry ∷ [] }
+    ensures { written_words result.items ≡ octet_word (request_code kind) ∷ octets_in field.entry ∷ [] }
 {
     listed(&[Word::Octet(kind.code()), field])
 }
 
 // The words of the request to compare a content.
 fn holds_words<'a>(no: u64, content: &'a [u8]) -> ArrayVec<Word<'a>, MOST_IN_ONE>
-    ensures { map (λ word. octets_in word) result.items ≡ octet_word (request_code Holds) ∷ number_word no ∷ content.now ∷ [] }
+    ensures { written_words result.items ≡ octet_word (request_code Holds) ∷ number_word no ∷ content.now ∷ [] }
 {
     listed(&[
         Word::Octet(RequestKind::Holds.code()),
@@ -166,7 +166,7 @@ fn call_words<'a>(
     longest: u64,
     tracing: Tracing,
 ) -> ArrayVec<Word<'a>, MOST_IN_ONE>
-    ensures { map (λ word. octets_in word) result.items ≡ octet_word (request_code Call) ∷ book.now ∷ partner.now ∷ number_word patience
+    ensures { written_words result.items ≡ octet_word (request_code Call) ∷ book.now ∷ partner.now ∷ number_word patience
         ∷ number_word longest ∷ octet_word (tracing_code tracing) ∷ [] }
 {
     listed(&[
@@ -181,7 +181,7 @@ fn call_words<'a>(
 
 // The words of the request for an operator's call.
 fn operator_words<'a>(book: &'a [u8], call: Operator<'a>) -> ArrayVec<Word<'a>, MOST_IN_ONE>
-    ensures { map (λ word. octets_in word) result.items ≡ octet_word (request_code (call_kind call.entry)) ∷ book.now ∷ call_fields call.entry }
+    ensures { written_words result.items ≡ octet_word (request_code (call_kind call.entry)) ∷ book.now ∷ call_fields call.entry }
 {
     match call {
         Operator::Submit(submission) => submission_words(book, submission),
@@ -192,7 +192,7 @@ fn operator_words<'a>(book: &'a [u8], call: Operator<'a>) -> ArrayVec<Word<'a>, 
 
 // The words of the request to release a file.
 fn release_words<'a>(book: &'a [u8], no: u64) -> ArrayVec<Word<'a>, MOST_IN_ONE>
-    ensures { map (λ word. octets_in word) result.items ≡ octet_word (request_code Release) ∷ book.now ∷ number_word no ∷ [] }
+    ensures { written_words result.items ≡ octet_word (request_code Release) ∷ book.now ∷ number_word no ∷ [] }
 {
     listed(&[
         Word::Octet(RequestKind::Release.code()),
@@ -208,7 +208,7 @@ fn refuse_words<'a>(
     reason: u64,
     text: &'a str,
 ) -> ArrayVec<Word<'a>, MOST_IN_ONE>
-    ensures { map (λ word. octets_in word) result.items ≡ octet_word (request_code Refuse) ∷ book.now ∷ number_word no ∷ number_word reason ∷ text.now ∷ [] }
+    ensures { written_words result.items ≡ octet_word (request_code Refuse) ∷ book.now ∷ number_word no ∷ number_word reason ∷ text.now ∷ [] }
 {
     listed(&[
         Word::Octet(RequestKind::Refuse.code()),
@@ -224,7 +224,7 @@ fn submission_words<'a>(
     book: &'a [u8],
     submission: Submission<'a>,
 ) -> ArrayVec<Word<'a>, MOST_IN_ONE>
-    ensures { map (λ word. octets_in word) result.items ≡ octet_word (request_code Submit) ∷ book.now ∷ submission_fields submission.entry }
+    ensures { written_words result.items ≡ octet_word (request_code Submit) ∷ book.now ∷ submission_fields submission.entry }
 {
     listed(&[
         Word::Octet(RequestKind::Submit.code()),

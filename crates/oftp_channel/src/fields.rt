@@ -10,25 +10,20 @@ ghost use Rattle.oftp_channel.specs.declared.codes.RequestKind.{RequestKind};
 
 use crate::asking::Tracing;
 use crate::codes::{RequestKind, format_of, report_of};
+use crate::inputs::long_of;
 use oftp_listing::ReportKind;
 use oftp_vfile::Format;
 use std::str;
-
-// The number of eight octets.
-fn number_from(octets: [u8; 8]) -> u64
-    ensures { number_word result ≡ octets }
-{
-    u64::from_be_bytes(octets)
-}
 
 // The number that a word spells.
 pub(crate) fn number_in(word: &[u8]) -> Option<u64>
     ensures some { IfSome result (λ number. number_word number ≡ word.now) }
     ensures none { result ≡ None → IsNoNumber word.now }
 {
-    match word {
-        [a, b, c, d, e, f, g, h] => Some(number_from([*a, *b, *c, *d, *e, *f, *g, *h])),
-        _ => None,
+    if word.len() == 8 {
+        Some(long_of(word))
+    } else {
+        None
     }
 }
 

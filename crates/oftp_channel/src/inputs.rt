@@ -69,7 +69,7 @@ pub(crate) fn read_number<R: Read>(alloc: Global, reader: &mut Port<R>) -> Resul
 }
 
 // The number that eight octets encode.
-fn long_of(octets: &[u8]) -> u64
+pub(crate) fn long_of(octets: &[u8]) -> u64
     requires { length octets.now ≡ 8 }
     ensures { to_be_bytes w64 result ≡ octets.now }
 {

@@ -1,7 +1,8 @@
 //! A file in a list that is an answer.
 
-ghost use Rattle.std.specs.Prelude.{◌≡◌, None, IfSome, false, map};
+ghost use Rattle.std.specs.Prelude.{◌≡◌, None, IfSome, false};
 ghost use Rattle.oftp_io.specs.Ports.{Sent};
+ghost use Rattle.oftp_channel.specs.Asked.{read_words};
 ghost use Rattle.oftp_channel.specs.Listed.{IsListable, entry_words};
 ghost use Rattle.oftp_channel.specs.Requests.{IsRequest, spelled_request};
 ghost use Rattle.oftp_channel.specs.declared.listed.ListedFile.{ListedFile};
@@ -31,8 +32,8 @@ impl<'a> ListedFile<'a> {
     /// The file that these words stand for. `None` if they stand for none: if they aren't five, the number isn't one of eight octets, or a
     /// text isn't UTF-8.
     pub fn of(words: &'a [Vec<u8>]) -> Option<ListedFile<'a>>
-        ensures some { IfSome result (λ file. entry_words file ≡ map (λ word. word.items) words.now) }
-        ensures none { result ≡ None → (file : ListedFile) → IsListable file → entry_words file ≡ map (λ word. word.items) words.now → ⊥ }
+        ensures some { IfSome result (λ file. entry_words file ≡ read_words words.now) }
+        ensures none { result ≡ None → (file : ListedFile) → IsListable file → entry_words file ≡ read_words words.now → ⊥ }
     {
         let [no, dataset, date, time, code] = words else {
             return None;

@@ -1,8 +1,8 @@
 //! Writing and reading requests.
 
-ghost use Rattle.std.specs.Prelude.{◌≡◌, ◌≤◌, ◌<◌, ◌^◌, ◌↔◌, ◌++◌, ℕ, List, Some, IfOk, IfErr, IsTrue, length, map};
+ghost use Rattle.std.specs.Prelude.{◌≡◌, ◌≤◌, ◌<◌, ◌^◌, ◌↔◌, ◌++◌, ℕ, List, Some, IfOk, IfErr, IsTrue, length};
 ghost use Rattle.oftp_io.specs.Ports.{Sent};
-ghost use Rattle.oftp_channel.specs.Asked.{octets_in};
+ghost use Rattle.oftp_channel.specs.Asked.{octets_in, read_words, written_words};
 ghost use Rattle.oftp_channel.specs.Inputs.{Gave, Leaves};
 ghost use Rattle.oftp_channel.specs.Requests.{BeginsNoRequest, IsRequest, spelled_request, spelled_word};
 ghost use Rattle.oftp_channel.specs.declared.fault.HearFault.TheVariants.{Form};
@@ -52,7 +52,7 @@ impl Word<'_> {
 
 /// Whether these words make a request: at most [`MOST_WORDS`], of at most [`LARGEST_REQUEST`] octets together.
 pub fn words_fit(words: &[Word<'_>]) -> bool
-    ensures { IsTrue result ↔ IsRequest (map (λ word. octets_in word) words.now) }
+    ensures { IsTrue result ↔ IsRequest (written_words words.now) }
 {
     let mut left = LARGEST_REQUEST;
     for word in words {
@@ -68,8 +68,8 @@ pub fn words_fit(words: &[Word<'_>]) -> bool
 /// Writes a request of words that pass [`words_fit`], and returns whether the writer took all of it. If it didn't, it returned an error and
 /// has a beginning of the request.
 pub fn write_words<W: Write>(writer: &mut Port<W>, words: &[Word<'_>]) -> bool
-    requires { IsRequest (map (λ word. octets_in word) words.now) }
-    ensures { Sent W.contents writer.old writer.new (spelled_request (map (λ word. octets_in word) words.now)) result }
+    requires { IsRequest (written_words words.now) }
+    ensures { Sent W.contents writer.old writer.new (spelled_request (written_words words.now)) result }
 {
     if !writer.send(&(words.len() as u32).to_be_bytes()) {
         return false;
@@ -116,11 +116,11 @@ fn write_octets<W: Write>(writer: &mut Port<W>, word: &[u8]) -> bool
 /// The octets that were read are lost.
 pub fn read_request<R: Read>(alloc: Global, reader: &mut Port<R>) -> Result<Vec<Vec<u8>>, HearFault>
     // The octets that were read are the encoding of the request.
-    ensures request { IfOk result (λ words. IsRequest (map (λ word. word.items) words.items)) }
-    ensures read { IfOk result (λ words. Gave R.remaining reader.old reader.new (spelled_request (map (λ word. word.items) words.items))) }
+    ensures request { IfOk result (λ words. IsRequest (read_words words.items)) }
+    ensures read { IfOk result (λ words. Gave R.remaining reader.old reader.new (spelled_request (read_words words.items))) }
     // A request that was written is read back, whatever follows it.
     ensures again { (asked : List (List ℕ)) (rest : List ℕ) → IsRequest asked → R.remaining reader.old.inner ≡ Some (spelled_request asked ++ rest)
-        → IfOk result (λ words. map (λ word. word.items) words.items ≡ asked) }
+        → IfOk result (λ words. read_words words.items ≡ asked) }
     ensures refused { IfErr result (λ fault. fault ≡ Form → (heard : List ℕ) → R.remaining reader.old.inner ≡ Some heard → BeginsNoRequest heard) }
     ensures leaves { IfErr result (λ fault. Leaves R.remaining reader.old reader.new fault) }
 {

@@ -14,7 +14,7 @@ use std::os::unix::net::UnixStream;
 
 /// The station that runs over a database. Each request has its own connection.
 #[derive(Drop)]
-pub(crate) struct Beside<'a> {
+pub struct Beside<'a> {
     rt: &'a HostRuntime,
     database: &'a str,
     // The connection for the first request.

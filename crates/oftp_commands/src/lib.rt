@@ -10,14 +10,14 @@ mod fetching;
 mod offering;
 mod operators;
 mod registers;
-mod services;
 mod sessions;
 
+pub use backing::{Backing, Own};
 pub use backups::back_up;
+pub use beside::Beside;
 pub use collecting::collect;
 pub use fetching::fetch;
 pub use offering::offer;
 pub use operators::{refuse, release, submit};
 pub use registers::{initiate, migrate, write_report};
-pub use services::{admission_of, call, http, listen, station_of, trace_of};
 pub use sessions::feed;

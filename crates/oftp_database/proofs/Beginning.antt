@@ -1,5 +1,5 @@
 -- What is said of an office that was just opened goes on to whoever takes it over.
-use Rattle.std.proofs.Common.{◌≡◌, ◌∙◌, ap, subst, sym, [], false, Result, Err}
+use Rattle.std.proofs.Common.{◌≡◌, ◌∙◌, ap, subst, sym, Result, Err}
 use Rattle.std.specs.Result.{IfErr, IsErrAnd}
 use Rattle.std.proofs.lemmas.Result.{err_from_is_err_and}
 use Rattle.sqlite.specs.Files.{HoldsDatabase}
@@ -11,7 +11,7 @@ use Rattle.oftp_store.specs.Shown.{database_of, limits_of}
 use Rattle.oftp_store.specs.declared.office.SqlOffice.{SqlOffice}
 use Rattle.oftp_listing.specs.Remembering.{IsBlank}
 use Rattle.oftp_listing.specs.declared.remembering.RememberingOffice.{RememberingOffice}
-use Rattle.oftp_life.specs.Lives.{LifeData}
+use Rattle.oftp_life.specs.Lives.{LifeData, life_begun_with}
 use Rattle.oftp_files.specs.declared.limits.TheConstants.{LIMITS}
 use Rattle.oftp_database.specs.Attempts.{Takes}
 use Rattle.oftp_database.specs.Openings.{IsGained, Shows}
@@ -30,8 +30,7 @@ gained how {S} g image inside office is blank limits taken shows =
     }
 
 -- the office with which a life begins is the one that it was given
-pub began_with : {O : Type 0} (Has' : O → Type 0) (l : LifeData O) (office : O)
-    → (let first : LifeData O = record { office = office; began = office; acts = []; faults = 0; over = false } in l ≡ first) → Has' office → Has' l.began
+pub began_with : {O : Type 0} (Has' : O → Type 0) (l : LifeData O) (office : O) → l ≡ life_begun_with office → Has' office → Has' l.began
 began_with {O} Has' l office is has = subst Has' (sym (ap (λ (x : LifeData O). x.began) is)) has
 
 -- what is said of an error that `?` passes on

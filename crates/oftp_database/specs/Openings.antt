@@ -1,23 +1,20 @@
 -- What an office has that was just opened over files.
-use Rattle.std.specs.Prelude.{◌≡◌, ℕ, List}
+use Rattle.std.specs.Prelude.{◌≡◌}
 use Rattle.sqlite.specs.Files.{HoldsDatabase}
 use Rattle.sqlite.specs.Recovery.{Image}
 use Rattle.sqlite.specs.State.{State, HasCleanDisk}
 use Rattle.sqlite.specs.Tree.{Trees}
 use Rattle.sqlite_trees.specs.declared.store.Store.{Ghosts}
-use Rattle.oftp_register.specs.declared.change.Change.{Change}
 use Rattle.oftp_register.specs.Register.{Register, empty}
-use Rattle.oftp_register.specs.Soundness.{IsSound}
-use Rattle.oftp_tables.specs.Opening.{IsFirstOf, IsStoreOf}
+use Rattle.oftp_tables.specs.Opening.{IsFirstOf}
 use Rattle.oftp_tables.specs.Stands.{IsContentOf}
 use Rattle.oftp_store.specs.Opens.{Has, HoldsNoTable, HoldsTaken}
 use Rattle.oftp_store.specs.Shown.{database_of, limits_of}
 use Rattle.oftp_store.specs.declared.office.SqlOffice.{SqlOffice}
 use Rattle.oftp_listing.specs.Remembering.{IsBlank}
 use Rattle.oftp_listing.specs.declared.remembering.RememberingOffice.{RememberingOffice}
-use Rattle.oftp_engine.specs.Served.{IsPrefix}
+use Rattle.oftp_durable.specs.Databases.{ReopensPrefix, WhereFilesHold}
 use Rattle.oftp_durable.specs.Headline.{LeavesAlone}
-use Rattle.oftp_durable.specs.Reopening.{IsReopened}
 use Rattle.oftp_files.specs.declared.limits.TheConstants.{LIMITS}
 use Rattle.oftp_database.specs.Attempts.{Takes}
 use Rattle.oftp_database.specs.declared.opening.Opening.{Opening}
@@ -26,9 +23,8 @@ use Rattle.oftp_database.specs.declared.opening.Opening.TheVariants.{Migrate, Op
 -- The office has the register whose tables the files hold, and a crash leaves its tables and nothing else. So it has the register after a
 -- prefix of the changes of an earlier life, where they hold what a crash left of that life. Where they hold no table it has the empty one.
 pub record ShowsFiles (image : Image) (s : State) : Type 0 where
-  pub found : (r : Register) (db : Trees) → r.limits ≡ LIMITS → IsSound r → HoldsDatabase image db → IsStoreOf r db → LeavesAlone LIMITS s r
-  pub reopened : (r : Register) (changes : List Change) (least made : ℕ) (db : Trees) → r.limits ≡ LIMITS → IsPrefix IsContentOf changes r least made db
-      → HoldsDatabase image db → IsReopened LIMITS s r changes least
+  pub found : WhereFilesHold image LIMITS (LeavesAlone LIMITS s)
+  pub reopened : ReopensPrefix image LIMITS s
   pub fresh : HoldsNoTable image → LeavesAlone LIMITS s (empty LIMITS)
 
 -- the office has the register whose tables the files hold, in schema 1 or in schema 2

@@ -2,14 +2,13 @@
 #![tactic(auto)]
 
 mod file;
-mod laws;
+pub mod laws;
 mod living;
 mod office;
 mod opening;
 mod serving;
 mod spare;
 
-pub use laws::{lives_go_on_from_files, lives_over_files_leave_tables};
 pub use living::{live, live_if_free, live_shared};
 pub use office::DatabaseOffice;
 pub use opening::{PATIENCE, make, migrate, open, open_if_free, open_shared};

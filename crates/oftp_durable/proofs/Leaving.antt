@@ -1,8 +1,7 @@
 -- What a job over a database leaves, from the contracts of the engine.
-use Rattle.std.proofs.Common.{◌≡◌, ◌∙◌, sym, ap, subst, refl, arith, ℕ, zero, suc, max, ◌+◌, ◌-◌, ◌≤◌, ◌⊎◌, List, [], ◌∷◌, ◌++◌, length, take, Option, None, Some, Result, Ok, Err, inl, inr, length-append}
+use Rattle.std.proofs.Common.{◌≡◌, ◌∙◌, sym, ap, subst, refl, arith, ℕ, zero, suc, max, ◌+◌, ◌-◌, ◌≤◌, List, [], ◌∷◌, ◌++◌, length, take, Option, None, Some, Result, Ok, Err, inl, inr, length-append}
 use Rattle.std.proofs.lemmas.Grind.{flat_map-append}
 use Rattle.std.proofs.lemmas.List.{append-nil, take_all, take_at}
-use Rattle.std.proofs.Math.Seq.{take-nil}
 use Rattle.sqlite.specs.State.{State}
 use Rattle.oftp_vfile.specs.declared.format.Limits.{Limits}
 use Rattle.oftp_partners.specs.Book.{BookData}
@@ -35,8 +34,10 @@ use Rattle.oftp_engine.specs.Serving.{Took, last_frame, scene}
 use Rattle.oftp_engine.proofs.Ending.{answered_most, run_sound}
 use Rattle.oftp_engine.proofs.Jobs.{left_all, left_before, replay_one}
 use Rattle.oftp_engine.proofs.PartRuns.{jobs_make_the_file, parts_make_the_file}
+use Rattle.oftp_life.specs.LifeParts.{session_over}
+use Rattle.oftp_life.proofs.LifeParts.{none_or_one}
 use Rattle.oftp_durable.proofs.Counts.{no_answer_passes}
-use Rattle.oftp_durable.specs.Headline.{ButForOffice, CallDone, CallLeaves, LeavesAlone, LeavesPrefix, SessionLeaves, StopsShort, as_served, session_of}
+use Rattle.oftp_durable.specs.Headline.{ButForOffice, CallDone, CallLeaves, LeavesAlone, LeavesPrefix, SessionLeaves, StopsShort, as_served}
 
 -- what the first outputs answered, where exactly these are out
 answered_first : (outs later : List Output) → answered (outs ++ later) (length (octets_of outs)) ≡ answered outs (length (octets_of outs))
@@ -60,15 +61,6 @@ first_octets all outs later e =
 -- nothing is out after these
 no_more : (octets : List ℕ) → octets ≡ octets ++ take 0 last_frame
 no_more octets = sym (append-nil octets)
-
--- the register after the one change of a call, or before it
-pub none_or_one : (change : Option Change) (r s : Register) (n : ℕ) → apply_all r (take n (with_change [] change)) ≡ Ok s → (s ≡ r) ⊎ Makes change r s
-none_or_one None r s n h =
-    let none : take n (with_change [] None) ≡ [] = take-nil n in
-    let same : Ok r ≡ Ok s = sym (ap (apply_all r) none) ∙ h in
-    let is : s ≡ r = cc in inl is
-none_or_one (Some k) r s zero h = let is : s ≡ r = cc in inl is
-none_or_one (Some k) r s (suc n) h = inr (sym (ap (λ (ks : List Change). apply_all r (k ∷ ks)) (take-nil n)) ∙ h)
 
 -- the contracts of the engine for an office over a database
 module _ (x : View) (limits : Limits) (faults : ℕ) (s : State) where
@@ -97,7 +89,7 @@ module _ {W : Type 0} (contents : W → Option (List ℕ)) (x : View) (a b : Por
     Served result = SessionLeaves contents setting given x.register a b limits s result
 
     abbrev course : Option ℕ → Course
-    course stop = course_of (session_of setting given stop) x.register
+    course stop = course_of (session_over setting given stop) x.register
 
     few : (stop : Option ℕ) (out : ℕ) → answered (course stop).outputs out ≤ length (course stop).changes
     few stop out = answered_most (course stop).outputs out (length (course stop).changes) (run_sound stop setting given x.register sound).counted
@@ -112,11 +104,11 @@ module _ {W : Type 0} (contents : W → Option (List ℕ)) (x : View) (a b : Por
       short = short;
       wrote = wrote;
       left = left;
-      counts = no_answer_passes (session_of setting given stop) x.register sound;
+      counts = no_answer_passes (session_over setting given stop) x.register sound;
       parts = λ file identity so brings db may.
           let q = left.left db may in
           let is : IsLeft (course stop) x.register q.register = record { count = q.count; most = q.most; replay = q.replay } in
-          (q.register, q.holds, parts_make_the_file file identity (session_of setting given stop) x.register q.register sound so brings is);
+          (q.register, q.holds, parts_make_the_file file identity (session_over setting given stop) x.register q.register sound so brings is);
     }
 
     session_whole : (result : Result End RunFault) → StopsShort result None 0 → IsWhole setting given (scene contents x a) (scene contents now b) → Served result

@@ -24,8 +24,8 @@ use Rattle.oftp_engine.proofs.EachStep.{run_keeps}
 use Rattle.oftp_engine.proofs.Orders.{IsOrder, deed_ordered}
 use Rattle.oftp_engine.proofs.Phases.{fails_proceed, step_proceeds}
 use Rattle.oftp_life.specs.Acts.{Act, Conversed, Ordered}
+use Rattle.oftp_life.specs.LifeParts.{session_over}
 use Rattle.oftp_life.specs.Reaches.{ActMakes, Covers, Reaches}
-use Rattle.oftp_durable.specs.Headline.{session_of}
 use Rattle.oftp_durable.specs.LifeTables.{ActIsKept, ActsAreKept, LifeIsKept}
 use Rattle.oftp_durable.proofs.Counts.{no_answer_passes}
 
@@ -109,7 +109,7 @@ acts_sound first [] changes now h sound = subst IsSound (sym h.1) sound
 acts_sound first (act ∷ acts) changes now h sound = act_sound act h.at now h.more h.makes (acts_sound first acts h.before h.at h.reached sound)
 
 act_kept : (act : Act) (r : Register) → IsSound r → ActIsKept act r
-act_kept (Conversed setting heard said) r sound = λ stop. no_answer_passes (session_of setting heard stop) r sound
+act_kept (Conversed setting heard said) r sound = λ stop. no_answer_passes (session_over setting heard stop) r sound
 act_kept (Ordered book call) r sound = tt
 
 acts_kept : (first : Register) (acts : List Act) (changes : List Change) (now : Register) (h : Reaches first acts changes now) → IsSound first → ActsAreKept first acts changes now h

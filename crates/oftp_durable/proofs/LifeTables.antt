@@ -1,5 +1,5 @@
 -- What a life leaves, in terms of the tables.
-use Rattle.std.proofs.Common.{◌≡◌, ◌∙◌, sym, ap, Bool, true, false, IsTrue, ℕ, List, [], Option, None, Some, Result, Ok, Err, refl, subst}
+use Rattle.std.proofs.Common.{◌≡◌, ◌∙◌, sym, ap, Bool, true, false, IsTrue, ℕ, List, Option, None, Some, Result, Ok, Err, refl, subst}
 use Rattle.sqlite.specs.State.{HasCleanDisk, State}
 use Rattle.sqlite_trees.specs.View.{doubt}
 use Rattle.sqlite_trees.specs.declared.store.Store.{Ghosts}
@@ -24,8 +24,8 @@ use Rattle.oftp_engine.specs.declared.serving.Going.TheVariants as going
 use Rattle.oftp_engine.specs.declared.serving.RunFault.{RunFault}
 use Rattle.oftp_engine.specs.declared.serving.RunFault.TheVariants.{Memory}
 use Rattle.oftp_life.specs.Acts.{Act}
-use Rattle.oftp_life.specs.LifeParts.{BringAll}
-use Rattle.oftp_life.specs.Lives.{HasConversed, HasLeft, Holds, IsLeft, IsSession, LifeData, LifeLeaves}
+use Rattle.oftp_life.specs.LifeParts.{ActsMakeTheFile, BringAll}
+use Rattle.oftp_life.specs.Lives.{HasConversed, HasLeft, Holds, IsLeft, IsSession, LifeData, life_begun_with}
 use Rattle.oftp_life.specs.Outboxes.{contents_of}
 use Rattle.oftp_life.specs.declared.outbox.Outbox.{Outbox}
 use Rattle.oftp_life.specs.declared.stage.Stage.{Stage}
@@ -36,11 +36,8 @@ use Rattle.oftp_durable.proofs.Leaving.{conversation_leaves}
 use Rattle.oftp_durable.proofs.LifeCounts.{acts_sound, life_kept}
 
 -- a life that begins with an office
-pub done_nothing : {O : Type 0} (l : LifeData O) (office : O) → (let first : LifeData O = record { office = office; began = office; acts = []; faults = 0; over = false } in l ≡ first)
-    → HasDoneNothing l
-done_nothing {O} l office is =
-    subst (λ (o : O). let first : LifeData O = record { office = o; began = o; acts = []; faults = 0; over = false } in l ≡ first)
-    (sym (ap (λ (x : LifeData O). x.began) is)) is
+pub done_nothing : {O : Type 0} (l : LifeData O) (office : O) → l ≡ life_begun_with office → HasDoneNothing l
+done_nothing {O} l office is = subst (λ (o : O). l ≡ life_begun_with o) (sym (ap (λ (x : LifeData O). x.began) is)) is
 
 -- a store that isn't clean shows as shut
 pub open_clean : (is_clean is_open : Bool) → (is_clean ≡ false → is_open ≡ false) → IsTrue is_open → doubt is_clean ≡ 0
@@ -51,9 +48,7 @@ open_clean false is_open shut stands = absurd (let no : false ≡ true = sym (sh
 -- the theorem on files that come in parts, for an office
 abbrev pub MakesTheFile : {O : Type 0} → (O → View) → Type 0
 MakesTheFile {O} view =
-    (file : File) (identity : Identity) (first now : O) (acts : List Act) → (view first).clean → (view first).stands → (h : LifeLeaves (view first).register acts (view now))
-    → IsSoFar file (in_at (view first).register identity) → BringAll file identity (view first).register acts h.changes h.least h.covers → (content : (view now).Content)
-    → (view now).may_leave content → (r : Register) × (view now).holds content r × IsSoFar file (in_at r identity)
+    (file : File) (identity : Identity) (first now : O) (acts : List Act) → (view first).clean → (view first).stands → ActsMakeTheFile file identity (view first) acts (view now)
 
 -- what a life leaves over an office of a database
 pub all_leave : (first : Register) → IsSound first → (acts : List Act) (over : Bool) (limits : Limits) (faults : ℕ) (s : State) (left : IsLeft first acts over (view_of limits faults s))

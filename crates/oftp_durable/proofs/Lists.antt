@@ -30,10 +30,12 @@ use Rattle.oftp_engine.proofs.Ending.{replay_all, run_sound, take_past}
 use Rattle.oftp_engine.proofs.Orders.{IsOrder, deed_ordered}
 use Rattle.oftp_engine.proofs.Jobs.{replay_on, replay_one}
 use Rattle.oftp_engine.proofs.PartRuns.{IsSoIn, job_leaves}
-use Rattle.oftp_durable.specs.Headline.{ButForOffice, LeavesAlone, session_of}
+use Rattle.oftp_durable.specs.Headline.{ButForOffice, LeavesAlone}
 use Rattle.oftp_durable.specs.Lists.{AllAreKept, BringAll, BringsLast, LastIsKept, ListLeaves, beginning}
+use Rattle.oftp_life.specs.LifeParts.{session_over}
+use Rattle.oftp_life.proofs.LifeParts.{none_or_one}
 use Rattle.oftp_durable.proofs.Counts.{no_answer_passes}
-use Rattle.oftp_durable.proofs.Leaving.{none_or_one, prefix_all, prefix_of}
+use Rattle.oftp_durable.proofs.Leaving.{prefix_all, prefix_of}
 
 -- of what an office shows before a list, only the register and the count of errors matter
 runs_from : {R W T : Type 0} (remaining : R → Option (List ℕ)) (contents : W → Option (List ℕ)) (book : BookData) (old new : View) (olds news : List (Job R W))
@@ -59,7 +61,7 @@ module _ {R W : Type 0} (remaining : R → Option (List ℕ)) (contents : W → 
   jobs_kept r (SessionEntry setting given stop ∷ es) (old ∷ olds) (new ∷ news) (d, done) sound =
       let so = run_sound stop setting given r sound in
       let later = jobs_kept (run stop given (started setting r)).register es olds news done so.suits.sound in
-      record { kept = (no_answer_passes (session_of setting given stop) r sound, later.kept); sound = later.sound }
+      record { kept = (no_answer_passes (session_over setting given stop) r sound, later.kept); sound = later.sound }
   jobs_kept r (CallEntry deed stop ∷ es) (job.Session old ∷ olds) (new ∷ news) (d, done) sound = absurd d
   jobs_kept r (CallEntry deed stop ∷ es) (job.Call old ∷ olds) (job.Session new ∷ news) (d, done) sound = absurd d
   jobs_kept r (CallEntry deed stop ∷ es) (job.Call old ∷ olds) (job.Call new ∷ news) (d, done) sound =
@@ -71,8 +73,8 @@ module _ {R W : Type 0} (remaining : R → Option (List ℕ)) (contents : W → 
       → LastIsKept remaining contents book r was now stop fault h
   last_kept r (job.Session was) (job.Session now) stop fault.Read h sound = tt
   last_kept r (job.Session was) (job.Session now) stop fault.Write h sound = tt
-  last_kept r (job.Session was) (job.Session now) stop fault.Office h sound = no_answer_passes (session_of (setting_of book was.role) h.cut.given None) r sound
-  last_kept r (job.Session was) (job.Session now) stop fault.Memory h sound = no_answer_passes (session_of (setting_of book was.role) h.cut.given None) r sound
+  last_kept r (job.Session was) (job.Session now) stop fault.Office h sound = no_answer_passes (session_over (setting_of book was.role) h.cut.given None) r sound
+  last_kept r (job.Session was) (job.Session now) stop fault.Memory h sound = no_answer_passes (session_over (setting_of book was.role) h.cut.given None) r sound
   last_kept r (job.Session was) (job.Call now) stop fault h sound = tt
   last_kept r (job.Call was) (job.Session now) stop fault h sound = tt
   last_kept r (job.Call was) (job.Call now) stop fault h sound = tt
@@ -108,7 +110,7 @@ module _ {R W : Type 0} (remaining : R → Option (List ℕ)) (contents : W → 
         replay = ap (apply_all r) (take_all (length c.changes) c.changes (omega arith)) ∙ made;
       } in
       then_so r (SessionEntry setting given stop) es made
-      (jobs_so c.register es olds news done brings (job_leaves file identity (OfSession (session_of setting given stop)) r c.register so here all))
+      (jobs_so c.register es olds news done brings (job_leaves file identity (OfSession (session_over setting given stop)) r c.register so here all))
   jobs_so r (CallEntry deed stop ∷ es) (job.Session old ∷ olds) (new ∷ news) (d, done) brings so = absurd d
   jobs_so r (CallEntry deed stop ∷ es) (job.Call old ∷ olds) (job.Session new ∷ news) (d, done) brings so = absurd d
   jobs_so r (CallEntry deed stop ∷ es) (job.Call old ∷ olds) (job.Call new ∷ news) (d, done) brings so =
@@ -117,10 +119,10 @@ module _ {R W : Type 0} (remaining : R → Option (List ℕ)) (contents : W → 
       (jobs_so after es olds news done brings (job_leaves file identity (OfCall book old.call) r after so tt (inr (deed, d.is, d.made))))
 
   -- a session or a call that was cut short
-  session_so : (r s : Register) (role : Role) (given : List ℕ) (changes : List Change) (m : ℕ) → changes ≡ (course_of (session_of (setting_of book role) given None) r).changes
-      → BringsParts file identity (session_of (setting_of book role) given None) r → m ≤ length changes → apply_all r (take m changes) ≡ Ok s → IsSoIn file identity r → IsSoIn file identity s
+  session_so : (r s : Register) (role : Role) (given : List ℕ) (changes : List Change) (m : ℕ) → changes ≡ (course_of (session_over (setting_of book role) given None) r).changes
+      → BringsParts file identity (session_over (setting_of book role) given None) r → m ≤ length changes → apply_all r (take m changes) ≡ Ok s → IsSoIn file identity r → IsSoIn file identity s
   session_so r s role given changes m is brings most made so =
-      job_leaves file identity (OfSession (session_of (setting_of book role) given None)) r s so brings (record {
+      job_leaves file identity (OfSession (session_over (setting_of book role) given None)) r s so brings (record {
         count = m;
         most = subst (λ (ks : List Change). m ≤ length ks) is most;
         replay = subst (λ (ks : List Change). apply_all r (take m ks) ≡ Ok s) is made;

@@ -23,11 +23,12 @@ use Rattle.oftp_engine.specs.declared.serving.RunFault.{RunFault}
 use Rattle.oftp_engine.specs.declared.serving.RunFault.TheVariants as fault
 use Rattle.oftp_engine.specs.Jobs.{call_share}
 use Rattle.oftp_engine.specs.Operating.{Deed, IsDeed}
-use Rattle.oftp_engine.specs.Parts.{BringsParts, File, IsSoFar, SessionData, course_of}
+use Rattle.oftp_engine.specs.Parts.{BringsParts, File, IsSoFar, course_of}
 use Rattle.oftp_io.specs.Ports.{Wrote}
 use Rattle.oftp_engine.specs.Runs.{answered, ended_as, octets_of}
 use Rattle.oftp_engine.specs.Served.{IsPrefix}
 use Rattle.oftp_engine.specs.Serving.{last_frame}
+use Rattle.oftp_life.specs.LifeParts.{session_over}
 use Rattle.oftp_durable.specs.Counts.{AnswersAreKept}
 
 -- Each content that a crash may leave now is the tables of r after the first n of these changes, all of them made, where n is at least
@@ -63,10 +64,6 @@ as_served (Ok None) = Ok Input
 as_served (Ok (Some ending)) = Ok (ended_as ending)
 as_served (Err fault) = Err fault
 
--- a session over these octets, whose writer had taken this many octets when it returned an error, if it did
-abbrev pub session_of : Setting → List ℕ → Option ℕ → SessionData
-session_of setting given stop = record { setting = setting; limit = stop; stream = given }
-
 -- the run is cut short only where the writer returned an error, and ESID 08 follows only where the office returned one
 abbrev pub StopsShort : Result End RunFault → Option ℕ → ℕ → Type 0
 StopsShort (Ok end) stop closing = (stop ≡ None) × (closing ≡ 0)
@@ -84,10 +81,10 @@ pub record SessionLeaves {W : Type 0} (contents : W → Option (List ℕ)) (sett
   pub out : ℕ
   pub closing : ℕ
   pub short : StopsShort result stop closing
-  pub wrote : Wrote contents old new (take out (octets_of (course_of (session_of setting given stop) r).outputs) ++ take closing last_frame)
-  pub left : LeavesPrefix limits s r (course_of (session_of setting given stop) r).changes (answered (course_of (session_of setting given stop) r).outputs out)
-  pub counts : AnswersAreKept (session_of setting given stop) r
-  pub parts : (file : File) (identity : Identity) → IsSoFar file (in_at r identity) → BringsParts file identity (session_of setting given stop) r → LeavesSoFar file identity s
+  pub wrote : Wrote contents old new (take out (octets_of (course_of (session_over setting given stop) r).outputs) ++ take closing last_frame)
+  pub left : LeavesPrefix limits s r (course_of (session_over setting given stop) r).changes (answered (course_of (session_over setting given stop) r).outputs out)
+  pub counts : AnswersAreKept (session_over setting given stop) r
+  pub parts : (file : File) (identity : Identity) → IsSoFar file (in_at r identity) → BringsParts file identity (session_over setting given stop) r → LeavesSoFar file identity s
 
 -- An operator's call on the database of r. The first `out` octets of its line are out. A crash leaves r with its change or without it, and
 -- with it if an octet of the line is out.

@@ -1,4 +1,5 @@
 pub mod Counts
+pub mod Databases
 pub mod Headline
 pub mod LifeTables
 pub mod Lists

@@ -19,19 +19,20 @@ use Rattle.oftp_engine.specs.Parts.{File, IsSoFar}
 use Rattle.oftp_engine.specs.declared.serving.RunFault.{RunFault}
 use Rattle.oftp_engine.specs.declared.serving.RunFault.TheVariants.{Memory}
 use Rattle.oftp_life.specs.Acts.{Act, Conversed, Ordered}
-use Rattle.oftp_life.specs.LifeParts.{BringAll}
-use Rattle.oftp_life.specs.Lives.{LifeData}
+use Rattle.oftp_life.specs.LifeParts.{BringAll, session_over}
+use Rattle.oftp_life.specs.Lives.{LifeData, LifeSessionData, life_begun_with}
 use Rattle.oftp_life.specs.Outboxes.{contents_of, octets_out}
 use Rattle.oftp_life.specs.Reaches.{Covers, Reaches}
 use Rattle.oftp_life.specs.declared.outbox.Outbox.{Outbox}
 use Rattle.oftp_life.specs.declared.stage.Stage.{Stage}
 use Rattle.oftp_life.specs.declared.stage.Stage.TheVariants as stage
 use Rattle.oftp_durable.specs.Counts.{AnswersAreKept}
-use Rattle.oftp_durable.specs.Headline.{LeavesAlone, LeavesPrefix, LeavesSoFar, SessionLeaves, as_served, session_of}
+use Rattle.oftp_durable.specs.Databases.{OnCleanDisk}
+use Rattle.oftp_durable.specs.Headline.{LeavesAlone, LeavesPrefix, LeavesSoFar, SessionLeaves, as_served}
 
 -- each Restart position that an act from this register answers was kept, wherever its writer stopped
 abbrev pub ActIsKept : Act → Register → Type 0
-ActIsKept (Conversed setting heard said) r = (stop : Option ℕ) → AnswersAreKept (session_of setting heard stop) r
+ActIsKept (Conversed setting heard said) r = (stop : Option ℕ) → AnswersAreKept (session_over setting heard stop) r
 ActIsKept (Ordered book call) r = ⊤
 
 -- so is each that all acts answer, each act from the register that those before it led to
@@ -81,9 +82,17 @@ StageLeaves r acts limits s out stage.Lost = ⊤
 
 -- a life that has done nothing yet
 abbrev pub HasDoneNothing : {O : Type 0} → LifeData O → Type 0
-HasDoneNothing l = l ≡ record { office = l.began; began = l.began; acts = []; faults = 0; over = false }
+HasDoneNothing l = l ≡ life_begun_with l.began
 
 -- a life begins over a database that has r, and leaves what a life leaves that has done nothing
 pub record LifeBegins {S : Type 0} (g : Ghosts S) (r : Register) (life : LifeData (SqlOffice S g)) : Type 0 where
   pub has : Has (limits_of life.began) r (database_of g life.began)
   pub leaves : AllLeaves r life.acts life.over (limits_of life.office) (database_of g life.office)
+
+-- a life did these acts over a database since it began with an office: it leaves this of each register that the database had then
+abbrev pub HasLeftTables : {S : Type 0} (g : Ghosts S) → SqlOffice S g → List Act → Bool → SqlOffice S g → Type 0
+HasLeftTables g began acts over now = OnCleanDisk g began now (λ r. AllLeaves r acts over (limits_of now) (database_of g now))
+
+-- and this its last session leaves, as it stands
+abbrev pub HasLeftAtStage : {S : Type 0} (g : Ghosts S) → LifeSessionData (SqlOffice S g) → Type 0
+HasLeftAtStage g t = OnCleanDisk g t.began t.office (λ r. StageLeaves r t.acts (limits_of t.office) (database_of g t.office) t.out t.stage)

@@ -1,15 +1,12 @@
 //! An operator's call on a database.
 
 ghost use Rattle.sqlite.specs.State.{HasCleanDisk};
-ghost use Rattle.oftp_register.specs.Register.{Register};
-ghost use Rattle.oftp_tables.specs.Tables.{register_in};
-ghost use Rattle.oftp_store.specs.Opens.{Has};
-ghost use Rattle.oftp_store.specs.Shown.{database_of, limits_of, shown};
+ghost use Rattle.oftp_store.specs.Shown.{database_of, limits_of};
 ghost use Rattle.oftp_engine.specs.Operated.{Operates};
 ghost use Rattle.oftp_io.specs.Ports.{Puts};
 ghost use Rattle.oftp_engine.specs.Served.{WriterTold};
-ghost use Rattle.oftp_engine.specs.Serving.{scene};
-ghost use Rattle.oftp_durable.specs.Headline.{ButForOffice, CallLeaves, LeavesAlone};
+ghost use Rattle.oftp_durable.specs.Databases.{LeavesItsOwn, OnCleanDisk, scene_over};
+ghost use Rattle.oftp_durable.specs.Headline.{ButForOffice, CallLeaves};
 
 use oftp_engine::{Operator, Port, RunFault, Told, operate};
 use oftp_partners::Book;
@@ -35,14 +32,12 @@ pub fn operate_durable<S: Alter, W: Write>(
     writer: &mut Port<W>,
 ) -> Result<Told, RunFault>
     // The call does over this database what it does over any office.
-    ensures operates { HasCleanDisk (database_of S.Store office.new) → (r : Register) → Has (limits_of office.old) r (database_of S.Store office.old)
-        → Operates book.now call.now (scene W.contents (shown S.Store office.old) writer.old) (scene W.contents (shown S.Store office.new) writer.new) result }
+    ensures operates { OnCleanDisk S.Store office.old office.new (λ _.
+        Operates book.now call.now (scene_over S.Store W.contents office.old writer.old) (scene_over S.Store W.contents office.new writer.new) result) }
     // The headline.
-    ensures leaves { HasCleanDisk (database_of S.Store office.new) → (r : Register) → Has (limits_of office.old) r (database_of S.Store office.old)
-        → CallLeaves W.contents book.now call.now r writer.old writer.new (limits_of office.new) (database_of S.Store office.new) result }
-    ensures alone { HasCleanDisk (database_of S.Store office.new) → (r : Register) → Has (limits_of office.old) r (database_of S.Store office.old)
-        → ButForOffice result (LeavesAlone (limits_of office.new) (database_of S.Store office.new)
-        (register_in (limits_of office.new) (database_of S.Store office.new).now.trees)) }
+    ensures leaves { OnCleanDisk S.Store office.old office.new (λ r.
+        CallLeaves W.contents book.now call.now r writer.old writer.new (limits_of office.new) (database_of S.Store office.new) result) }
+    ensures alone { OnCleanDisk S.Store office.old office.new (λ _. ButForOffice result (LeavesItsOwn S.Store office.new)) }
     ensures clean { HasCleanDisk (database_of S.Store office.new) → HasCleanDisk (database_of S.Store office.old) }
     ensures out { Puts W.contents writer.old writer.new }
     ensures writer_told { WriterTold writer.old writer.new result }

@@ -3,18 +3,16 @@
 ghost use Rattle.std.specs.Prelude.{◌≡◌, ◌≤◌, ◌↔◌, IfErr, IfOk, OnErr};
 ghost use Rattle.sqlite.specs.Files.{HoldsDatabase, over_files};
 ghost use Rattle.sqlite.specs.State.{HasCleanDisk};
-ghost use Rattle.sqlite.specs.Tree.{Trees};
 ghost use Rattle.sqlite.specs.WalFiles.{image_at};
 ghost use Rattle.oftp_register.specs.declared.fit.TheConstants.{MOST_FILES, MOST_OCTETS};
-ghost use Rattle.oftp_register.specs.Register.{Register, empty};
-ghost use Rattle.oftp_register.specs.Soundness.{IsSound};
-ghost use Rattle.oftp_tables.specs.Tables.{register_in};
-ghost use Rattle.oftp_tables.specs.Opening.{FailsToOpen, IsStoreOf};
-ghost use Rattle.oftp_store.specs.Opens.{Has, HoldsNoTable, HoldsTaken, IsOpenable, RefusesPath, TellsPath, to_open};
+ghost use Rattle.oftp_register.specs.Register.{empty};
+ghost use Rattle.oftp_tables.specs.Opening.{FailsToOpen};
+ghost use Rattle.oftp_store.specs.Opens.{HoldsNoTable, HoldsTaken, IsOpenable, RefusesPath, TellsPath, to_open};
 ghost use Rattle.oftp_store.specs.Paths.{IsKept};
-ghost use Rattle.oftp_store.specs.Shown.{database_of, faults_of, limits_of, shown};
-ghost use Rattle.oftp_durable.specs.Headline.{ButForOffice, LeavesAlone};
-ghost use Rattle.oftp_durable.specs.Lists.{ListLeaves};
+ghost use Rattle.oftp_store.specs.Shown.{database_of, faults_of};
+ghost use Rattle.oftp_durable.specs.Databases.{LeavesItsOwn, OnCleanDisk, WhereFilesHold};
+ghost use Rattle.oftp_durable.specs.Headline.{ButForOffice};
+ghost use Rattle.oftp_durable.specs.Lists.{ListLeavesOver};
 
 use crate::opening::open_durable;
 use oftp_engine::{Job, RunFault, run};
@@ -40,12 +38,9 @@ pub fn run_durable<S: Alter, R: Read, W: Write>(
     book: &Book,
     jobs: &mut [Job<'_, R, W>],
 ) -> Result<(), RunFault>
-    ensures leaves { HasCleanDisk (database_of S.Store office.new) → (r : Register) → Has (limits_of office.old) r (database_of S.Store office.old)
-        → ListLeaves R.remaining W.contents book.now r (faults_of office.old) (shown S.Store office.new) jobs.old jobs.new
-        (limits_of office.new) (database_of S.Store office.new) result }
-    ensures alone { HasCleanDisk (database_of S.Store office.new) → (r : Register) → Has (limits_of office.old) r (database_of S.Store office.old)
-        → ButForOffice result (LeavesAlone (limits_of office.new) (database_of S.Store office.new)
-        (register_in (limits_of office.new) (database_of S.Store office.new).now.trees)) }
+    ensures leaves { OnCleanDisk S.Store office.old office.new (λ r.
+        ListLeavesOver S.Store R.remaining W.contents book.now r (faults_of office.old) office.new jobs.old jobs.new result) }
+    ensures alone { OnCleanDisk S.Store office.old office.new (λ _. ButForOffice result (LeavesItsOwn S.Store office.new)) }
     ensures clean { HasCleanDisk (database_of S.Store office.new) → HasCleanDisk (database_of S.Store office.old) }
 {
     run(alloc, office, book, jobs)
@@ -81,18 +76,13 @@ pub fn run_at<S: Start, R: Read, W: Write>(
     // The files hold no table, or the office's tables.
     ensures known { IfOk result (λ ran. HasCleanDisk (database_of over_files ran.office) → HoldsTaken IsOpenable (HoldsDatabase (image_at S.Start))) }
     // The headline, from the content of the files.
-    ensures leaves { IfOk result (λ ran. HasCleanDisk (database_of over_files ran.office) → (r : Register) (db : Trees) → r.limits ≡ limits → IsSound r
-        → HoldsDatabase (image_at S.Start) db → IsStoreOf r db
-        → ListLeaves R.remaining W.contents book.now r 0 (shown over_files ran.office) jobs.old jobs.new
-        (limits_of ran.office) (database_of over_files ran.office) ran.result) }
-    ensures alone { IfOk result (λ ran. HasCleanDisk (database_of over_files ran.office) → (r : Register) (db : Trees) → r.limits ≡ limits → IsSound r
-        → HoldsDatabase (image_at S.Start) db → IsStoreOf r db
-        → ButForOffice ran.result (LeavesAlone (limits_of ran.office) (database_of over_files ran.office)
-        (register_in (limits_of ran.office) (database_of over_files ran.office).now.trees))) }
+    ensures leaves { IfOk result (λ ran. HasCleanDisk (database_of over_files ran.office) → WhereFilesHold (image_at S.Start) limits (λ r.
+        ListLeavesOver over_files R.remaining W.contents book.now r 0 ran.office jobs.old jobs.new ran.result)) }
+    ensures alone { IfOk result (λ ran. HasCleanDisk (database_of over_files ran.office) → WhereFilesHold (image_at S.Start) limits (λ _.
+        ButForOffice ran.result (LeavesItsOwn over_files ran.office))) }
     // The headline of a first run, from files that hold no table.
     ensures fresh { IfOk result (λ ran. HasCleanDisk (database_of over_files ran.office) → HoldsNoTable (image_at S.Start)
-        → ListLeaves R.remaining W.contents book.now (empty limits) 0 (shown over_files ran.office) jobs.old jobs.new
-        (limits_of ran.office) (database_of over_files ran.office) ran.result) }
+        → ListLeavesOver over_files R.remaining W.contents book.now (empty limits) 0 ran.office jobs.old jobs.new ran.result) }
     // Another database is a wrong schema and stays unchanged. After any other error the files hold their old content or the new tables.
     ensures refused { IfErr result (RefusesPath over_files to_open (image_at S.Start)) }
     // An error of the store other than a wrong schema is one of SQLite in this call.

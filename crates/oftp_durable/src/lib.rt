@@ -3,17 +3,16 @@
 
 mod calling;
 mod jobs;
-mod laws;
+pub mod laws;
 mod life;
 mod opening;
 mod serving;
 
 pub use calling::operate_durable;
 pub use jobs::{Ran, run_at, run_durable};
-pub use laws::no_answer_passes;
 pub use life::{
     admit_durable, begin_durable, end_durable, hear_durable, is_over_durable, live_at,
-    live_durable, lives_leave_tables, order_durable, stage_durable,
+    live_durable, order_durable, stage_durable,
 };
 pub use opening::open_durable;
 pub use serving::serve_durable;

@@ -1,33 +1,29 @@
 //! The calls of a life over a database.
 
-ghost use Rattle.std.specs.Prelude.{◌≡◌, ◌≤◌, ◌↔◌, ℕ, Bool, IfErr, IfOk, List, [], ◌∷◌, false, true};
+ghost use Rattle.std.specs.Prelude.{◌≡◌, ◌≤◌, ◌↔◌, IfErr, IfOk, [], ◌∷◌, false, true};
 ghost use Rattle.sqlite.specs.Files.{HoldsDatabase, over_files};
 ghost use Rattle.sqlite.specs.State.{HasCleanDisk};
-ghost use Rattle.sqlite.specs.Tree.{Trees};
 ghost use Rattle.sqlite.specs.WalFiles.{image_at};
-ghost use Rattle.oftp_register.specs.declared.change.Change.{Change};
 ghost use Rattle.oftp_register.specs.declared.fit.TheConstants.{MOST_FILES, MOST_OCTETS};
-ghost use Rattle.oftp_register.specs.Register.{Register, empty};
-ghost use Rattle.oftp_register.specs.Soundness.{IsSound};
-ghost use Rattle.oftp_tables.specs.Opening.{FailsToOpen, IsStoreOf};
-ghost use Rattle.oftp_tables.specs.Stands.{IsContentOf};
-ghost use Rattle.oftp_store.specs.Opens.{Has, HoldsNoTable, HoldsTaken, IsOpenable, RefusesPath, TellsPath, to_open};
+ghost use Rattle.oftp_register.specs.Register.{empty};
+ghost use Rattle.oftp_tables.specs.Opening.{FailsToOpen};
+ghost use Rattle.oftp_store.specs.Opens.{HoldsNoTable, HoldsTaken, IsOpenable, RefusesPath, TellsPath, to_open};
 ghost use Rattle.oftp_store.specs.Paths.{IsKept};
-ghost use Rattle.oftp_store.specs.Shown.{database_of, limits_of, shown};
+ghost use Rattle.oftp_store.specs.Shown.{database_of, limits_of};
 ghost use Rattle.oftp_engine.specs.Openings.{of_caller};
 ghost use Rattle.oftp_engine.specs.Operated.{Operates};
-ghost use Rattle.oftp_engine.specs.Served.{IsPrefix, setting_of};
-ghost use Rattle.oftp_engine.specs.Serving.{scene};
-ghost use Rattle.oftp_life.specs.Acts.{Act, Conversed};
-ghost use Rattle.oftp_life.specs.Lives.{HasLeft, Heard, answer_of, ends_life, has_ceased, is_over_at};
+ghost use Rattle.oftp_engine.specs.Served.{setting_of};
+ghost use Rattle.oftp_life.specs.Acts.{Conversed};
+ghost use Rattle.oftp_life.specs.Lives.{Heard, answer_of, ends_life, has_ceased, is_over_at, life_after, life_begun_with};
 ghost use Rattle.oftp_life.specs.Noted.{with_call};
 ghost use Rattle.oftp_life.specs.Outboxes.{octets_out};
-ghost use Rattle.oftp_durable.specs.LifeTables.{AllLeaves, HasDoneNothing, LifeBegins, StageLeaves};
-ghost use Rattle.oftp_durable.specs.Reopening.{IsReopened};
+ghost use Rattle.oftp_durable.specs.Databases.{OnCleanDisk, ReopensPrefix, WhereFilesHold, scene_over};
+ghost use Rattle.oftp_durable.specs.LifeTables.{HasDoneNothing, HasLeftAtStage, HasLeftTables, LifeBegins};
 
+use crate::laws::lives_leave_tables;
 use crate::opening::open_durable;
 use oftp_engine::{Operator, Port, Role, RunFault, Told};
-use oftp_life::{Guest, Life, LifeSession, Outbox, Stage, lives_make_the_file};
+use oftp_life::{Guest, Life, LifeSession, Outbox, Stage};
 use oftp_partners::Book;
 use oftp_session::Ending;
 use oftp_store::{PathFault, PathRefused, SqlOffice};
@@ -36,21 +32,11 @@ use sqlite::{Alter, FileFrom, FileStore, Start};
 use std::alloc::Global;
 use std::io::Write;
 
-/// What a life leaves by the clause `leaves` of its calls, it leaves in terms of the tables: a crash leaves the tables of the register with
-/// which it began, after a prefix of all changes of its acts, with each that was answered. Unless it is over, it leaves those of its office's
-/// register, and nothing else. The function does nothing; its contract is the theorem.
-pub fn lives_leave_tables<S: Alter>()
-    ensures { (began now : SqlOffice S S.Store) (acts : List Act) (over : Bool) → HasLeft (shown S.Store) began acts over now → HasCleanDisk (database_of S.Store now)
-        → (r : Register) → Has (limits_of began) r (database_of S.Store began) → AllLeaves r acts over (limits_of now) (database_of S.Store now) }
-{
-    lives_make_the_file::<SqlOffice<S>>();
-}
-
 /// The life that begins with this office: nothing was done in it yet.
 pub fn live_durable<S: Alter>(office: SqlOffice<S>) -> Life<SqlOffice<S>>
-    ensures begins { result ≡ record { office = office; began = office; acts = []; faults = 0; over = false } }
+    ensures begins { result ≡ life_begun_with office }
     // The headline.
-    ensures leaves { HasCleanDisk (database_of S.Store office) → (r : Register) → Has (limits_of office) r (database_of S.Store office) → LifeBegins S.Store r result }
+    ensures leaves { OnCleanDisk S.Store office office (λ r. LifeBegins S.Store r result) }
 {
     let life = Life::new(office);
     is_over_durable(&life);
@@ -80,12 +66,11 @@ pub fn live_at<S: Start>(
     // The files hold no table, or the office's tables.
     ensures known { IfOk result (λ l. HasCleanDisk (database_of over_files l.began) → HoldsTaken IsOpenable (HoldsDatabase (image_at S.Start))) }
     // The headline, from the content of the files.
-    ensures found { IfOk result (λ l. HasCleanDisk (database_of over_files l.began) → (r : Register) (db : Trees) → r.limits ≡ limits → IsSound r
-        → HoldsDatabase (image_at S.Start) db → IsStoreOf r db → LifeBegins over_files r l) }
+    ensures found { IfOk result (λ l. HasCleanDisk (database_of over_files l.began)
+        → WhereFilesHold (image_at S.Start) limits (λ r. LifeBegins over_files r l)) }
     // So it begins with the register after a prefix of the changes of an earlier life, where the files hold what a crash left of that life.
-    ensures reopened { IfOk result (λ l. HasCleanDisk (database_of over_files l.began) → (r : Register) (changes : List Change) (least made : ℕ) (db : Trees)
-        → r.limits ≡ limits → IsPrefix IsContentOf changes r least made db
-        → HoldsDatabase (image_at S.Start) db → IsReopened limits (database_of over_files l.began) r changes least) }
+    ensures reopened { IfOk result (λ l. HasCleanDisk (database_of over_files l.began)
+        → ReopensPrefix (image_at S.Start) limits (database_of over_files l.began)) }
     // The headline of a first life, from files that hold no table.
     ensures fresh { IfOk result (λ l. HasCleanDisk (database_of over_files l.began) → HoldsNoTable (image_at S.Start) → LifeBegins over_files (empty limits) l) }
     // Another database is a wrong schema and stays unchanged. After any other error the files hold their old content or the new tables.
@@ -107,11 +92,9 @@ pub fn begin_durable<'b, S: Alter>(
     ensures acts { life.over ≡ false → result.acts ≡ Conversed (setting_of book.entry.now role.entry) [] (octets_out result.out.inner) ∷ life.acts }
     ensures began { result.began ≡ life.began }
     // The headline.
-    ensures leaves { HasCleanDisk (database_of S.Store result.office) → (r : Register) → Has (limits_of result.began) r (database_of S.Store result.began)
-        → AllLeaves r result.acts (is_over_at result.stage) (limits_of result.office) (database_of S.Store result.office) }
+    ensures leaves { HasLeftTables S.Store result.began result.acts (is_over_at result.stage) result.office }
     // What this session has handed out, and what it leaves.
-    ensures session { HasCleanDisk (database_of S.Store result.office) → (r : Register) → Has (limits_of result.began) r (database_of S.Store result.began)
-        → StageLeaves r result.acts (limits_of result.office) (database_of S.Store result.office) result.out result.stage }
+    ensures session { HasLeftAtStage S.Store result }
     ensures clean { HasCleanDisk (database_of S.Store result.office) → HasCleanDisk (database_of S.Store life.office) }
 {
     let session = life.begin(alloc, book, role);
@@ -128,11 +111,9 @@ pub fn admit_durable<'b, S: Alter>(
     ensures acts { life.over ≡ false → result.acts ≡ Conversed (of_caller guest.entry.book) guest.entry.heard (octets_out result.out.inner) ∷ life.acts }
     ensures began { result.began ≡ life.began }
     // The headline.
-    ensures leaves { HasCleanDisk (database_of S.Store result.office) → (r : Register) → Has (limits_of result.began) r (database_of S.Store result.began)
-        → AllLeaves r result.acts (is_over_at result.stage) (limits_of result.office) (database_of S.Store result.office) }
+    ensures leaves { HasLeftTables S.Store result.began result.acts (is_over_at result.stage) result.office }
     // What this session has handed out, and what it leaves.
-    ensures session { HasCleanDisk (database_of S.Store result.office) → (r : Register) → Has (limits_of result.began) r (database_of S.Store result.began)
-        → StageLeaves r result.acts (limits_of result.office) (database_of S.Store result.office) result.out result.stage }
+    ensures session { HasLeftAtStage S.Store result }
     ensures clean { HasCleanDisk (database_of S.Store result.office) → HasCleanDisk (database_of S.Store life.office) }
 {
     let session = life.admit(alloc, guest);
@@ -158,11 +139,9 @@ pub fn hear_durable<S: Alter>(
     ensures idle { has_ceased session.old.stage ≡ true → (session.new ≡ session.old) × (result ≡ answer_of session.old.stage) }
     ensures heard { has_ceased session.old.stage ≡ false → Heard session.old session.new octets.now result }
     // The headline.
-    ensures leaves { HasCleanDisk (database_of S.Store session.new.office) → (r : Register) → Has (limits_of session.new.began) r (database_of S.Store session.new.began)
-        → AllLeaves r session.new.acts (is_over_at session.new.stage) (limits_of session.new.office) (database_of S.Store session.new.office) }
+    ensures leaves { HasLeftTables S.Store session.new.began session.new.acts (is_over_at session.new.stage) session.new.office }
     // What this session has handed out, and what it leaves.
-    ensures session { HasCleanDisk (database_of S.Store session.new.office) → (r : Register) → Has (limits_of session.new.began) r (database_of S.Store session.new.began)
-        → StageLeaves r session.new.acts (limits_of session.new.office) (database_of S.Store session.new.office) session.new.out session.new.stage }
+    ensures session { HasLeftAtStage S.Store session.new }
     ensures clean { HasCleanDisk (database_of S.Store session.new.office) → HasCleanDisk (database_of S.Store session.old.office) }
 {
     let answer = session.hear(octets);
@@ -175,11 +154,9 @@ pub fn hear_durable<S: Alter>(
 pub fn stage_durable<S: Alter>(session: &LifeSession<'_, SqlOffice<S>>) -> Stage
     ensures stage { result ≡ session.now.stage }
     // The headline.
-    ensures leaves { HasCleanDisk (database_of S.Store session.now.office) → (r : Register) → Has (limits_of session.now.began) r (database_of S.Store session.now.began)
-        → AllLeaves r session.now.acts (is_over_at session.now.stage) (limits_of session.now.office) (database_of S.Store session.now.office) }
+    ensures leaves { HasLeftTables S.Store session.now.began session.now.acts (is_over_at session.now.stage) session.now.office }
     // What this session has handed out, and what it leaves.
-    ensures session { HasCleanDisk (database_of S.Store session.now.office) → (r : Register) → Has (limits_of session.now.began) r (database_of S.Store session.now.began)
-        → StageLeaves r session.now.acts (limits_of session.now.office) (database_of S.Store session.now.office) session.now.out session.now.stage }
+    ensures session { HasLeftAtStage S.Store session.now }
 {
     lives_leave_tables::<S>();
     session.stage()
@@ -190,8 +167,7 @@ pub fn stage_durable<S: Alter>(session: &LifeSession<'_, SqlOffice<S>>) -> Stage
 pub fn is_over_durable<S: Alter>(life: &Life<SqlOffice<S>>) -> bool
     ensures over { result ≡ life.now.over }
     // The headline.
-    ensures leaves { HasCleanDisk (database_of S.Store life.now.office) → (r : Register) → Has (limits_of life.now.began) r (database_of S.Store life.now.began)
-        → AllLeaves r life.now.acts life.now.over (limits_of life.now.office) (database_of S.Store life.now.office) }
+    ensures leaves { HasLeftTables S.Store life.now.began life.now.acts life.now.over life.now.office }
 {
     lives_leave_tables::<S>();
     life.is_over()
@@ -199,11 +175,10 @@ pub fn is_over_durable<S: Alter>(life: &Life<SqlOffice<S>>) -> bool
 
 /// Ends a session, as [`LifeSession::end`] does.
 pub fn end_durable<S: Alter>(session: LifeSession<'_, SqlOffice<S>>) -> (Life<SqlOffice<S>>, Outbox)
-    ensures life { result.0 ≡ record { office = session.entry.office; began = session.entry.began; acts = session.entry.acts; faults = session.entry.faults; over = is_over_at session.entry.stage } }
+    ensures life { result.0 ≡ life_after session.entry }
     ensures out { result.1 ≡ session.entry.out.inner }
     // The headline.
-    ensures leaves { HasCleanDisk (database_of S.Store result.0.office) → (r : Register) → Has (limits_of result.0.began) r (database_of S.Store result.0.began)
-        → AllLeaves r result.0.acts result.0.over (limits_of result.0.office) (database_of S.Store result.0.office) }
+    ensures leaves { HasLeftTables S.Store result.0.began result.0.acts result.0.over result.0.office }
 {
     let (life, out) = session.end();
     is_over_durable(&life);
@@ -231,11 +206,10 @@ pub fn order_durable<S: Alter, W: Write>(
     ensures idle { life.old.over ≡ true → (life.new ≡ life.old) × (result ≡ Err RunFault.Office) }
     ensures began { life.new.began ≡ life.old.began }
     // The call does over this database what it does over any office.
-    ensures operates { life.old.over ≡ false → HasCleanDisk (database_of S.Store life.new.office) → (r : Register) → Has (limits_of life.old.office) r (database_of S.Store life.old.office)
-        → Operates book.now call.now (scene W.contents (shown S.Store life.old.office) writer.old) (scene W.contents (shown S.Store life.new.office) writer.new) result }
+    ensures operates { life.old.over ≡ false → OnCleanDisk S.Store life.old.office life.new.office (λ _.
+        Operates book.now call.now (scene_over S.Store W.contents life.old.office writer.old) (scene_over S.Store W.contents life.new.office writer.new) result) }
     // The headline.
-    ensures leaves { HasCleanDisk (database_of S.Store life.new.office) → (r : Register) → Has (limits_of life.new.began) r (database_of S.Store life.new.began)
-        → AllLeaves r life.new.acts life.new.over (limits_of life.new.office) (database_of S.Store life.new.office) }
+    ensures leaves { HasLeftTables S.Store life.new.began life.new.acts life.new.over life.new.office }
     ensures clean { HasCleanDisk (database_of S.Store life.new.office) → HasCleanDisk (database_of S.Store life.old.office) }
 {
     let answer = life.order(alloc, book, call, writer);

@@ -1,22 +1,17 @@
 //! Opening the office in the files at a path.
 
-ghost use Rattle.std.specs.Prelude.{◌≡◌, ◌≤◌, ◌↔◌, ℕ, IfErr, IfOk, List};
+ghost use Rattle.std.specs.Prelude.{◌≡◌, ◌≤◌, ◌↔◌, IfErr, IfOk};
 ghost use Rattle.sqlite.specs.Files.{HoldsDatabase, over_files};
 ghost use Rattle.sqlite.specs.State.{HasCleanDisk};
-ghost use Rattle.sqlite.specs.Tree.{Trees};
 ghost use Rattle.sqlite.specs.WalFiles.{image_at};
-ghost use Rattle.oftp_register.specs.declared.change.Change.{Change};
 ghost use Rattle.oftp_register.specs.declared.fit.TheConstants.{MOST_FILES, MOST_OCTETS};
 ghost use Rattle.oftp_register.specs.Register.{Register, empty};
-ghost use Rattle.oftp_register.specs.Soundness.{IsSound};
-ghost use Rattle.oftp_tables.specs.Opening.{FailsToOpen, IsStoreOf};
-ghost use Rattle.oftp_tables.specs.Stands.{IsContentOf};
+ghost use Rattle.oftp_tables.specs.Opening.{FailsToOpen};
 ghost use Rattle.oftp_store.specs.Opens.{Has, HoldsNoTable, HoldsTaken, IsOpenable, RefusesPath, TellsPath, to_open};
 ghost use Rattle.oftp_store.specs.Paths.{IsKept};
 ghost use Rattle.oftp_store.specs.Shown.{database_of, faults_of, limits_of};
-ghost use Rattle.oftp_engine.specs.Served.{IsPrefix};
+ghost use Rattle.oftp_durable.specs.Databases.{ReopensPrefix, WhereFilesHold};
 ghost use Rattle.oftp_durable.specs.Headline.{LeavesAlone};
-ghost use Rattle.oftp_durable.specs.Reopening.{IsReopened};
 
 use oftp_store::{PathFault, PathRefused, SqlOffice, open_at};
 use oftp_vfile::Limits;
@@ -52,12 +47,10 @@ pub fn open_durable<S: Start>(
     // The files hold no table, or the office's tables.
     ensures known { IfOk result (λ o. HasCleanDisk (database_of over_files o) → HoldsTaken IsOpenable (HoldsDatabase (image_at S.Start))) }
     // The office has the register whose tables the files hold.
-    ensures found { IfOk result (λ o. HasCleanDisk (database_of over_files o) → (r : Register) (db : Trees) → r.limits ≡ limits → IsSound r
-        → HoldsDatabase (image_at S.Start) db → IsStoreOf r db → LeavesAlone limits (database_of over_files o) r) }
+    ensures found { IfOk result (λ o. HasCleanDisk (database_of over_files o)
+        → WhereFilesHold (image_at S.Start) limits (LeavesAlone limits (database_of over_files o))) }
     // So it has the register after a prefix of the changes of a run that crashed, where the files hold what that crash left.
-    ensures reopened { IfOk result (λ o. HasCleanDisk (database_of over_files o) → (r : Register) (changes : List Change) (least made : ℕ) (db : Trees)
-        → r.limits ≡ limits → IsPrefix IsContentOf changes r least made db
-        → HoldsDatabase (image_at S.Start) db → IsReopened limits (database_of over_files o) r changes least) }
+    ensures reopened { IfOk result (λ o. HasCleanDisk (database_of over_files o) → ReopensPrefix (image_at S.Start) limits (database_of over_files o)) }
     // Where they hold no table, the office has the empty register.
     ensures fresh { IfOk result (λ o. HasCleanDisk (database_of over_files o) → HoldsNoTable (image_at S.Start) → LeavesAlone limits (database_of over_files o) (empty limits)) }
     // Another database is a wrong schema and stays unchanged. After any other error the files hold their old content or the new tables.

@@ -3,8 +3,6 @@ use Rattle.std.proofs.Common.{◌≡◌, ℕ, suc, ◌+◌, ◌==◌, Bool, true
 use Rattle.std.specs.Prelude.{⊤}
 use Rattle.std.proofs.lemmas.Bool.{and_parts, cases_Bool, cond-true, cond-false, not-false}
 use Rattle.std.proofs.lemmas.Slice.Eq.{bytes_eq-Decides}
-use Rattle.std.specs.List.{filter_map}
-use Rattle.std.specs.Option.{option_map}
 use Rattle.std.specs.Str.{bytes_eq}
 use Rattle.oftp_wire.specs.declared.command.Command.{Command}
 use Rattle.oftp_wire.specs.declared.command.Command.TheVariants as command
@@ -36,9 +34,9 @@ use Rattle.oftp_register.specs.declared.verdicts.EndVerdict.TheVariants as «end
 use Rattle.oftp_register.specs.declared.verdicts.StartVerdict.{StartVerdict}
 use Rattle.oftp_register.specs.declared.verdicts.StartVerdict.TheVariants as start
 use Rattle.oftp_register.specs.declared.verdicts.Terms.{Terms}
-use Rattle.oftp_register.specs.Register.{Incoming, Issued, Outgoing, Received, Register, has_received}
+use Rattle.oftp_register.specs.Register.{Incoming, Outgoing, Received, Register, has_received}
 use Rattle.oftp_register.specs.Changes.{is_closing}
-use Rattle.oftp_register.specs.LookUps.{entry_at, item_of, files_full, issued_entry, issued_response, look_in, next_file, next_item, next_response, is_due, is_next_file, is_next_response, is_on_its_way, numbered}
+use Rattle.oftp_register.specs.LookUps.{entry_at, item_of, files_full, look_in, next_file, next_item, next_response, is_due, is_next_file, is_next_response, is_on_its_way}
 use Rattle.oftp_register.specs.Soundness.{IsSound}
 use Rattle.oftp_register.specs.Verdicts.{end_verdict, is_empty, is_plain, start_verdict}
 use Rattle.oftp_session.specs.declared.link.WhenDone.{WhenDone}
@@ -48,8 +46,8 @@ use Rattle.oftp_session.specs.Settings.{Setting}
 use Rattle.oftp_session.specs.Phases.{Offer, Phase, Receipt, Step, Transfer, answers, changes, fails, quiet, register_after, unexpected}
 use Rattle.oftp_session.specs.Phases.{AwaitingEnd, AwaitingRtr, AwaitingSsid, AwaitingStart, EndedHere, EndedThere, GivingWay, InitiatorOpening, ListenerIdle, Receiving, ResponderOpening, Sending, SpeakerIdle}
 use Rattle.oftp_session.specs.Opening.{Agreement, called_as, calling_step, came_awaiting_ssid, came_initiator_opening, open_step, opened_step, ssid_verdict}
-use Rattle.oftp_session.specs.Listener.{came_listener_idle, end_response, file_of, filing, is_between, negative_end_response, response_step}
-use Rattle.oftp_session.specs.Receiving.{came_receiving, carried_by, data_step, end_step, is_window_full, keeping, offer_step, offered_identity, on_end_verdict, on_start_verdict, on_taken, rows_to_keep, terms_within, verdict_on, with_payload, with_rows}
+use Rattle.oftp_session.specs.Listener.{came_listener_idle, end_response, file_of, filing, is_between, negative_end_response, offer_step, offered_identity, on_start_verdict, response_step, terms_within, verdict_on}
+use Rattle.oftp_session.specs.Receiving.{came_receiving, carried_by, data_step, end_step, is_window_full, keeping, on_end_verdict, on_taken, rows_to_keep, with_payload, with_rows}
 use Rattle.oftp_session.specs.Speaker.{came_awaiting_rtr, nothing_next, offers, on_item, response_of, speaks}
 use Rattle.oftp_session.specs.Sending.{after_file, came_awaiting_end, came_awaiting_start, came_sending, credit_left, credited, new_mark, payloads_in, reopened_file, reopening, sends_next, transfer_of, turned_sending}
 use Rattle.oftp_session.specs.Steps.{Holds, IsEnded, IsOffered, IsReceived, IsSent, came, opening, turned}
@@ -57,6 +55,7 @@ use Rattle.oftp_session.proofs.Items.{a_response, item_goes}
 use Rattle.oftp_session.proofs.Turns.{each_turn}
 use Rattle.oftp_engine.specs.TwoStations.{GoesBetween, IfAny}
 use Rattle.oftp_engine.proofs.Grounds.{OfEntry}
+use Rattle.oftp_engine.proofs.IssuedEntries.{issued_found}
 use Rattle.oftp_engine.proofs.Offers.{found_code}
 use Rattle.oftp_engine.proofs.Room.{agreed_so}
 use Rattle.oftp_engine.proofs.StepGrounds.{one_entry}
@@ -123,47 +122,13 @@ found_passes p (y ∷ ys) x h =
       | inr t ↦ found_passes p ys x (sym (cond-false (p y) (Some y) (find p ys) t) ∙ h)
     ]
 
--- the entry of a response that is found
-record IsIssuedAt (n : ℕ) (xs : List Incoming) (e : IssuedEntry) : Type 0 where
-  place : ℕ
-  number : e.no ≡ n + place
-  file : Incoming
-  at : slice_get xs place ≡ Some file
-  identity : e.identity ≡ file.identity
-
-issued_at : (p : IssuedEntry → Bool) (n : ℕ) (xs : List Incoming) (e : IssuedEntry) → find p (filter_map (λ entry. entry) (numbered issued_entry n xs)) ≡ Some e → IsIssuedAt n xs e
-issued_at p n [] e h = absurd (cc)
-issued_at p n (f ∷ fs) e h = by (issued_at p (n + 1) fs e) f.response refl h
-  where
-    behind : IsIssuedAt (n + 1) fs e → IsIssuedAt n (f ∷ fs) e
-    behind k = record { place = suc k.place; number = omega (arith, k.number); file = k.file; at = k.at; identity = k.identity }
-
-    by : (find p (filter_map (λ entry. entry) (numbered issued_entry (n + 1) fs)) ≡ Some e → IsIssuedAt (n + 1) fs e) → (o : Option Issued) → f.response ≡ o
-        → find p (filter_map (λ entry. entry) (option_map (λ (r : Issued). let x : IssuedEntry = record { no = n; identity = f.identity; response = issued_response r } in x) o ∷
-        numbered issued_entry (n + 1) fs)) ≡ Some e → IsIssuedAt n (f ∷ fs) e
-    by ih None is g = behind (ih g)
-    by ih (Some w) is g =
-        let here : IssuedEntry = record { no = n; identity = f.identity; response = issued_response w } in
-        let rest = find p (filter_map (λ entry. entry) (numbered issued_entry (n + 1) fs)) in
-        elim (cases_Bool (p here)) [
-          | inl t ↦ (let q : Some here ≡ Some e = sym (cond-true (p here) (Some here) rest t) ∙ g in let same : here ≡ e = cc in
-              record {
-                place = 0;
-                number = (let m : n ≡ e.no = ap (λ (x : IssuedEntry). x.no) same in omega (arith, m));
-                file = f;
-                at = refl;
-                identity = ap (λ (x : IssuedEntry). x.identity) (sym same);
-              })
-          | inr t ↦ behind (ih (sym (cond-false (p here) (Some here) rest t) ∙ g))
-        ]
-
 one_more : (n k : ℕ) → n ≡ 1 + k → n ≡ suc k
 one_more n k h = omega (arith, h)
 
 -- a response that is next is to a file from the partner
 next_from : (r : Register) (partner : List ℕ) (tried : ℕ) (e : IssuedEntry) → next_response r partner tried ≡ Some e → OfEntry e.no r.incoming (λ (x : Incoming). x.identity.originator ≡ partner)
 next_from r partner tried e h x at =
-    let k = issued_at (is_next_response partner tried) 1 r.incoming e h in
+    let k = issued_found (is_next_response partner tried) 1 r.incoming e h in
     let t = found_passes (is_next_response partner tried) _ e h in
     let last = (and_parts (nat_lt tried e.no) (is_due e.response.dispatch && bytes_eq e.identity.originator partner) t).1 in
     let code = (bytes_eq-Decides e.identity.originator partner).0 (and_parts (is_due e.response.dispatch) (bytes_eq e.identity.originator partner) last).1 in

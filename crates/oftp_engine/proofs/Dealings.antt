@@ -1,7 +1,7 @@
 -- A session with another partner leaves the files of every partner of whom it accepts no SSID.
-use Rattle.std.proofs.Common.{◌≡◌, ◌≢◌, ℕ, zero, suc, ◌≤◌, ◌&&◌, ◌||◌, not, Bool, true, false, cond, List, [], ◌∷◌, ◌++◌, length, take, Option, None, Some, Result, Ok, Err, refl, ap, sym, ◌∙◌, subst, inl, inr, arith, length-append}
+use Rattle.std.proofs.Common.{◌≡◌, ◌≢◌, ℕ, zero, suc, ◌≤◌, ◌&&◌, ◌||◌, not, Bool, true, false, cond, List, [], ◌∷◌, length, take, Option, None, Some, Result, Ok, Err, refl, ap, sym, ◌∙◌, subst, inl, inr, arith}
 use Rattle.std.proofs.lemmas.Bool.{cases_lt, cond-true}
-use Rattle.std.proofs.lemmas.List.{take-append-le, take_all}
+use Rattle.std.proofs.lemmas.List.{take_all}
 use Rattle.std.proofs.lemmas.Slice.Eq.{bytes_eq-Decides}
 use Rattle.std.specs.List.{AllByRecursion}
 use Rattle.std.specs.Result.{result_unwrap_or}
@@ -31,7 +31,7 @@ use Rattle.oftp_engine.specs.Events.{IsWithAnother, SessionsAreDealings}
 use Rattle.oftp_engine.specs.Frames.{over_commands, with_fault}
 use Rattle.oftp_engine.specs.Parts.{SessionData, course_of}
 use Rattle.oftp_engine.specs.Progress.{Sound}
-use Rattle.oftp_engine.specs.Runs.{Course, advance, came_in, is_stopped, refusal, settled, started, step_on, turned_in, turns, with_change}
+use Rattle.oftp_engine.specs.Runs.{Course, advance, came_in, is_stopped, refusal, settled, started, step_on, turned_in, turns}
 use Rattle.oftp_engine.specs.TwoStations.{IfAny}
 use Rattle.oftp_engine.specs.World.{World, Deals, LeavesFilesOf, Dealings, happens, happens_in, left_after, without_session}
 use Rattle.oftp_engine.proofs.About.{LetsIn, IsAbout, IsAboutStep, IsOfPartner, came_about, fails_about, opening_about, turned_about}
@@ -39,13 +39,14 @@ use Rattle.oftp_engine.proofs.Apart.{apart_push, apart_self}
 use Rattle.oftp_engine.proofs.Courses.{grows_step, sound_start}
 use Rattle.oftp_engine.proofs.Folding.{folds_all}
 use Rattle.oftp_engine.proofs.Phases.{fails_proceed, step_proceeds}
+use Rattle.oftp_engine.proofs.Prefixes.{AfterEach, after_all, after_more}
 use Rattle.oftp_engine.proofs.Stops.{from_result}
 
 -- a course with another partner: after each prefix of the changes the register is apart
 pub record IsApartCourse (code : List ℕ) (start : Register) (c : Course) : Type 0 where
   pub sound : Sound start c
   pub about : IsAbout (λ x. x ≢ code) c.setting.book.station.code c.register c.phase
-  pub before : (n : ℕ) (s : Register) → n ≤ length c.changes → apply_all start (take n c.changes) ≡ Ok s → LeavesFilesOf code start s
+  pub before : AfterEach (LeavesFilesOf code start) start c.changes
 
 -- octets of a command that is no SSID with the code, or one that isn't accepted
 abbrev pub NamesAnother : List ℕ → Setting → List ℕ → Type 0
@@ -76,27 +77,13 @@ came_same c m = refl
 module _ (code : List ℕ) (start : Register) where
   -- the register now
   apart_now : (c : Course) → IsApartCourse code start c → LeavesFilesOf code start c.register
-  apart_now c h =
-      let all = take_all (length c.changes) c.changes (omega arith) in
-      h.before (length c.changes) c.register (omega arith) (ap (apply_all start) all ∙ h.sound.replay)
+  apart_now c h = after_all (LeavesFilesOf code start) start c.changes c.register h.sound.replay h.before
 
   -- a step
   apart_made : (r : Register) (change : Option Change) → LeavesFilesOf code start r → Allows r change → IfAny change (IsOfPartner (λ x. x ≢ code) r) → IsSound (register_after r change)
       → LeavesFilesOf code start (register_after r change)
   apart_made r None h allowed of sound = h
   apart_made r (Some k) h allowed of sound = apart_push code start r (register_after r (Some k)) k h of allowed sound
-
-  more_before : (list : List Change) (change : Option Change) (now : Register) → apply_all start (with_change list change) ≡ Ok now → LeavesFilesOf code start now
-      → ((n : ℕ) (s : Register) → n ≤ length list → apply_all start (take n list) ≡ Ok s → LeavesFilesOf code start s)
-      → (n : ℕ) (s : Register) → n ≤ length (with_change list change) → apply_all start (take n (with_change list change)) ≡ Ok s → LeavesFilesOf code start s
-  more_before list None now replay so before n s within made = before n s within made
-  more_before list (Some change) now replay so before n s within made = elim (cases_lt (length list) n) [
-    | inl over ↦ (
-        let longer = list ++ change ∷ [] in
-        let all : take n longer ≡ longer = take_all n longer (omega (arith, over, length-append list (change ∷ []))) in
-        subst (LeavesFilesOf code start) (one_result (apply_all start longer) now s replay (ap (apply_all start) (sym all) ∙ made)) so)
-    | inr under ↦ before n s under (ap (apply_all start) (sym (take-append-le n list (change ∷ []) under)) ∙ made)
-  ]
 
   apart_step : (c : Course) (step : Step) → (Suits c.phase c.register → Proceeds c.register step)
       → (Suits c.phase c.register → IsAbout (λ x. x ≢ code) c.setting.book.station.code c.register c.phase
@@ -112,7 +99,7 @@ module _ (code : List ℕ) (start : Register) where
       record {
         sound = sound;
         about = a.phase;
-        before = more_before c.changes step.change (register_after c.register step.change) sound.replay now h.before;
+        before = after_more (LeavesFilesOf code start) start c.changes step.change (register_after c.register step.change) sound.replay now h.before;
       }
 
   -- the turns that are due

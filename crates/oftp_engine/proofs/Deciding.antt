@@ -23,7 +23,7 @@ use Rattle.oftp_engine.specs.declared.serving.RunFault.TheVariants as fault
 use Rattle.oftp_io.specs.Ports.{Sent}
 use Rattle.oftp_engine.specs.Serving.{Took, scene}
 use Rattle.oftp_engine.specs.Operating.{Deed, IsDeed, decided, makes, refused, released}
-use Rattle.oftp_engine.specs.InsideOperating.{verb_of, Attempts, AttemptsErr, MayFail, came_out, line_as}
+use Rattle.oftp_engine.specs.InsideOperating.{verb_of, Attempts, AttemptsErr, MayFail, call_result, line_as}
 use Rattle.oftp_engine.specs.Operated.{Operates, OperatesErr}
 use Rattle.oftp_io.proofs.Bytes.{appends_none}
 
@@ -50,7 +50,7 @@ module _ (verb : List ℕ) (n : ℕ) (change : Change) (old new : View) where
 -- what the office does with a change is what the call does
 module _ {T : Type 0} (verb : List ℕ) (n : ℕ) (change : Change) (old new : View) where
   pub decides : (made : Result T OfficeFault) → Commits change old new made → new.clean → old.stands → IsFit old.register change
-      → Attempts verb (λ deed. deed ≡ makes verb n change old.register) old new (came_out n made)
+      → Attempts verb (λ deed. deed ≡ makes verb n change old.register) old new (call_result n made)
   decides (Ok x) c clean stood fit =
       let done = c.done clean stood fit in
       let same : makes verb n change old.register ≡ decided verb n change (Ok new.register) = ap (decided verb n change) done.0 in (

@@ -25,7 +25,7 @@ use Rattle.oftp_engine.specs.Served.{Gave, InputEnded, IsWhole, ReaderTold, Serv
 use Rattle.oftp_engine.specs.Operated.{IsUndecided, Operates}
 use Rattle.oftp_engine.specs.Operating.{Deed, IsDeed}
 use Rattle.oftp_engine.specs.Jobs.{CallRefused, IsOut, SessionCut, Stop, EndsWith, Entry, SessionEntry, SessionEnds, CallEntry, IsRun, IsStopped, JobDone, JobStops, JobsDone, LeavesSome, after_jobs, changes_of, share_of}
-use Rattle.oftp_engine.specs.InsideRunning.{DoesJob, IsGoneOn, IsJobDone, IsJobStopped}
+use Rattle.oftp_engine.specs.InsideRunning.{DoesJob, IsListResult, IsJobDone, IsJobStopped}
 use Rattle.oftp_engine.proofs.JobsSoFar.{IsRunning}
 use Rattle.oftp_engine.proofs.Ending.{take_past}
 use Rattle.oftp_engine.proofs.Stepping.{made_register}
@@ -86,7 +86,7 @@ module _ {R W : Type 0} (remaining : R → Option (List ℕ)) (contents : W → 
     result = left;
   }
 
-  pub does_session : {T : Type 0} (answer : Result End RunFault) (result : Result T RunFault) → IsGoneOn answer result → b.role ≡ a.role → b.result ≡ Some answer
+  pub does_session : {T : Type 0} (answer : Result End RunFault) (result : Result T RunFault) → IsListResult answer result → b.role ≡ a.role → b.result ≡ Some answer
       → (given : List ℕ) → Gave remaining a.reader b.reader given → Serves setting' given (scene contents x a.writer) (scene contents y b.writer) answer
       → ReaderTold a.reader b.reader answer → InputEnded remaining a.reader b.reader answer
       → DoesJob remaining contents book x y (job.Session a) (job.Session b) result
@@ -228,7 +228,7 @@ module _ {R W : Type 0} (remaining : R → Option (List ℕ)) (contents : W → 
     result = left;
   }
 
-  pub does_call : {T : Type 0} (answer : Result Told RunFault) (result : Result T RunFault) → IsGoneOn answer result → b.call ≡ a.call → b.result ≡ Some answer
+  pub does_call : {T : Type 0} (answer : Result Told RunFault) (result : Result T RunFault) → IsListResult answer result → b.call ≡ a.call → b.result ≡ Some answer
       → Operates book a.call (scene contents x a.writer) (scene contents y b.writer) answer
       → DoesJob remaining contents book x y (job.Call a) (job.Call b) result
   does_call (Ok told) (Err f) gone call left h = absurd gone

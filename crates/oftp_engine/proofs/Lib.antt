@@ -1,4 +1,5 @@
 pub mod Courses
+pub mod Prefixes
 pub mod EachStep
 pub mod Ending
 pub mod Folding
@@ -11,12 +12,13 @@ pub mod Phases
 pub mod Underway
 pub mod Progress
 pub mod Reading
-pub mod Pumping
+pub mod Driving
 pub mod Stepping
 pub mod Telling
 pub mod Served
 pub mod Conversations
 pub mod Openings
+pub mod Behaving
 pub mod Listening
 pub mod Deciding
 pub mod Offers
@@ -52,6 +54,7 @@ pub mod Fetching
 pub mod JobsSoFar
 pub mod Standing
 pub mod Grounds
+pub mod IssuedEntries
 pub mod About
 pub mod Apart
 pub mod Knowing

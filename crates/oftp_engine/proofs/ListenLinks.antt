@@ -33,9 +33,9 @@ use Rattle.oftp_session.specs.Phases.{unexpected, Phase, Receipt, Transfer, Init
 use Rattle.oftp_session.specs.declared.state.Contact.{Contact}
 use Rattle.oftp_session.specs.Opening.{calling_step}
 use Rattle.oftp_session.specs.Opening.{Agreement, came_initiator_opening, came_awaiting_ssid, opened_step, open_step, ssid_verdict, contact_of, answering_ssid, calling_ssid}
-use Rattle.oftp_session.specs.Listener.{came_listener_idle, response_step, filing, is_between, end_response, negative_end_response}
+use Rattle.oftp_session.specs.Listener.{came_listener_idle, response_step, filing, is_between, end_response, negative_end_response, terms_within, offer_step, on_start_verdict, offered_identity, receipt_of, verdict_on}
 use Rattle.oftp_vfile.specs.Reading.{taken}
-use Rattle.oftp_session.specs.Receiving.{terms_within, offer_step, on_start_verdict, offered_identity, receipt_of, verdict_on, carried_by, rows_to_keep, keeping, with_payload, with_rows, on_taken, data_step, on_end_verdict, end_step, came_receiving, is_window_full, asks_to_speak}
+use Rattle.oftp_session.specs.Receiving.{carried_by, rows_to_keep, keeping, with_payload, with_rows, on_taken, data_step, on_end_verdict, end_step, came_receiving, is_window_full, asks_to_speak}
 use Rattle.oftp_session.specs.Sending.{payloads_in}
 use Rattle.oftp_session.specs.Steps.{IsReceived}
 use Rattle.oftp_engine.proofs.Standing.{SsrmGoes, SsidComes, RtrComes, SfpaComes, SfnaComes, EfidGoes, AnswerComes, MaySpeak, MayCome, MayCredit, MayAnswerStart, MayAnswerEnd, IsWholeAt, IsOpening, IsTold, IsTaking, IsCredit, IsResponseCommand, IsEndAnswer, OpensWith, Speaks, Talk}

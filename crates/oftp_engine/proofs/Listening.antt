@@ -6,6 +6,7 @@ use Rattle.oftp_session.specs.Settings.{Setting}
 use Rattle.oftp_session.specs.declared.session.Ending.{Ending}
 use Rattle.oftp_io.specs.Ports.{Gives}
 use Rattle.oftp_io.specs.declared.port.Port.{Port}
+use Rattle.oftp_engine.specs.declared.limits.TheConstants.{PIECE}
 use Rattle.oftp_engine.specs.declared.serving.End.{End}
 use Rattle.oftp_engine.specs.declared.serving.End.TheVariants.{Input}
 use Rattle.oftp_engine.specs.declared.serving.RunFault.{RunFault}
@@ -83,7 +84,7 @@ module _ {setting : Setting} {given : List ℕ} {talk : Dialogue} {first now : S
 pub read_on : {R : Type 0} (remaining : R → Option (List ℕ)) (before now next : Port R) (given piece : List ℕ) (n : ℕ) (Clean Stood : Type 0)
     (setting : Setting) (talk fed : Dialogue) (first here : Scene)
     → Gave remaining before now given → now.faults ≡ before.faults → now.ended ≡ before.ended → Gives remaining now next piece n → 0 < n
-    → (Clean → Stood → Listens setting given talk first here) → HeardMore talk fed (take n piece) → length (take n piece) ≤ 4096
+    → (Clean → Stood → Listens setting given talk first here) → HeardMore talk fed (take n piece) → length (take n piece) ≤ PIECE
     → IsReading remaining before next Clean Stood setting fed first here
 read_on remaining before now next given piece n Clean Stood setting talk fed first here g f o h some w more short = record {
   given = given ++ take n piece;

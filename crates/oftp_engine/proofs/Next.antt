@@ -29,9 +29,9 @@ use Rattle.oftp_session.specs.Phases.{Phase, Receipt, Offer, Transfer, Step, Res
 use Rattle.oftp_session.specs.declared.state.Contact.{Contact}
 use Rattle.oftp_session.specs.Opening.{calling_step}
 use Rattle.oftp_session.specs.Opening.{Agreement, came_initiator_opening, came_awaiting_ssid, opened_step, open_step, ssid_verdict}
-use Rattle.oftp_session.specs.Listener.{came_listener_idle, response_step, filing, is_between, end_response, negative_end_response}
+use Rattle.oftp_session.specs.Listener.{came_listener_idle, response_step, filing, is_between, end_response, negative_end_response, offer_step, on_start_verdict, offered_identity, verdict_on}
 use Rattle.oftp_vfile.specs.Reading.{taken}
-use Rattle.oftp_session.specs.Receiving.{offer_step, on_start_verdict, offered_identity, verdict_on, carried_by, rows_to_keep, keeping, with_payload, with_rows, on_taken, data_step, on_end_verdict, end_step, came_receiving, is_window_full}
+use Rattle.oftp_session.specs.Receiving.{carried_by, rows_to_keep, keeping, with_payload, with_rows, on_taken, data_step, on_end_verdict, end_step, came_receiving, is_window_full}
 use Rattle.oftp_session.specs.Speaker.{came_awaiting_rtr, on_item, offers, speaks}
 use Rattle.oftp_session.specs.Sending.{came_awaiting_start, came_sending, came_awaiting_end, transfer_of, reopening, credited, new_mark, credit_left, turned_sending, sends_next, payloads_in, after_file}
 use Rattle.oftp_session.specs.Steps.{came, turned}

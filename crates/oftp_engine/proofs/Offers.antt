@@ -39,8 +39,8 @@ use Rattle.oftp_engine.specs.declared.submitting.Offer.{Offer}
 use Rattle.oftp_engine.specs.declared.submitting.Submission.{Submission}
 use Rattle.oftp_engine.specs.Operating.{Deed, IsFileOf, Submits, decided, done_line, identity_of, is_too_big, refuses, registered}
 use Rattle.oftp_engine.specs.Operated.{Registers}
-use Rattle.oftp_engine.specs.InsideOperating.{Attempts, came_out_as}
-use Rattle.oftp_engine.specs.InsideSubmitting.{AreFieldsOf, IsOffer, came_big, came_numbered, named_by}
+use Rattle.oftp_engine.specs.InsideOperating.{Attempts, fault_result}
+use Rattle.oftp_engine.specs.InsideSubmitting.{AreFieldsOf, IsOffer, big_file_result, new_file_result, named_by}
 use Rattle.oftp_engine.proofs.Deciding.{decides}
 
 -- the number of octets of a local form: in V five more for each record
@@ -149,7 +149,7 @@ module _ (identity : Identity) (old new : View) where
   unchanged false = refl
 
   pub decides_big : (looked : Result (Option OutgoingEntry) OfficeFault) → LooksUp (λ r found. found ≡ look_out r identity) old new looked → new.clean → old.stands
-      → Attempts (codes "done: submit ") (λ (deed : Deed). deed ≡ big) old new (came_big looked)
+      → Attempts (codes "done: submit ") (λ (deed : Deed). deed ≡ big) old new (big_file_result looked)
   decides_big (Ok None) l clean stood =
       let none : there ≡ false = sym (found_out identity 1 old.register.outgoing) ∙ ap is_some (sym (l.answer clean stood)) in
       let stands = l.stays clean stood in (
@@ -200,7 +200,7 @@ module _ (identity : Identity) (s : Submission) (rows : List (List ℕ)) (old mi
 
   pub numbers : (looked : Result (Option OutgoingEntry) OfficeFault) → apply old.register change' ≡ Ok mid.register → mid.stands → mid.told ≡ old.told
       → LooksUp (λ r found. found ≡ look_out r identity) mid new looked → new.clean
-      → Attempts verb' (λ (deed : Deed). deed ≡ registered identity s rows old.register) old new (came_numbered looked)
+      → Attempts verb' (λ (deed : Deed). deed ≡ registered identity s rows old.register) old new (new_file_result looked)
   numbers (Ok None) made stood counts l clean =
       let never : None ≡ Some (outgoing_entry number (new_outgoing identity s.format s.longest s.description.now rows)) =
       l.answer clean stood ∙ found_new identity s rows old.register mid.register made in absurd (cc)
@@ -245,13 +245,13 @@ module _ (identity identity' : Identity) (s : Submission) (words : List ℕ) (ro
 
   -- it isn't registered
   pub not_registered : {T : Type 0} (fault : OfficeFault) → Commits given old mid (let r : Result T OfficeFault = Err fault in r) → mid.clean → old.stands
-      → IsFile s.format s.longest rows → Attempts verb'' (λ (deed : Deed). deed ≡ registered identity s rows old.register) old mid (came_out_as 0 fault)
+      → IsFile s.format s.longest rows → Attempts verb'' (λ (deed : Deed). deed ≡ registered identity s rows old.register) old mid (fault_result 0 fault)
   not_registered {T = T} told commits clean stood file =
       let commits' = subst (λ (k : Change). Commits k old mid (let r : Result T OfficeFault = Err told in r)) same_change commits in
       subst (Attempts verb'' (λ (deed : Deed). deed ≡ registered identity s rows old.register) old mid) (numberless told)
       (decides verb'' (1 + length old.register.outgoing) wanted old mid (let r : Result T OfficeFault = Err told in r) commits' clean stood (fit file))
     where
-      numberless : (fault : OfficeFault) → came_out_as (1 + length old.register.outgoing) fault ≡ came_out_as 0 fault
+      numberless : (fault : OfficeFault) → fault_result (1 + length old.register.outgoing) fault ≡ fault_result 0 fault
       numberless office.Store = refl
       numberless office.Memory = refl
       numberless (office.Refused cause) = refl
@@ -259,7 +259,7 @@ module _ (identity identity' : Identity) (s : Submission) (words : List ℕ) (ro
   -- it is registered, and its number is looked up
   pub is_registered : {T : Type 0} (x : T) (new : View) (looked : Result (Option OutgoingEntry) OfficeFault) → Commits given old mid (let r : Result T OfficeFault = Ok x in r)
       → LooksUp (λ r found. found ≡ look_out r identity) mid new looked → new.clean → old.stands → IsFile s.format s.longest rows
-      → Attempts verb'' (λ (deed : Deed). deed ≡ registered identity s rows old.register) old new (came_numbered looked)
+      → Attempts verb'' (λ (deed : Deed). deed ≡ registered identity s rows old.register) old new (new_file_result looked)
   is_registered {T = T} x new looked commits looks clean stood file =
       let commits' = subst (λ (k : Change). Commits k old mid (let r : Result T OfficeFault = Ok x in r)) same_change commits in
       let done = commits'.done (looks.clean clean) stood (fit file) in

@@ -26,7 +26,7 @@ use Rattle.oftp_session.specs.Callers.{AfterAlone, greeting}
 use Rattle.oftp_session.specs.Calls.{Proceeds, Seen, Stands}
 use Rattle.oftp_session.specs.Opening.{Agreement, came_awaiting_ssid, opened_step, ssid_verdict}
 use Rattle.oftp_session.specs.Phases.{Phase, AwaitingSsid, AwaitingRtr, AwaitingStart, AwaitingEnd, EndedHere, EndedThere, GivingWay, InitiatorOpening, ListenerIdle, Receiving, ResponderOpening, Sending, SpeakerIdle, Step, ending_of, esid_of, fails, frame_of, framed, is_over, register_after, unexpected}
-use Rattle.oftp_session.specs.Recalling.{IsSoAt, Recalls}
+use Rattle.oftp_session.specs.Recalling.{Recalls, RecallsAt}
 use Rattle.oftp_session.specs.Settings.{Setting}
 use Rattle.oftp_session.specs.Standings.{Broken, Standing, StandsIn}
 use Rattle.oftp_session.specs.Steps.{Suits, came, turned}
@@ -36,7 +36,7 @@ use Rattle.oftp_io.proofs.Bytes.{appends_on, count_on}
 use Rattle.oftp_io.proofs.Puts.{same_on}
 use Rattle.oftp_io.specs.declared.port.Port.{Port}
 use Rattle.oftp_io.specs.Ports.{Sent, SentAll}
-use Rattle.oftp_engine.specs.declared.conversation.TheConstants.{LONGEST_FRAME}
+use Rattle.oftp_engine.specs.declared.limits.TheConstants.{LONGEST_FRAME}
 use Rattle.oftp_engine.specs.declared.serving.Admission.{Admission}
 use Rattle.oftp_engine.specs.declared.serving.Admission.TheVariants.{LetIn, SentAway, Undecided}
 use Rattle.oftp_engine.specs.declared.serving.RunFault.{RunFault}
@@ -61,8 +61,8 @@ sent_on contents a b d xs ys p q = record {
 }
 
 -- what a session remembers that has forgotten all is true
-forgets : (seen : Seen) (r : Register) → seen.asks ≡ None → Recalls seen r
-unfolding IsSoAt
+forgets : (seen : Seen) (r : Register) → seen.response_due ≡ None → Recalls seen r
+unfolding RecallsAt
 forgets seen r none = λ to e given is. absurd (let no : ⊥ = cc in no)
 
 -- a step for which no office was asked, and the write of its frame
@@ -71,7 +71,7 @@ pub sent_alone : {T W : Type 0} (contents : W → Option (List ℕ)) (a d : Port
 sent_alone contents a d step old new said (Ok x) same after sent = record {
   setting = after.setting;
   stands = after.stands;
-  recalls = λ r. forgets new r after.asks;
+  recalls = λ r. forgets new r after.forgets;
   out = subst (SentAll contents a d) same sent;
 }
 sent_alone contents a d step old new said (Err f) same after sent = tt

@@ -1,8 +1,6 @@
 -- Over a run, and over jobs in order, a file that comes in parts is what its parts carry.
-use Rattle.std.proofs.Common.{◌≡◌, ℕ, zero, suc, ◌+◌, ◌≤◌, ◌&&◌, ◌||◌, not, Bool, true, false, cond, List, [], ◌∷◌, ◌++◌, length, take, Option, None, Some, Result, Ok, Err, refl, ap, sym, ◌∙◌, subst, inl, inr, arith, length-append}
+use Rattle.std.proofs.Common.{◌≡◌, ℕ, zero, suc, ◌+◌, ◌≤◌, ◌&&◌, ◌||◌, not, Bool, true, false, cond, List, [], ◌∷◌, length, take, Option, None, Some, Result, Ok, Err, refl, ap, sym, ◌∙◌, subst, inl, inr, arith}
 use Rattle.std.specs.Prelude.{codes, is_some, nat_le}
-use Rattle.std.proofs.lemmas.Bool.{cases_lt}
-use Rattle.std.proofs.lemmas.List.{take-append-le, take_all}
 use Rattle.oftp_wire.specs.Kinds.{command_of}
 use Rattle.oftp_wire.specs.Reasons.{reason_of}
 use Rattle.oftp_wire.specs.declared.command.Command.{Command}
@@ -26,7 +24,7 @@ use Rattle.oftp_register.specs.Changes.{apply, apply_all, is_outgoing, new_incom
 use Rattle.oftp_register.specs.Soundness.{IsFile, IsFit, IsResponse, IsSound}
 use Rattle.oftp_register.proofs.ByIdentityLemmas.{started_view}
 use Rattle.oftp_register.proofs.KeepLemmas.{apply_keeps}
-use Rattle.oftp_register.proofs.NumberLemmas.{mapped_ok, one_result}
+use Rattle.oftp_register.proofs.NumberLemmas.{mapped_ok}
 use Rattle.oftp_session.specs.Settings.{Setting}
 use Rattle.oftp_session.specs.Phases.{Step, fails, is_over, register_after}
 use Rattle.oftp_session.specs.Steps.{Suits, has_turn, opening, turned, turns_due}
@@ -40,13 +38,14 @@ use Rattle.oftp_engine.specs.declared.submitting.Submission.{Submission}
 use Rattle.oftp_engine.specs.Operating.{Deed, IsDeed, IsFileOf, decided, identity_of, is_too_big, makes, refuses, registered, submitted}
 use Rattle.oftp_engine.proofs.Offers.{is_file}
 use Rattle.oftp_engine.specs.Parts.{AreParts, BringsParts, File, IsLeft, IsOpenWith, IsPart, IsSoFar, JobData, JobsMakeTheFile, LeaveAll, JobLeaves, MayDo, NoCountPasses, OfCall, PartsMakeTheFile, OfSession, SessionData, course_of, rows_here}
-use Rattle.oftp_engine.specs.Runs.{Course, advance, came_in, is_stopped, refusal, settled, started, step_on, turned_in, turns, with_change}
+use Rattle.oftp_engine.specs.Runs.{Course, advance, came_in, is_stopped, refusal, settled, started, step_on, turned_in, turns}
 use Rattle.oftp_engine.specs.Progress.{Sound}
 use Rattle.oftp_engine.proofs.Courses.{grows_step, sound_start}
 use Rattle.oftp_engine.proofs.Folding.{folds_all}
 use Rattle.oftp_engine.proofs.PartChanges.{part_change}
 use Rattle.oftp_engine.proofs.PartSteps.{IsPartPhase, IsPartStep, StepGrounds, came_part, turned_part}
 use Rattle.oftp_engine.proofs.Phases.{fails_proceed, step_proceeds}
+use Rattle.oftp_engine.proofs.Prefixes.{AfterEach, after_all, after_more}
 
 -- a register in which the file is in an allowed state
 pub record IsSoIn (file : File) (identity : Identity) (r : Register) : Type 0 where
@@ -57,14 +56,12 @@ pub record IsSoIn (file : File) (identity : Identity) (r : Register) : Type 0 wh
 pub record IsPartCourse (file : File) (identity : Identity) (start : Register) (c : Course) : Type 0 where
   pub sound : Sound start c
   pub phase : IsPartPhase file identity c.phase
-  pub before : (n : ℕ) (s : Register) → n ≤ length c.changes → apply_all start (take n c.changes) ≡ Ok s → IsSoIn file identity s
+  pub before : AfterEach (IsSoIn file identity) start c.changes
 
 module _ (file : File) (identity : Identity) (start : Register) where
   -- the register now
   part_now : (c : Course) → IsPartCourse file identity start c → IsSoIn file identity c.register
-  part_now c h =
-      let all = take_all (length c.changes) c.changes (omega arith) in
-      h.before (length c.changes) c.register (omega arith) (ap (apply_all start) all ∙ h.sound.replay)
+  part_now c h = after_all (IsSoIn file identity) start c.changes c.register h.sound.replay h.before
 
   -- a step
   part_made : (r : Register) (change : Option Change) → IsSoIn file identity r → Allows r change → StepGrounds file identity r change → IsSound (register_after r change)
@@ -72,18 +69,6 @@ module _ (file : File) (identity : Identity) (start : Register) where
   part_made r None so allowed grounds sound = so
   part_made r (Some change) so allowed grounds sound =
       record { sound = sound; so_far = part_change file identity r (register_after r (Some change)) so.so_far change so.sound grounds allowed }
-
-  more_before : (list : List Change) (change : Option Change) (now : Register) → apply_all start (with_change list change) ≡ Ok now → IsSoIn file identity now
-      → ((n : ℕ) (s : Register) → n ≤ length list → apply_all start (take n list) ≡ Ok s → IsSoIn file identity s)
-      → (n : ℕ) (s : Register) → n ≤ length (with_change list change) → apply_all start (take n (with_change list change)) ≡ Ok s → IsSoIn file identity s
-  more_before list None now replay so before n s within made = before n s within made
-  more_before list (Some change) now replay so before n s within made = elim (cases_lt (length list) n) [
-    | inl over ↦ (
-        let longer = list ++ change ∷ [] in
-        let all : take n longer ≡ longer = take_all n longer (omega (arith, over, length-append list (change ∷ []))) in
-        subst (IsSoIn file identity) (one_result (apply_all start longer) now s replay (ap (apply_all start) (sym all) ∙ made)) so)
-    | inr under ↦ before n s under (ap (apply_all start) (sym (take-append-le n list (change ∷ []) under)) ∙ made)
-  ]
 
   part_step : (c : Course) (step : Step) → (Suits c.phase c.register → Proceeds c.register step)
       → (Suits c.phase c.register → IsSoFar file (in_at c.register identity) → IsPartPhase file identity c.phase → IsPartStep file identity c.register step)
@@ -99,7 +84,7 @@ module _ (file : File) (identity : Identity) (start : Register) where
       record {
         sound = sound;
         phase = part.phase;
-        before = more_before c.changes step.change (register_after c.register step.change) sound.replay now h.before;
+        before = after_more (IsSoIn file identity) start c.changes step.change (register_after c.register step.change) sound.replay now h.before;
       }
 
   -- the turns that are due

@@ -52,8 +52,8 @@ use Rattle.oftp_session.specs.Phases.{Phase, Offer, Receipt, Step, Transfer, ans
 use Rattle.oftp_session.specs.Phases.{AwaitingEnd, AwaitingRtr, AwaitingSsid, AwaitingStart, EndedHere, EndedThere, GivingWay, InitiatorOpening, ListenerIdle, Receiving, ResponderOpening, Sending, SpeakerIdle}
 use Rattle.oftp_session.specs.Opening.{Agreement, came_awaiting_ssid, came_initiator_opening, open_step, opened_step, ssid_verdict}
 use Rattle.oftp_session.specs.Opening.{calling_step}
-use Rattle.oftp_session.specs.Listener.{came_listener_idle, end_response, file_of, filing, is_between, negative_end_response, response_step}
-use Rattle.oftp_session.specs.Receiving.{came_receiving, carried_by, data_step, end_step, is_window_full, keeping, offer_step, on_end_verdict, on_start_verdict, on_taken, reason_of, rows_to_keep, verdict_on, window_step, with_payload, with_rows}
+use Rattle.oftp_session.specs.Listener.{came_listener_idle, end_response, file_of, filing, is_between, negative_end_response, offer_step, on_start_verdict, response_step, verdict_on}
+use Rattle.oftp_session.specs.Receiving.{came_receiving, carried_by, data_step, end_step, is_window_full, keeping, on_end_verdict, on_taken, reason_of, rows_to_keep, window_step, with_payload, with_rows}
 use Rattle.oftp_session.specs.Speaker.{came_awaiting_rtr, nothing_next, offers, on_item, speaks}
 use Rattle.oftp_session.specs.Sending.{after_file, came_awaiting_end, came_awaiting_start, came_sending, credit_left, credited, new_mark, payloads_in, refusal, reopening, sends_next, transfer_of, turned_sending}
 use Rattle.oftp_session.specs.Steps.{IsReceived, Suits, came, turned}

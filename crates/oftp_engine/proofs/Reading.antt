@@ -1,4 +1,4 @@
--- What one call did after all that was done before it: a call of `pump`, and of a reader.
+-- What one call did after all that was done before it: a call of `drive`, and of a reader.
 use Rattle.std.proofs.Common.{◌≡◌, ℕ, List, [], ◌++◌, take, Option, length, ◌<◌, sym, ap, ◌∙◌, subst, arith, append_assoc, length-append, true, inl, inr}
 use Rattle.std.proofs.lemmas.List.{append-nil, length-take-le}
 use Rattle.std.specs.Io.KnownBytes.{Consumes}

@@ -32,7 +32,8 @@ use Rattle.oftp_register.specs.Soundness.{IsSoundOutgoing}
 use Rattle.oftp_register.proofs.UnitLemmas.{outgoing_units}
 use Rattle.oftp_session.specs.Opening.{ssid_with}
 use Rattle.oftp_session.specs.Phases.{esid_of}
-use Rattle.oftp_session.specs.Receiving.{efna_of, efpa_of, sfna_of, sfpa_of}
+use Rattle.oftp_session.specs.Receiving.{efna_of, efpa_of}
+use Rattle.oftp_session.specs.Listener.{sfna_of, sfpa_of}
 use Rattle.oftp_session.specs.Sending.{efid_of}
 use Rattle.oftp_session.specs.Speaker.{blocks, eerp_of, layout_of, nerp_of, sfid_of}
 use Rattle.oftp_engine.specs.Queues.{IsSayable}

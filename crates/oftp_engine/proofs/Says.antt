@@ -1,8 +1,6 @@
 -- What a station sends is true of its register.
-use Rattle.std.proofs.Common.{◌≡◌, ℕ, zero, suc, ◌+◌, ◌/◌, ◌&&◌, Bool, true, false, cond, not, nat_lt, List, [], ◌∷◌, ◌++◌, map, find, slice_get, Option, None, Some, is_none, Ok, refl, ap, sym, ◌∙◌, subst, inl, inr, arith}
-use Rattle.std.proofs.lemmas.Bool.{cases_Bool, cond-true, cond-false}
-use Rattle.std.specs.List.{filter_map}
-use Rattle.std.specs.Option.{option_map}
+use Rattle.std.proofs.Common.{◌≡◌, ℕ, zero, suc, ◌+◌, ◌/◌, ◌&&◌, Bool, true, false, cond, not, nat_lt, List, [], ◌∷◌, ◌++◌, map, find, Option, None, Some, is_none, Ok, refl, ap, sym, ◌∙◌, subst, inl, inr, arith}
+use Rattle.std.proofs.lemmas.Bool.{cases_Bool, cond-false}
 use Rattle.std.specs.Str.{bytes_eq}
 use Rattle.oftp_wire.specs.declared.command.Command.{Command}
 use Rattle.oftp_wire.specs.declared.command.Command.TheVariants as command
@@ -25,10 +23,10 @@ use Rattle.oftp_register.specs.declared.entries.Item.TheVariants as item
 use Rattle.oftp_register.specs.declared.verdicts.Terms.{Terms}
 use Rattle.oftp_register.specs.declared.verdicts.StartVerdict.{StartVerdict}
 use Rattle.oftp_register.specs.declared.verdicts.StartVerdict.TheVariants as start
-use Rattle.oftp_register.specs.Register.{Register, Incoming, Outgoing, Issued, same_identity}
+use Rattle.oftp_register.specs.Register.{Register, Incoming, Outgoing, same_identity}
 use Rattle.oftp_register.specs.Changes.{at_number, closed, on_incoming}
 use Rattle.oftp_register.specs.Verdicts.{start_verdict, format_of, longest_of, has_length, is_plain, is_empty, is_received, is_whole, restart_position}
-use Rattle.oftp_register.specs.LookUps.{entry_at, incoming_entry, issued_entry, issued_response, numbered, look_in, next_item, next_response}
+use Rattle.oftp_register.specs.LookUps.{entry_at, incoming_entry, numbered, look_in, next_item, next_response}
 use Rattle.oftp_register.specs.Soundness.{IsSound, IsSoundOutgoing, AreNamedOnce}
 use Rattle.oftp_register.proofs.NumberLemmas.{at_number_same, mapped_ok}
 use Rattle.oftp_register.proofs.IncomingLemmas.{closed_same, if_open_ok}
@@ -37,14 +35,14 @@ use Rattle.oftp_session.specs.declared.link.WhenDone.TheVariants.{ChangeDirectio
 use Rattle.oftp_session.specs.Settings.{Setting}
 use Rattle.oftp_session.specs.declared.state.Contact.{Contact}
 use Rattle.oftp_session.specs.Phases.{Receipt}
-use Rattle.oftp_session.specs.Listener.{end_response, negative_end_response}
-use Rattle.oftp_session.specs.Receiving.{offered_identity}
+use Rattle.oftp_session.specs.Listener.{end_response, negative_end_response, offered_identity}
 use Rattle.oftp_session.specs.Speaker.{nothing_next, layout_of, sfid_of, response_of, on_item, offers, speaks, offered_from}
 use Rattle.oftp_session.specs.Steps.{IsReceived}
 use Rattle.oftp_session.proofs.Items.{a_response}
 use Rattle.oftp_register.specs.ByIdentity.{out_at, in_at, named, incoming_name, outgoing_name}
 use Rattle.oftp_engine.specs.TwoStations.{Has, IfAny, IsAnsweredBy}
 use Rattle.oftp_engine.proofs.Standing.{IsOfferOf, IsIssuedBy, IsWholeAt}
+use Rattle.oftp_engine.proofs.IssuedEntries.{IsIssuedEntry, issued_found}
 use Rattle.oftp_register.proofs.ByIdentityLemmas.{found_named, one_changed, same_self, named_all}
 
 -- SFNA 13 is sent only of a whole file.
@@ -160,46 +158,7 @@ offer_is_true r n file from sound e =
 
 -- EERP and NERP are sent of responses that were issued.
 
-pub record IsIssuedEntry (xs : List Incoming) (e : IssuedEntry) : Type 0 where
-  pub place : ℕ
-  pub file : Incoming
-  pub at : slice_get xs place ≡ Some file
-  pub response : Issued
-  pub issued : file.response ≡ Some response
-  pub identity : e.identity ≡ file.identity
-  pub kind : response.kind ≡ e.response.kind
-  pub told : issued_response response ≡ e.response
-
-pub issued_found : (p : IssuedEntry → Bool) (n : ℕ) (xs : List Incoming) (e : IssuedEntry) → find p (filter_map (λ entry. entry) (numbered issued_entry n xs)) ≡ Some e → IsIssuedEntry xs e
-issued_found p n [] e h = absurd (cc)
-issued_found p n (f ∷ fs) e h = by (issued_found p (n + 1) fs e) f.response refl h
-  where
-    behind : IsIssuedEntry fs e → IsIssuedEntry (f ∷ fs) e
-    behind k = record { place = suc k.place; file = k.file; at = k.at; response = k.response; issued = k.issued; identity = k.identity; kind = k.kind; told = k.told }
-
-    by : (find p (filter_map (λ entry. entry) (numbered issued_entry (n + 1) fs)) ≡ Some e → IsIssuedEntry fs e) → (o : Option Issued) → f.response ≡ o
-        → find p (filter_map (λ entry. entry) (option_map (λ (r : Issued). let x : IssuedEntry = record { no = n; identity = f.identity; response = issued_response r } in x) o ∷
-        numbered issued_entry (n + 1) fs)) ≡ Some e → IsIssuedEntry (f ∷ fs) e
-    by ih None is g = behind (ih g)
-    by ih (Some w) is g =
-        let here : IssuedEntry = record { no = n; identity = f.identity; response = issued_response w } in
-        let rest = find p (filter_map (λ entry. entry) (numbered issued_entry (n + 1) fs)) in
-        elim (cases_Bool (p here)) [
-          | inl t ↦ (let q : Some here ≡ Some e = sym (cond-true (p here) (Some here) rest t) ∙ g in let same : here ≡ e = cc in
-              record {
-                place = 0;
-                file = f;
-                at = refl;
-                response = w;
-                issued = is;
-                identity = ap (λ (x : IssuedEntry). x.identity) (sym same);
-                kind = ap (λ (x : IssuedEntry). x.response.kind) same;
-                told = ap (λ (x : IssuedEntry). x.response) same;
-              })
-          | inr t ↦ behind (ih (sym (cond-false (p here) (Some here) rest t) ∙ g))
-        ]
-
-issued_at : (r : Register) (e : IssuedEntry) → IsSound r → IsIssuedEntry r.incoming e → Has (in_at r e.identity) (IsAnsweredBy e.response.kind)
+issued_at : (r : Register) (e : IssuedEntry) → IsSound r → IsIssuedEntry 1 r.incoming e → Has (in_at r e.identity) (IsAnsweredBy e.response.kind)
 issued_at r e sound k =
     let found : in_at r k.file.identity ≡ Some k.file = found_named incoming_name k.place r.incoming k.file k.file.identity sound.incoming_once k.at (same_self k.file.identity) in
     let a : IsAnsweredBy e.response.kind k.file = record { response = k.response; issued = k.issued; same = k.kind } in
@@ -216,7 +175,7 @@ nothing_is_true contact ChangeDirection r = tt
 nothing_is_true contact EndSession r = tt
 
 item_is_true : (setting : Setting) (contact : Contact) (done : WhenDone) (r : Register) (i : Option Item) → IsSound r
-    → ((e : IssuedEntry) → i ≡ Some (item.Response e) → IsIssuedEntry r.incoming e) → IfAny (on_item setting contact done r i).output (IsTrueOf r)
+    → ((e : IssuedEntry) → i ≡ Some (item.Response e) → IsIssuedEntry 1 r.incoming e) → IfAny (on_item setting contact done r i).output (IsTrueOf r)
 item_is_true setting contact done r (Some (item.Response e)) sound h = response_is_true setting.book.station.code r e e.response.kind refl (issued_at r e sound (h e refl))
 item_is_true setting contact done r (Some (item.File e)) sound h = by (entry_at e.no r.outgoing) refl
   where

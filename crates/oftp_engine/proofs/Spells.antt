@@ -49,8 +49,8 @@ use Rattle.oftp_session.specs.Settings.{Setting}
 use Rattle.oftp_session.specs.Phases.{Offer, Phase, Receipt, Step, Transfer, answers, changes, esid_of, fails, quiet, register_after, says, unexpected}
 use Rattle.oftp_session.specs.Phases.{AwaitingEnd, AwaitingRtr, AwaitingSsid, AwaitingStart, EndedHere, EndedThere, GivingWay, InitiatorOpening, ListenerIdle, Receiving, ResponderOpening, Sending, SpeakerIdle}
 use Rattle.oftp_session.specs.Opening.{Agreement, answered_mode, called_as, calling_step, came_awaiting_ssid, came_initiator_opening, open_step, opened_step, ssid_verdict}
-use Rattle.oftp_session.specs.Listener.{came_listener_idle, end_response, file_of, filing, is_between, negative_end_response, response_step}
-use Rattle.oftp_session.specs.Receiving.{came_receiving, carried_by, data_step, end_step, is_window_full, keeping, offer_step, offered_identity, on_end_verdict, on_start_verdict, on_taken, rows_to_keep, verdict_on, with_payload, with_rows}
+use Rattle.oftp_session.specs.Listener.{came_listener_idle, end_response, file_of, filing, is_between, negative_end_response, offer_step, offered_identity, on_start_verdict, response_step, verdict_on}
+use Rattle.oftp_session.specs.Receiving.{came_receiving, carried_by, data_step, end_step, is_window_full, keeping, on_end_verdict, on_taken, rows_to_keep, with_payload, with_rows}
 use Rattle.oftp_session.specs.Speaker.{came_awaiting_rtr, nothing_next, offered_from, offers, on_item, response_of, speaks}
 use Rattle.oftp_session.specs.Sending.{came_awaiting_end, came_awaiting_start, came_sending, credit_left, credited, new_mark, payload_size, payloads_in, refusal, reopening, rows_from, sends_next, transfer_of, turned_sending}
 use Rattle.oftp_session.specs.Steps.{IsSent, Suits, came, turned}
@@ -64,7 +64,7 @@ use Rattle.oftp_engine.specs.Ranges.{AreWords, IsIdentity, IsSpellable, IsSpella
 use Rattle.oftp_engine.proofs.Phases.{fails_proceed}
 use Rattle.oftp_engine.proofs.Room.{SizesOf, agreed_so, came_buffer, turned_buffer}
 use Rattle.oftp_engine.proofs.Sayable.{cd_sayable, cdt_sayable, data_sayable, eerp_sayable, efid_sayable, efna_sayable, efpa_sayable, esid_sayable, nerp_sayable, rtr_sayable, sfid_sayable, sfna_sayable, sfpa_sayable, ssid_sayable, ssrm_sayable}
-use Rattle.oftp_engine.proofs.Says.{IsIssuedEntry, issued_found}
+use Rattle.oftp_engine.proofs.IssuedEntries.{IsIssuedEntry, issued_found}
 use Rattle.oftp_engine.proofs.Spellable.{IsSpellableChange, makes_spellable, partner_is}
 use Rattle.oftp_engine.proofs.Standing.{OfBuffer}
 
@@ -228,7 +228,7 @@ response_sayable station e file EndResponse code it same reason text = eerp_saya
 response_sayable station e file NegativeEndResponse code it same reason text =
     nerp_sayable station e.identity e.response.reason e.response.text code (subst IsIdentity (sym same) it.identity) reason text
 
-issued_sayable : (station : List ℕ) (r : Register) (e : IssuedEntry) → IsName 25 station → IsSpellable r → IsIssuedEntry r.incoming e → IsSayable (response_of station e e.response.kind)
+issued_sayable : (station : List ℕ) (r : Register) (e : IssuedEntry) → IsName 25 station → IsSpellable r → IsIssuedEntry 1 r.incoming e → IsSayable (response_of station e e.response.kind)
 issued_sayable station r e code it k =
     let file = all_at IsSpellableIncoming (suc k.place) r.incoming k.file it.incoming k.at in
     let answer : IsSpellableAnswer k.response = subst (λ o. IfSome o IsSpellableAnswer) k.issued file.response in
@@ -247,7 +247,7 @@ offers_spells contact done n r (Some file) sound it h =
     from_within false file fit = omega arith
 
 item_spells : (setting : Setting) (contact : Contact) (done : WhenDone) (r : Register) (next : Option Item) → IsName 25 setting.book.station.code → IsSound r → IsSpellable r
-    → ((e : IssuedEntry) → next ≡ Some (item.Response e) → IsIssuedEntry r.incoming e) → StepSpells (on_item setting contact done r next)
+    → ((e : IssuedEntry) → next ≡ Some (item.Response e) → IsIssuedEntry 1 r.incoming e) → StepSpells (on_item setting contact done r next)
 item_spells setting contact done r (Some (item.Response e)) code sound it h = says_spells _ _ (issued_sayable setting.book.station.code r e code it (h e refl))
 item_spells setting contact done r (Some (item.File e)) code sound it h = offers_spells contact done e.no r (entry_at e.no r.outgoing) sound it refl
 item_spells setting contact done r None code sound it h = nothing_spells contact done

@@ -19,8 +19,7 @@ use Rattle.oftp_register.specs.Soundness.{IsSound}
 use Rattle.oftp_session.specs.Phases.{Phase, Receipt, Offer, Transfer, ResponderOpening, InitiatorOpening, AwaitingSsid, ListenerIdle, Receiving, SpeakerIdle, GivingWay, AwaitingRtr, AwaitingStart, Sending, AwaitingEnd, EndedHere, EndedThere, is_over}
 use Rattle.oftp_session.specs.declared.state.Contact.{Contact}
 use Rattle.oftp_session.specs.Steps.{Holds}
-use Rattle.oftp_session.specs.Listener.{end_response, negative_end_response}
-use Rattle.oftp_session.specs.Receiving.{offered_identity}
+use Rattle.oftp_session.specs.Listener.{end_response, negative_end_response, offered_identity}
 use Rattle.oftp_session.specs.Sending.{payloads_in}
 use Rattle.oftp_engine.specs.Progress.{Counted}
 use Rattle.oftp_engine.specs.Runs.{Course}

@@ -9,7 +9,7 @@ use Rattle.oftp_io.specs.Ports.{Puts}
 -- `Goes` is how far it went
 pub record IsUnderway {W : Type 0} (contents : W → Option (List ℕ)) (old now : View) (front here : Port W) (seen : Seen) (Goes : Type 0) : Type 0 where
   pub out : Puts contents front here
-  pub told : here.faults ≡ front.faults
+  pub faults : here.faults ≡ front.faults
   pub unbroken : seen.standing ≢ Broken
   pub clean : now.clean → old.clean
   pub goes : Goes

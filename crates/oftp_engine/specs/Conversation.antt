@@ -8,13 +8,14 @@ use Rattle.oftp_session.specs.Phases.{ending_of, is_over}
 use Rattle.oftp_session.specs.Settings.{Setting}
 use Rattle.oftp_session.specs.Steps.{opening}
 use Rattle.oftp_session.specs.declared.session.Ending.{Ending}
-use Rattle.oftp_engine.specs.declared.conversation.TheConstants.{LONGEST_FRAME}
+use Rattle.oftp_io.specs.declared.port.Port.{Port}
+use Rattle.oftp_engine.specs.declared.limits.TheConstants.{LONGEST_FRAME}
 use Rattle.oftp_engine.specs.declared.serving.Going.{Going}
 use Rattle.oftp_engine.specs.declared.serving.Going.TheVariants as going
 use Rattle.oftp_engine.specs.declared.serving.RunFault.{RunFault}
 use Rattle.oftp_engine.specs.declared.serving.RunFault.TheVariants as fault
 use Rattle.oftp_engine.specs.Runs.{started}
-use Rattle.oftp_engine.specs.Serving.{Scene}
+use Rattle.oftp_engine.specs.Serving.{Scene, scene}
 use Rattle.oftp_engine.specs.Served.{IsOutOfMemory, IsWhole, ServesErr, whole}
 use Rattle.oftp_engine.specs.Progress.{Comes}
 
@@ -22,6 +23,9 @@ use Rattle.oftp_engine.specs.Progress.{Comes}
 pub record Dialogue : Type 0 where
   pub seen : Seen
   pub stream : Stream
+
+abbrev pub dialogue : Seen → Stream → Dialogue
+dialogue seen stream = record { seen = seen; stream = stream }
 
 -- it has heard nothing and made no step
 pub record IsFresh (setting' : Setting) (talk : Dialogue) : Type 0 where
@@ -78,6 +82,13 @@ ComesSoFar setting given talk first now (Ok going.Sends) = SendsOn setting given
 ComesSoFar setting given talk first now (Ok (going.Ended end)) = HasConcluded setting given first now end
 ComesSoFar setting given talk first now (Err fault) = ServesErr setting given first now fault
 
+module _ {O W : Type 0} (view : O → View) (contents : W → Option (List ℕ)) where
+  -- on a clean store a call goes on with a conversation, whatever it has heard and wherever it began, and comes this far
+  abbrev pub Continues : Dialogue → O → Port W → O → (Setting → List ℕ → Scene → Type 0) → Type 0
+  Continues talk office writer after comes = (view after).clean → (first : O) (front : Port W) (setting : Setting) (given : List ℕ)
+      → HasHeard setting given talk (scene contents (view first) front) (scene contents (view office) writer)
+      → comes setting given (scene contents (view first) front)
+
 -- an error that isn't the reader's
 abbrev pub IsOwn : RunFault → Type 0
 IsOwn fault.Read = ⊥
@@ -92,3 +103,12 @@ pub record ShowsSame (old new : View) : Type 0 where
   pub stands : old.stands → new.stands
   pub told : new.told ≡ old.told
   pub left : Only old.register new
+
+-- what it has heard goes on with the next octets
+abbrev pub HearsOn : Setting → List ℕ → List ℕ → Dialogue → Dialogue → Scene → Scene → Type 0
+HearsOn setting given octets old new first now = HasHeard setting given old first now → HeardMore old new octets → HasHeard setting (given ++ octets) new first now
+
+-- it still waits after others have used the office
+abbrev pub StillListens : Setting → List ℕ → Dialogue → Scene → Scene → View → Type 0
+StillListens setting given talk first now later = ShowsSame now.office later
+    → Listens setting given talk first now → Listens setting given talk first (record now { office = later })

@@ -2,6 +2,9 @@
 use Rattle.std.specs.Prelude.{◌≡◌, ℕ, ◌⊎◌, ⊤, List, Result, Ok, Err, codes}
 use Rattle.oftp_register.specs.declared.office.OfficeFault.{OfficeFault}
 use Rattle.oftp_register.specs.declared.office.OfficeFault.TheVariants as office
+use Rattle.oftp_register.specs.declared.change.Change.{Change}
+use Rattle.oftp_register.specs.Register.{Register}
+use Rattle.oftp_register.specs.Soundness.{IsFit}
 use Rattle.oftp_register.specs.Offices.{View, next_count}
 use Rattle.oftp_session.specs.Calls.{IsBefore, Makes}
 use Rattle.oftp_engine.specs.declared.operating.Operator.{Operator}
@@ -9,9 +12,10 @@ use Rattle.oftp_engine.specs.declared.operating.Told.{Told}
 use Rattle.oftp_engine.specs.declared.operating.Told.TheVariants as told
 use Rattle.oftp_engine.specs.declared.serving.RunFault.{RunFault}
 use Rattle.oftp_engine.specs.declared.serving.RunFault.TheVariants as fault
-use Rattle.oftp_engine.specs.Operating.{Deed, NeedsMemory, done_line, refusal_line, refusal_of}
+use Rattle.oftp_engine.specs.Operating.{Deed, NeedsMemory, done_line, makes, refusal_line, refusal_of}
 use Rattle.oftp_engine.specs.declared.operating.Operator.TheVariants as operator
 use Rattle.oftp_engine.specs.Operated.{IsMadeBefore}
+use Rattle.oftp_engine.specs.Serving.{OnCleanStore}
 
 -- the beginning of the line of a call that was carried out
 abbrev pub verb_of : Operator → List ℕ
@@ -57,16 +61,29 @@ MayFail call fault.Office = ⊤
 MayFail call fault.Memory = NeedsMemory call
 
 -- the result of a commit of a change of the file with a number
-abbrev pub came_out_as : ℕ → OfficeFault → Result Told RunFault
-came_out_as n office.Store = Err fault.Office
-came_out_as n office.Memory = Err fault.Office
-came_out_as n (office.Refused cause) = Ok (told.Refused (refusal_of cause))
+abbrev pub fault_result : ℕ → OfficeFault → Result Told RunFault
+fault_result n office.Store = Err fault.Office
+fault_result n office.Memory = Err fault.Office
+fault_result n (office.Refused cause) = Ok (told.Refused (refusal_of cause))
 
-abbrev pub came_out : {T : Type 0} → ℕ → Result T OfficeFault → Result Told RunFault
-came_out n (Ok x) = Ok (told.Done n)
-came_out n (Err fault) = came_out_as n fault
+abbrev pub call_result : {T : Type 0} → ℕ → Result T OfficeFault → Result Told RunFault
+call_result n (Ok x) = Ok (told.Done n)
+call_result n (Err fault) = fault_result n fault
 
 -- a call was tried that does a deed of this kind
 abbrev pub Attempts : List ℕ → (Deed → Type 0) → View → View → Result Told RunFault → Type 0
 Attempts verb IsIt old new (Ok told') = (deed : Deed) × IsIt deed × IsDecided verb deed old new told'
 Attempts verb IsIt old new (Err fault) = AttemptsErr IsIt old new fault
+
+-- on a clean store a call was tried that does such a deed, by the register that it found
+abbrev pub Tries : List ℕ → (Register → Deed → Type 0) → View → View → Result Told RunFault → Type 0
+Tries verb IsIt old new result = OnCleanStore old new (Attempts verb (IsIt old.register) old new result)
+
+-- the same of the one deed that this is
+abbrev pub TriesDeed : List ℕ → (Register → Deed) → View → View → Result Told RunFault → Type 0
+TriesDeed verb deed_by old new result = OnCleanStore old new (Attempts verb (λ deed. deed ≡ deed_by old.register) old new result)
+
+-- on a clean store a fit change of the file with a number was made or refused, whatever verb its line begins with
+abbrev pub Decides : ℕ → Change → View → View → Result Told RunFault → Type 0
+Decides n change old new result = OnCleanStore old new (IsFit old.register change → (verb : List ℕ)
+    → Attempts verb (λ deed. deed ≡ makes verb n change old.register) old new result)

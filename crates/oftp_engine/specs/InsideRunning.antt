@@ -7,19 +7,20 @@ use Rattle.oftp_engine.specs.declared.running.Job.{Job}
 use Rattle.oftp_engine.specs.declared.serving.RunFault.{RunFault}
 use Rattle.oftp_engine.specs.declared.serving.RunFault.TheVariants as fault
 use Rattle.oftp_engine.specs.Jobs.{Entry, Stop, JobDone, JobStops, LeavesSome, EndsWith, share_of}
+use Rattle.oftp_engine.specs.Serving.{OnCleanStore}
 
 -- an error of a job's ports doesn't end its list
-abbrev pub IsGoneOn : {T U : Type 0} → Result T RunFault → Result U RunFault → Type 0
-IsGoneOn (Ok x) (Ok y) = ⊤
-IsGoneOn (Ok x) (Err told) = ⊥
-IsGoneOn (Err fault.Read) (Ok y) = ⊤
-IsGoneOn (Err fault.Read) (Err told) = ⊥
-IsGoneOn (Err fault.Write) (Ok y) = ⊤
-IsGoneOn (Err fault.Write) (Err told) = ⊥
-IsGoneOn (Err fault.Office) (Ok y) = ⊥
-IsGoneOn (Err fault.Office) (Err told) = told ≡ fault.Office
-IsGoneOn (Err fault.Memory) (Ok y) = ⊥
-IsGoneOn (Err fault.Memory) (Err told) = told ≡ fault.Memory
+abbrev pub IsListResult : {T U : Type 0} → Result T RunFault → Result U RunFault → Type 0
+IsListResult (Ok x) (Ok y) = ⊤
+IsListResult (Ok x) (Err told) = ⊥
+IsListResult (Err fault.Read) (Ok y) = ⊤
+IsListResult (Err fault.Read) (Err told) = ⊥
+IsListResult (Err fault.Write) (Ok y) = ⊤
+IsListResult (Err fault.Write) (Err told) = ⊥
+IsListResult (Err fault.Office) (Ok y) = ⊥
+IsListResult (Err fault.Office) (Err told) = told ≡ fault.Office
+IsListResult (Err fault.Memory) (Ok y) = ⊥
+IsListResult (Err fault.Memory) (Err told) = told ≡ fault.Memory
 
 module _ {R W : Type 0} (remaining : R → Option (List ℕ)) (contents : W → Option (List ℕ)) (book : BookData) where
   -- one job is done
@@ -41,3 +42,7 @@ module _ {R W : Type 0} (remaining : R → Option (List ℕ)) (contents : W → 
   abbrev pub DoesJob : {T : Type 0} → View → View → Job R W → Job R W → Result T RunFault → Type 0
   DoesJob old new before after (Ok x) = IsJobDone old new before after
   DoesJob old new before after (Err fault) = IsJobStopped old new before after fault
+
+  -- the same on a clean store
+  abbrev pub TriesJob : {T : Type 0} → View → View → Job R W → Job R W → Result T RunFault → Type 0
+  TriesJob old new before after result = OnCleanStore old new (DoesJob old new before after result)

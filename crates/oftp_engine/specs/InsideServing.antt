@@ -1,28 +1,32 @@
 -- Inside: how far the engine is in a run, for the functions of src/serving.rt.
-use Rattle.std.specs.Prelude.{◌≡◌, ℕ, ◌<◌, ◌⊎◌, Bool, ◌&&◌, false, true, nat_le, List, [], ◌++◌, length, take, Option, None, Some, Result, Ok, Err}
+use Rattle.std.specs.Prelude.{◌≡◌, ◌≢◌, ℕ, ◌<◌, ◌⊎◌, IfErr, OnOk, Bool, ◌&&◌, false, true, nat_le, List, [], ◌++◌, length, take, Option, None, Some, Result, Ok, Err}
 use Rattle.oftp_wire.specs.Stream.{Stream, front, Waits}
+use Rattle.oftp_wire.specs.declared.command.Command.{Command}
+use Rattle.oftp_wire.specs.declared.fault.WireFault.{WireFault}
 use Rattle.oftp_register.specs.Offices.{View, Only, WithOrWithout, next_count}
 use Rattle.oftp_session.specs.Phases.{is_over, ending_of, Step, framed}
-use Rattle.oftp_session.specs.Steps.{has_turn}
+use Rattle.oftp_session.specs.Steps.{has_turn, turned}
 use Rattle.oftp_session.specs.Calls.{Proceeds, Seen}
-use Rattle.oftp_session.specs.Standings.{Standing, is_sending}
+use Rattle.oftp_session.specs.Standings.{Broken, Standing, is_sending}
 use Rattle.oftp_session.specs.declared.session.Ending.{Ending}
 use Rattle.oftp_session.specs.declared.session.SessionFault.{SessionFault}
 use Rattle.oftp_session.specs.declared.session.SessionFault.TheVariants as session
-use Rattle.oftp_engine.specs.declared.conversation.TheConstants.{LONGEST_FRAME}
-use Rattle.oftp_engine.specs.Runs.{Course, run, is_stopped, advance, octets_of}
+use Rattle.oftp_engine.specs.declared.limits.TheConstants.{LONGEST_FRAME}
+use Rattle.oftp_engine.specs.Conversation.{Dialogue, IsOwn}
+use Rattle.oftp_engine.specs.Runs.{Course, run, is_stopped, advance, octets_of, step_on}
 use Rattle.oftp_io.specs.declared.port.Port.{Port}
-use Rattle.oftp_io.specs.Ports.{Sent}
+use Rattle.oftp_io.specs.Ports.{Puts, Sent}
 use Rattle.oftp_engine.specs.declared.serving.Going.{Going}
 use Rattle.oftp_engine.specs.declared.serving.Going.TheVariants as going
 use Rattle.oftp_engine.specs.declared.serving.Pace.{Pace}
 use Rattle.oftp_engine.specs.declared.serving.Pace.TheVariants as pace
 use Rattle.oftp_engine.specs.declared.serving.Turns.{Turns}
 use Rattle.oftp_engine.specs.declared.serving.Turns.TheVariants as turns
-use Rattle.oftp_engine.specs.declared.serving.TheConstants.{MOST_TURNS}
+use Rattle.oftp_engine.specs.declared.limits.TheConstants.{MOST_TURNS}
 use Rattle.oftp_engine.specs.declared.serving.RunFault.{RunFault}
 use Rattle.oftp_engine.specs.declared.serving.RunFault.TheVariants as fault
-use Rattle.oftp_engine.specs.Serving.{Scene, Took, IsSaid, MayRunOut, last_frame}
+use Rattle.oftp_engine.specs.Served.{WriterTold}
+use Rattle.oftp_engine.specs.Serving.{FailsOnlyBy, OnCleanStore, Scene, Took, WasClean, IsSaid, MayRunOut, last_frame}
 use Rattle.oftp_engine.specs.Progress.{Comes, Grows, IsAt, Leads, Went}
 
 -- the run from c over the octets s reaches d, and goes on from e
@@ -134,6 +138,40 @@ abbrev pub Stepped : {T : Type 0} → Course → Step → Seen → Scene → Sce
 Stepped c step seen old new (Ok x) = Made c step seen old new
 Stepped c step seen old new (Err fault) = StepFails c step old new fault
 
+-- the turn at a course, and the step on a command that arrived there or on octets that aren't one
+abbrev pub turn_at : Course → Step
+turn_at c = turned c.setting c.phase c.register
+
+abbrev pub step_at : Result Command WireFault → Course → Step
+step_at arrived c = step_on c.setting c.phase c.register arrived
+
+-- where a turn is due, and where the session isn't over
+abbrev pub HasTurn : Course → Type 0
+HasTurn c = has_turn c.phase ≡ true
+
+abbrev pub NotOver : Course → Type 0
+NotOver c = is_over c.phase ≡ false
+
+-- on a clean store, wherever the session is in its run, a call makes this step if it may be made there
+abbrev pub MakesStep : {T : Type 0} → (Course → Step) → (Course → Type 0) → Seen → Scene → Seen → Scene → Result T RunFault → Type 0
+MakesStep step may before old after new result =
+    OnCleanStore old.office new.office ((c : Course) → may c → IsAt c before old → Stepped c (step c) after old new result)
+
+-- what a call does that only writes: it returns an error exactly where the writer's port counts one
+pub record OnlyWrites {T W : Type 0} (contents : W → Option (List ℕ)) (before after : Port W) (result : Result T RunFault) : Type 0 where
+  pub err : FailsOnlyBy fault.Write result
+  pub out : Puts contents before after
+  pub told : WriterTold before after result
+
+-- What a call on a session does whatever the store reads. A store that is clean after it was clean before, it returns no error of a reader,
+-- it leaves the session unbroken if it returns none, and of the writer it only writes and returns the errors.
+pub record Behaves {T W : Type 0} (contents : W → Option (List ℕ)) (old new : View) (before after : Port W) (seen : Seen) (result : Result T RunFault) : Type 0 where
+  pub clean : WasClean old new
+  pub own : IfErr result IsOwn
+  pub unbroken : OnOk result (seen.standing ≢ Broken)
+  pub out : Puts contents before after
+  pub told : WriterTold before after result
+
 -- the last frame is out, or the writer returned an error within it
 abbrev pub LastWords : {W : Type 0} → (W → Option (List ℕ)) → Port W → Port W → Type 0
 LastWords contents old new = (all : Bool) × Sent contents old new last_frame all
@@ -154,6 +192,10 @@ abbrev pub TurnsTaken : Course → Seen → Scene → Scene → Result Turns Run
 TurnsTaken c seen old new (Ok (turns.Made count)) = Settles c seen old new
 TurnsTaken c seen old new (Ok turns.Left) = LeavesTurns c seen old new
 TurnsTaken c seen old new (Err fault) = Fails c [] old new fault
+
+-- on a clean store, wherever the session is in its run, a call makes the turns that are due
+abbrev pub MakesTurns : Seen → Scene → Seen → Scene → Result Turns RunFault → Type 0
+MakesTurns before old after new result = OnCleanStore old.office new.office ((c : Course) → IsAt c before old → TurnsTaken c after old new result)
 
 -- whether a session that has made so many turns leaves the others for later
 abbrev pub pauses : Pace → ℕ → Standing → Bool
@@ -187,11 +229,16 @@ pub record IsPausing (c : Course) (s : List ℕ) (stream : Stream) (seen : Seen)
   pub limit : stream.limit ≡ LONGEST_FRAME
   pub told : stream.told ≡ None
 
-abbrev pub Pumped : Course → List ℕ → Stream → Seen → Scene → Scene → Result Going RunFault → Type 0
-Pumped c s stream seen old new (Ok (going.Ended end)) = IsOver c s stream.rest seen old new end
-Pumped c s stream seen old new (Ok going.Waits) = IsWaiting c s stream seen old new
-Pumped c s stream seen old new (Ok going.Sends) = IsPausing c s stream seen old new
-Pumped c s stream seen old new (Err fault) = Fails c s old new fault
+abbrev pub Driven : Course → List ℕ → Stream → Seen → Scene → Scene → Result Going RunFault → Type 0
+Driven c s stream seen old new (Ok (going.Ended end)) = IsOver c s stream.rest seen old new end
+Driven c s stream seen old new (Ok going.Waits) = IsWaiting c s stream seen old new
+Driven c s stream seen old new (Ok going.Sends) = IsPausing c s stream seen old new
+Driven c s stream seen old new (Err fault) = Fails c s old new fault
+
+-- on a clean store, wherever the session is in its run, a call goes on as far as the octets of its stream reach, if that had returned no error
+abbrev pub Drives : Dialogue → Scene → Dialogue → Scene → Result Going RunFault → Type 0
+Drives before old after new result = OnCleanStore old.office new.office ((c : Course) → before.stream.limit ≡ LONGEST_FRAME → before.stream.told ≡ None
+    → IsAt c before.seen old → Driven c before.stream.rest after.stream after.seen old new result)
 
 -- the error of a session as its caller gets it; `Ended` never occurs, since a session that is closed isn't called
 abbrev pub run_fault : SessionFault → RunFault

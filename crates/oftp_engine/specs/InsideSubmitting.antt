@@ -1,8 +1,11 @@
 -- Inside: what the steps of a submission have read, for the functions of src/submitting.rt.
-use Rattle.std.specs.Prelude.{◌≡◌, Option, None, Some, Result, Ok, Err}
+use Rattle.std.specs.Prelude.{◌≡◌, ℕ, List, codes, Option, None, Some, Result, Ok, Err}
 use Rattle.oftp_partners.specs.Book.{BookData}
 use Rattle.oftp_partners.specs.declared.partner.Partner.{Partner}
 use Rattle.oftp_vfile.specs.LocalForm.{IsLocal}
+use Rattle.oftp_vfile.specs.declared.format.Format.{Format}
+use Rattle.oftp_register.specs.Offices.{View}
+use Rattle.oftp_register.specs.Soundness.{IsFile}
 use Rattle.oftp_register.specs.declared.entries.OutgoingEntry.{OutgoingEntry}
 use Rattle.oftp_register.specs.declared.entry.Identity.{Identity}
 use Rattle.oftp_register.specs.declared.office.OfficeFault.{OfficeFault}
@@ -14,7 +17,9 @@ use Rattle.oftp_engine.specs.declared.serving.RunFault.TheVariants as fault
 use Rattle.oftp_engine.specs.declared.submitting.Fields.{Fields}
 use Rattle.oftp_engine.specs.declared.submitting.Offer.{Offer}
 use Rattle.oftp_engine.specs.declared.submitting.Submission.{Submission}
-use Rattle.oftp_engine.specs.Operating.{AreInRange}
+use Rattle.oftp_engine.specs.InsideOperating.{Attempts}
+use Rattle.oftp_engine.specs.Operating.{AreInRange, registered}
+use Rattle.oftp_engine.specs.Serving.{OnCleanStore}
 
 -- the fields that were read are those of the submission, and in their ranges
 pub record AreFieldsOf (s : Submission) (fields : Fields) : Type 0 where
@@ -23,6 +28,10 @@ pub record AreFieldsOf (s : Submission) (fields : Fields) : Type 0 where
   pub date : fields.date ≡ s.date.now
   pub time : fields.time ≡ s.time.now
   pub description : fields.description ≡ s.description.now
+
+-- a content is the local form of no rows
+abbrev pub IsNotLocal : Format → ℕ → List ℕ → Type 0
+IsNotLocal format longest content = (rows : List (List ℕ)) → IsLocal format longest content rows → ⊥
 
 -- the file that was read is the one that was submitted
 pub record IsOffer (s : Submission) (offer : Offer) : Type 0 where
@@ -34,13 +43,18 @@ abbrev pub named_by : BookData → Partner → Fields → Identity
 named_by book partner fields = record { dataset = fields.dataset; date = fields.date; time = fields.time; originator = book.station.code; destination = partner.code }
 
 -- the result for a file that exceeds the limits, once its identity was looked up
-abbrev pub came_big : Result (Option OutgoingEntry) OfficeFault → Result Told RunFault
-came_big (Ok None) = Ok (told.Refused refusal.Limit)
-came_big (Ok (Some file)) = Ok (told.Refused refusal.Duplicate)
-came_big (Err e) = Err fault.Office
+abbrev pub big_file_result : Result (Option OutgoingEntry) OfficeFault → Result Told RunFault
+big_file_result (Ok None) = Ok (told.Refused refusal.Limit)
+big_file_result (Ok (Some file)) = Ok (told.Refused refusal.Duplicate)
+big_file_result (Err e) = Err fault.Office
 
 -- the result for a registered file, once its number was looked up; it is found, if the store reads what was written
-abbrev pub came_numbered : Result (Option OutgoingEntry) OfficeFault → Result Told RunFault
-came_numbered (Ok None) = Err fault.Office
-came_numbered (Ok (Some file)) = Ok (told.Done file.no)
-came_numbered (Err e) = Err fault.Office
+abbrev pub new_file_result : Result (Option OutgoingEntry) OfficeFault → Result Told RunFault
+new_file_result (Ok None) = Err fault.Office
+new_file_result (Ok (Some file)) = Ok (told.Done file.no)
+new_file_result (Err e) = Err fault.Office
+
+-- on a clean store the registration of a file with these rows was tried, if its description is the submitted one and the rows are of its format
+abbrev pub RegistersFile : Identity → Submission → List ℕ → List (List ℕ) → View → View → Result Told RunFault → Type 0
+RegistersFile identity s description rows old new result = OnCleanStore old new (description ≡ s.description.now → IsFile s.format s.longest rows
+    → Attempts (codes "done: submit ") (λ deed. deed ≡ registered identity s rows old.register) old new result)

@@ -1,5 +1,5 @@
 -- The opening of a session with a caller: the greeting, and the answer to its first command. It needs no register.
-use Rattle.std.specs.Prelude.{◌≡◌, ◌++◌, false, ℕ, List, [], drop, Option, None, Some, Result, Ok, Err}
+use Rattle.std.specs.Prelude.{◌≡◌, ◌++◌, false, ℕ, List, [], drop, Option, None, Some, Result, Ok, Err, IfOk}
 use Rattle.oftp_wire.specs.Kinds.{command_of}
 use Rattle.oftp_wire.specs.Reasons.{reason_of}
 use Rattle.oftp_wire.specs.Stream.{Head, Whole, Waits, Bad, command_in, front}
@@ -9,6 +9,7 @@ use Rattle.oftp_wire.specs.declared.command.Command.TheVariants as command
 use Rattle.oftp_wire.specs.declared.fault.WireFault.{WireFault}
 use Rattle.oftp_wire.specs.declared.reason.SessionReason.TheVariants.{ProtocolViolation}
 use Rattle.oftp_partners.specs.Book.{BookData}
+use Rattle.oftp_register.specs.Offices.{View}
 use Rattle.oftp_register.specs.Register.{Register}
 use Rattle.oftp_session.specs.Callers.{greeting}
 use Rattle.oftp_session.specs.Calls.{Seen, Stands}
@@ -21,9 +22,11 @@ use Rattle.oftp_io.specs.declared.port.Port.{Port}
 use Rattle.oftp_io.specs.Ports.{SentAll}
 use Rattle.oftp_engine.specs.declared.serving.Admission.{Admission}
 use Rattle.oftp_engine.specs.declared.serving.Admission.TheVariants.{LetIn, SentAway, Undecided}
-use Rattle.oftp_engine.specs.declared.conversation.TheConstants.{LONGEST_FRAME}
-use Rattle.oftp_engine.specs.Conversation.{Dialogue}
+use Rattle.oftp_engine.specs.declared.limits.TheConstants.{LONGEST_FRAME}
+use Rattle.oftp_engine.specs.declared.serving.RunFault.{RunFault}
+use Rattle.oftp_engine.specs.Conversation.{Dialogue, HasHeard}
 use Rattle.oftp_engine.specs.Runs.{refusal}
+use Rattle.oftp_engine.specs.Serving.{scene}
 
 -- what doesn't change in a session with a caller
 abbrev pub of_caller : BookData → Setting
@@ -112,3 +115,14 @@ HasOpened contents book octets talk before now = OpenedAt contents book octets (
 pub record IsJudged {W : Type 0} (contents : W → Option (List ℕ)) (book : BookData) (octets : List ℕ) (talk : Dialogue) (before now : Port W) (admission : Admission) : Type 0 where
   pub verdict : admission ≡ admission_of book octets
   pub opened : HasOpened contents book octets talk before now
+
+module _ {W : Type 0} (contents : W → Option (List ℕ)) where
+  -- a call judges the caller, whatever book it was greeted by, whatever it has sent, and wherever the conversation began
+  abbrev pub Judges : Dialogue → Port W → Dialogue → Port W → Result Admission RunFault → Type 0
+  Judges old here new now result = (book : BookData) (octets : List ℕ) (before : Port W)
+      → IsGreeted contents book octets old before here → IfOk result (IsJudged contents book octets new before now)
+
+  -- an office that is open can go on with a caller that was let in: the conversation has heard all that the caller has sent
+  abbrev pub TakesOver : BookData → List ℕ → Dialogue → Port W → Port W → View → Type 0
+  TakesOver book octets talk before now office = office.clean → office.stands → HasOpened contents book octets talk before now → admission_of book octets ≡ LetIn
+      → HasHeard (of_caller book) octets talk (scene contents office before) (scene contents office now)

@@ -15,6 +15,7 @@ use Rattle.oftp_register.specs.declared.entry.Identity.{Identity}
 use Rattle.oftp_register.specs.declared.entry.ResponseKind.TheVariants.{EndResponse, NegativeEndResponse}
 use Rattle.oftp_register.specs.Register.{Register}
 use Rattle.oftp_register.specs.Changes.{apply, is_outgoing}
+use Rattle.oftp_engine.specs.declared.limits.TheConstants.{HIGHEST_REASON, LONGEST_TEXT}
 use Rattle.oftp_engine.specs.declared.operating.Operator.{Operator}
 use Rattle.oftp_engine.specs.declared.operating.Operator.TheVariants as operator
 use Rattle.oftp_engine.specs.declared.operating.Refusal.{Refusal}
@@ -72,7 +73,7 @@ pub record AreInRange (s : Submission) : Type 0 where
   pub date : IsDigits 8 s.date.now
   pub time : IsDigits 10 s.time.now
   pub longest : IsLongest s.format s.longest
-  pub description : length s.description.now ≤ 999
+  pub description : length s.description.now ≤ LONGEST_TEXT
 
 -- what is submitted is the virtual file of these rows: the content is their local form
 pub record IsFileOf (s : Submission) (rows : List (List ℕ)) : Type 0 where
@@ -114,7 +115,7 @@ abbrev pub released : Register → ℕ → Deed
 released r n = makes (codes "done: release ") n (change.Issue n EndResponse 0 []) r
 
 abbrev pub refused : Register → ℕ → ℕ → List ℕ → Deed
-refused r n reason text = if nat_le reason 99 && nat_le (length text) 999
+refused r n reason text = if nat_le reason HIGHEST_REASON && nat_le (length text) LONGEST_TEXT
     then makes (codes "done: refuse ") n (change.Issue n NegativeEndResponse reason text) r
     else refuses refusal.Field
 

@@ -20,9 +20,9 @@ use Rattle.oftp_register.specs.Verdicts.{format_of, longest_of}
 use Rattle.oftp_register.specs.Soundness.{IsSound}
 use Rattle.oftp_session.specs.Settings.{Setting}
 use Rattle.oftp_session.specs.Phases.{Phase, ListenerIdle, Receiving, is_over}
-use Rattle.oftp_session.specs.Receiving.{offered_identity}
+use Rattle.oftp_session.specs.Listener.{offered_identity}
 use Rattle.oftp_session.specs.Calls.{Makes}
-use Rattle.oftp_engine.specs.declared.conversation.TheConstants.{LONGEST_FRAME}
+use Rattle.oftp_engine.specs.declared.limits.TheConstants.{LONGEST_FRAME}
 use Rattle.oftp_engine.specs.declared.operating.Operator.{Operator}
 use Rattle.oftp_engine.specs.Runs.{Course, came_in, is_stopped, run, settled, started}
 use Rattle.oftp_engine.specs.Operating.{Deed, IsDeed}

@@ -7,6 +7,7 @@ use Rattle.oftp_vfile.specs.declared.format.Limits.{Limits}
 use Rattle.oftp_register.specs.declared.fit.TheConstants.{MOST_FILES, MOST_OCTETS}
 use Rattle.oftp_register.specs.declared.entry.Identity.{Identity}
 use Rattle.oftp_register.specs.Register.{empty}
+use Rattle.oftp_engine.specs.declared.limits.TheConstants.{SMALLEST_BUFFER}
 use Rattle.oftp_engine.specs.World.{Station, World, Event, Happening, Deals, after_events, register_of}
 use Rattle.oftp_engine.specs.TwoStations.{ContentArrives, ContentArrivesOf, GoesBetween, ResponsesAreIssued, ResponsesAreIssuedOf}
 
@@ -16,7 +17,7 @@ new_station book partner limits = record { book = book; partner = partner; start
 
 -- the ranges of a book and its limits, as `read` and the program give them
 pub record IsLawful (book : BookData) (limits : Limits) : Type 0 where
-  pub buffer : 128 ≤ book.station.buffer
+  pub buffer : SMALLEST_BUFFER ≤ book.station.buffer
   pub files : limits.files ≤ MOST_FILES
   pub octets : limits.octets ≤ MOST_OCTETS
 

@@ -12,14 +12,14 @@ use Rattle.oftp_register.specs.Register.{Register}
 use Rattle.oftp_session.specs.Settings.{Setting}
 use Rattle.oftp_session.specs.Phases.{esid_of, frame_of, is_over}
 use Rattle.oftp_session.specs.Steps.{came}
-use Rattle.oftp_engine.specs.declared.conversation.TheConstants.{LONGEST_FRAME}
+use Rattle.oftp_engine.specs.declared.limits.TheConstants.{FRAME_HEADER, LONGEST_FRAME}
 use Rattle.oftp_engine.specs.Ranges.{StartsInRange}
 use Rattle.oftp_engine.specs.Runs.{Course, Output, advance, is_stopped, octets_of, run, settled, started}
 use Rattle.oftp_engine.specs.Serving.{last_frame}
 
 -- a command that a frame can hold: each field is in its range, and the frame isn't too long
 abbrev pub IsSayable : Command → Type 0
-IsSayable command = IsFit command × (length (Canon command) + 4 ≤ LONGEST_FRAME)
+IsSayable command = IsFit command × (length (Canon command) + FRAME_HEADER ≤ LONGEST_FRAME)
 
 -- commands as octets: their frames, one after another
 abbrev pub in_frames : List Command → List ℕ

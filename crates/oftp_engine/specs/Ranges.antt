@@ -10,6 +10,7 @@ use Rattle.oftp_register.specs.Changes.{apply_all}
 use Rattle.oftp_register.specs.Soundness.{IsSound}
 use Rattle.oftp_session.specs.Calls.{Makes}
 use Rattle.oftp_session.specs.Settings.{Setting}
+use Rattle.oftp_engine.specs.declared.limits.TheConstants.{LONGEST_TEXT}
 use Rattle.oftp_engine.specs.declared.operating.Operator.{Operator}
 use Rattle.oftp_engine.specs.declared.operating.Operator.TheVariants as operator
 use Rattle.oftp_engine.specs.Operating.{Deed, IsDeed}
@@ -25,7 +26,7 @@ pub record IsIdentity (identity : Identity) : Type 0 where
 
 -- a description, or the text of a response
 abbrev pub AreWords : List ℕ → Type 0
-AreWords text = (length text ≤ 999) × IsUtf8 text
+AreWords text = (length text ≤ LONGEST_TEXT) × IsUtf8 text
 
 -- a response that was issued
 pub record IsSpellableAnswer (response : Issued) : Type 0 where

@@ -6,6 +6,7 @@ use Rattle.oftp_register.specs.declared.change.Change.{Change}
 use Rattle.oftp_register.specs.Register.{Register}
 use Rattle.oftp_register.specs.Changes.{apply_all}
 use Rattle.oftp_register.specs.Offices.{View, Only, next_count}
+use Rattle.oftp_engine.specs.declared.limits.TheConstants.{PIECE}
 use Rattle.oftp_engine.specs.declared.serving.End.{End}
 use Rattle.oftp_session.specs.Settings.{Setting}
 use Rattle.oftp_partners.specs.Book.{BookData}
@@ -50,12 +51,12 @@ pub record IsPrefix {C : Type 0} (holds' : C → Register → Type 0) (changes :
 abbrev pub OfficeLeaves : Course → Register → ℕ → ℕ → View → Type 0
 OfficeLeaves c r least made now = (content : now.Content) → now.may_leave content → IsPrefix now.holds c.changes r least made content
 
--- the last piece that was read, of 4,096 octets at most, was needed: the session was still open before it
+-- the last piece that was read, of PIECE octets at most, was needed: the session was still open before it
 pub record IsNeeded (setting : Setting) (r : Register) (given : List ℕ) : Type 0 where
   pub before : List ℕ
   pub last : List ℕ
   pub all : given ≡ before ++ last
-  pub piece : length last ≤ 4096
+  pub piece : length last ≤ PIECE
   pub some : 0 < length given → 0 < length last
   pub live : 0 < length last → is_over (whole setting before r).phase ≡ false
 

@@ -1,11 +1,23 @@
 -- What an office and a writer show while a session is served.
-use Rattle.std.specs.Prelude.{◌≡◌, ℕ, ◌+◌, ◌<◌, ◌%◌, ◌^◌, ◌⊎◌, List, length, Option}
+use Rattle.std.specs.Prelude.{◌≡◌, ℕ, ◌+◌, ◌<◌, ◌%◌, ◌^◌, ◌⊎◌, List, length, Option, Result, IfErr}
 use Rattle.std.specs.Io.KnownBytes.{Appends}
 use Rattle.oftp_wire.specs.declared.reason.SessionReason.TheVariants.{ResourcesNotAvailable}
 use Rattle.oftp_register.specs.Offices.{View, next_count}
 use Rattle.oftp_session.specs.Phases.{Phase, Transfer, Sending, frame_of, esid_of}
 use Rattle.oftp_session.specs.declared.state.Contact.{Contact}
 use Rattle.oftp_io.specs.declared.port.Port.{Port}
+
+-- this holds on a clean store: if the store reads what was written up to the end of a call, and the office was open before it
+abbrev pub OnCleanStore : View → View → Type 0 → Type 0
+OnCleanStore old new holds = new.clean → old.stands → holds
+
+-- a store that is clean after a call was clean before it
+abbrev pub WasClean : View → View → Type 0
+WasClean old new = new.clean → old.clean
+
+-- a call returns no other error than this one
+abbrev pub FailsOnlyBy : {T E : Type 0} → E → Result T E → Type 0
+FailsOnlyBy fault result = IfErr result (λ other. other ≡ fault)
 
 -- the frame that is sent last after an error of the office
 abbrev pub last_frame : List ℕ

@@ -5,6 +5,7 @@ ghost use Rattle.oftp_io.specs.Ports.{Puts};
 ghost use Rattle.oftp_engine.specs.Fetched.{FetchedOut, FetchesFrom, fetched, piece_of};
 ghost use Rattle.oftp_engine.specs.InsideContent.{IsPiece};
 ghost use Rattle.oftp_engine.specs.Served.{WriterTold};
+ghost use Rattle.oftp_engine.specs.Serving.{OnCleanStore, WasClean};
 ghost use Rattle.oftp_engine.specs.declared.serving.RunFault.TheVariants as RunFault;
 
 use crate::serving::RunFault;
@@ -34,11 +35,11 @@ pub fn write_content<O: Office, W: Write>(
     entry: &IncomingEntry,
     out: &mut Port<W>,
 ) -> Result<(), RunFault>
-    ensures text { (O.view office.new).clean → (O.view office.old).stands
-        → FetchedOut (fetched (O.view office.old).register entry.now) (W.contents out.old.inner) (W.contents out.new.inner) result }
+    ensures text { OnCleanStore (O.view office.old) (O.view office.new)
+        (FetchedOut (fetched (O.view office.old).register entry.now) (W.contents out.old.inner) (W.contents out.new.inner) result) }
     ensures out { Puts W.contents out.old out.new }
     ensures writer { WriterTold out.old out.new result }
-    ensures clean { (O.view office.new).clean → (O.view office.old).clean }
+    ensures clean { WasClean (O.view office.old) (O.view office.new) }
     ensures office { FetchesFrom entry.now (O.view office.old) (O.view office.new) result }
 {
     let mut from = 0;
@@ -63,10 +64,10 @@ fn piece_of<O: Office>(
     most: u64,
 ) -> Result<Vec<u8>, RunFault>
     requires { from + most ≤ entry.now.rows }
-    ensures piece { (O.view office.new).clean → (O.view office.old).stands
-        → IfOk result (λ piece. piece.items ≡ piece_of (O.view office.old).register entry.now from most) }
+    ensures piece { OnCleanStore (O.view office.old) (O.view office.new)
+        (IfOk result (λ piece. piece.items ≡ piece_of (O.view office.old).register entry.now from most)) }
     ensures unwritten { IfErr result (λ fault. fault ≢ RunFault.Write) }
-    ensures clean { (O.view office.new).clean → (O.view office.old).clean }
+    ensures clean { WasClean (O.view office.old) (O.view office.new) }
     ensures office { FetchesFrom entry.now (O.view office.old) (O.view office.new) result }
 {
     let Ok(rows) = office.rows_of(Side::Incoming, entry.no, from, most) else {

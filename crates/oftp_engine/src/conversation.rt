@@ -1,19 +1,19 @@
 //! A session that gets its octets in pieces.
 
-ghost use Rattle.std.specs.Prelude.{◌≡◌, ◌≢◌, ℕ, List, [], OnErr, OnOk, IfErr, IfOk, option_map};
+ghost use Rattle.std.specs.Prelude.{◌≡◌, ◌≢◌, [], OnErr, OnOk, IfErr, option_map};
 ghost use Rattle.oftp_partners.specs.Book.{BookData};
 ghost use Rattle.oftp_session.specs.Callers.{code_of};
 ghost use Rattle.oftp_session.specs.Calls.{Stands};
 ghost use Rattle.oftp_session.specs.Phases.{Phase};
-ghost use Rattle.oftp_session.specs.Settings.{Setting};
 ghost use Rattle.oftp_session.specs.Standings.{Broken};
 ghost use Rattle.oftp_io.specs.Ports.{Puts};
-ghost use Rattle.oftp_engine.specs.Conversation.{ComesSoFar, ComesTo, HasHeard, HeardMore, IsFresh, IsOwn};
-ghost use Rattle.oftp_engine.specs.Openings.{IsGreeted, IsJudged, of_caller};
+ghost use Rattle.oftp_engine.specs.Conversation.{ComesSoFar, ComesTo, Continues, HeardMore, IsFresh, IsOwn};
+ghost use Rattle.oftp_engine.specs.Openings.{IsGreeted, Judges, of_caller};
 ghost use Rattle.oftp_engine.specs.Served.{WriterTold, setting_of};
-ghost use Rattle.oftp_engine.specs.Serving.{scene};
+ghost use Rattle.oftp_engine.specs.Serving.{FailsOnlyBy, WasClean, scene};
 
-use crate::serving::{Admission, Going, Pace, Role, RunFault, greet, judge, opened, pump};
+use crate::limits::LONGEST_FRAME;
+use crate::serving::{Admission, Going, Pace, Role, RunFault, drive, greet, judge, opened};
 use oftp_io::Port;
 use oftp_partners::Book;
 use oftp_register::{Name, Office};
@@ -22,9 +22,6 @@ use oftp_wire::Deframer;
 use std::alloc::Global;
 use std::io::Write;
 use std::marker::Model;
-
-/// The length of the longest frame in octets, with its header (RFC 5024, section 8).
-const LONGEST_FRAME: usize = 100_003;
 
 /// One session with a partner, over any office and any writer. It gets octets in pieces of any length, goes on as far as they reach, and
 /// waits for more.
@@ -73,16 +70,15 @@ impl<'b> Conversation<'b> {
         writer: &mut Port<W>,
     ) -> Result<Option<Ending>, RunFault>
         requires { self.old.seen.standing ≢ Broken }
-        ensures goes { (O.view office.new).clean → (first : O) (front : Port W) (setting : Setting) (given : List ℕ)
-            → HasHeard setting given self.old (scene W.contents (O.view first) front) (scene W.contents (O.view office.old) writer.old)
-            → ComesTo setting given self.new (scene W.contents (O.view first) front) (scene W.contents (O.view office.new) writer.new) result }
-        ensures clean { (O.view office.new).clean → (O.view office.old).clean }
+        ensures goes { Continues O.view W.contents self.old office.old writer.old office.new
+            (λ setting given first. ComesTo setting given self.new first (scene W.contents (O.view office.new) writer.new) result) }
+        ensures clean { WasClean (O.view office.old) (O.view office.new) }
         ensures own { IfErr result IsOwn }
         ensures unbroken { OnOk result (self.new.seen.standing ≢ Broken) }
         ensures out { Puts W.contents writer.old writer.new }
         ensures told { WriterTold writer.old writer.new result }
     {
-        let going = pump(
+        let going = drive(
             &mut self.session,
             office,
             &mut self.stream,
@@ -109,16 +105,15 @@ impl<'b> Conversation<'b> {
         writer: &mut Port<W>,
     ) -> Result<Going, RunFault>
         requires { self.old.seen.standing ≢ Broken }
-        ensures goes { (O.view office.new).clean → (first : O) (front : Port W) (setting : Setting) (given : List ℕ)
-            → HasHeard setting given self.old (scene W.contents (O.view first) front) (scene W.contents (O.view office.old) writer.old)
-            → ComesSoFar setting given self.new (scene W.contents (O.view first) front) (scene W.contents (O.view office.new) writer.new) result }
-        ensures clean { (O.view office.new).clean → (O.view office.old).clean }
+        ensures goes { Continues O.view W.contents self.old office.old writer.old office.new
+            (λ setting given first. ComesSoFar setting given self.new first (scene W.contents (O.view office.new) writer.new) result) }
+        ensures clean { WasClean (O.view office.old) (O.view office.new) }
         ensures own { IfErr result IsOwn }
         ensures unbroken { OnOk result (self.new.seen.standing ≢ Broken) }
         ensures out { Puts W.contents writer.old writer.new }
         ensures told { WriterTold writer.old writer.new result }
     {
-        pump(
+        drive(
             &mut self.session,
             office,
             &mut self.stream,
@@ -135,7 +130,7 @@ impl<'b> Conversation<'b> {
     pub fn greet<W: Write>(&mut self, writer: &mut Port<W>) -> Result<(), RunFault>
         requires { Stands Phase.ResponderOpening self.old.seen }
         ensures greets { (book : BookData) → IsFresh (of_caller book) self.old → OnOk result (IsGreeted W.contents book [] self.new writer.old writer.new) }
-        ensures err { IfErr result (λ fault. fault ≡ RunFault.Write) }
+        ensures err { FailsOnlyBy RunFault.Write result }
         ensures out { Puts W.contents writer.old writer.new }
         ensures told { WriterTold writer.old writer.new result }
     {
@@ -152,9 +147,8 @@ impl<'b> Conversation<'b> {
     /// [`go_on`]: Conversation::go_on
     pub fn judge<W: Write>(&mut self, writer: &mut Port<W>) -> Result<Admission, RunFault>
         requires { Stands Phase.AwaitingSsid self.old.seen }
-        ensures judges { (book : BookData) (octets : List ℕ) (before : Port W) → IsGreeted W.contents book octets self.old before writer.old
-            → IfOk result (IsJudged W.contents book octets self.new before writer.new) }
-        ensures err { IfErr result (λ fault. fault ≡ RunFault.Write) }
+        ensures judges { Judges W.contents self.old writer.old self.new writer.new result }
+        ensures err { FailsOnlyBy RunFault.Write result }
         ensures out { Puts W.contents writer.old writer.new }
         ensures told { WriterTold writer.old writer.new result }
     {
@@ -179,7 +173,7 @@ impl<'b> Conversation<'b> {
     pub fn hear(&mut self, octets: &[u8]) -> Result<(), RunFault>
         ensures heard { OnOk result (HeardMore self.old self.new octets.now) }
         ensures err { OnErr result (self.new ≡ self.old) }
-        ensures memory { IfErr result (λ fault. fault ≡ RunFault.Memory) }
+        ensures memory { FailsOnlyBy RunFault.Memory result }
         ensures seen { self.new.seen ≡ self.old.seen }
     {
         if self.stream.feed(octets).is_err() {

@@ -1,11 +1,11 @@
-//! Theorems about runs of sessions.
+//! Theorems about runs of sessions: each is the contract of a function that does nothing, so no program has to call one.
 
-ghost use Rattle.std.specs.Prelude.{◌≡◌, ◌<◌, ◌++◌, ℕ, [], All, List, Option, Ok};
+ghost use Rattle.std.specs.Prelude.{◌≡◌, ◌<◌, ℕ, [], All, List, Option, Ok};
 ghost use Rattle.oftp_wire.specs.declared.frame_fault.FrameFault.{FrameFault};
 ghost use Rattle.oftp_wire.specs.Stream.{Reads};
-ghost use Rattle.oftp_engine.specs.declared.conversation.TheConstants.{LONGEST_FRAME};
-ghost use Rattle.oftp_engine.specs.Conversation.{Dialogue, HasHeard, HeardMore, IsFresh, Listens, ShowsSame};
-ghost use Rattle.oftp_engine.specs.Openings.{HasOpened, IsAccepted, admission_of, of_caller};
+ghost use Rattle.oftp_engine.specs.declared.limits.TheConstants.{LONGEST_FRAME};
+ghost use Rattle.oftp_engine.specs.Conversation.{Dialogue, HasHeard, HearsOn, IsFresh, StillListens};
+ghost use Rattle.oftp_engine.specs.Openings.{IsAccepted, TakesOver, admission_of};
 ghost use Rattle.oftp_engine.specs.Events.{DeedsAreOrders, SessionsAreDealings, StopsLeavePrefixes};
 ghost use Rattle.oftp_engine.specs.Frames.{over_commands};
 ghost use Rattle.oftp_engine.specs.Parts.{JobsMakeTheFile, NoCountPasses, PartsMakeTheFile};
@@ -71,11 +71,9 @@ pub fn conversations_hear_pieces<O: Office, W: Write>()
     ensures begins { (setting : Setting) (talk : Dialogue) (first : O) (front : Port W) → (O.view first).clean → (O.view first).stands → IsFresh setting talk
         → HasHeard setting [] talk (scene W.contents (O.view first) front) (scene W.contents (O.view first) front) }
     ensures hears { (setting : Setting) (given octets : List ℕ) (old new : Dialogue) (first now : O) (front here : Port W)
-        → HasHeard setting given old (scene W.contents (O.view first) front) (scene W.contents (O.view now) here) → HeardMore old new octets
-        → HasHeard setting (given ++ octets) new (scene W.contents (O.view first) front) (scene W.contents (O.view now) here) }
-    ensures waits { (setting : Setting) (given : List ℕ) (talk : Dialogue) (first now later : O) (front here : Port W) → ShowsSame (O.view now) (O.view later)
-        → Listens setting given talk (scene W.contents (O.view first) front) (scene W.contents (O.view now) here)
-        → Listens setting given talk (scene W.contents (O.view first) front) (scene W.contents (O.view later) here) }
+        → HearsOn setting given octets old new (scene W.contents (O.view first) front) (scene W.contents (O.view now) here) }
+    ensures waits { (setting : Setting) (given : List ℕ) (talk : Dialogue) (first now later : O) (front here : Port W)
+        → StillListens setting given talk (scene W.contents (O.view first) front) (scene W.contents (O.view now) here) (O.view later) }
 {}
 
 /// All changes of a run from a sound register are made, one after another. The function does nothing; its contract is the theorem.
@@ -91,7 +89,7 @@ pub fn jobs_make_the_file()
 {}
 
 /// One session brings parts of a file, and may break anywhere. After each of its changes the register has nothing of the file, or a
-/// beginning, or the file as one transfer gives it. [`jobs_make_the_file`](crate::jobs_make_the_file) says the same of any sessions and
+/// beginning, or the file as one transfer gives it. [`jobs_make_the_file`](crate::laws::jobs_make_the_file) says the same of any sessions and
 /// calls. The function does nothing; its contract is the theorem.
 pub fn parts_make_the_file()
     ensures { PartsMakeTheFile }
@@ -113,7 +111,7 @@ pub fn two_stations()
 {}
 
 /// Among others the promise of two stations isn't kept of all files, whatever their books: after one event a file of a third partner is
-/// whole at the one, and the other has none with its identity. So [`two_stations`](crate::two_stations) needs the two codes. The function
+/// whole at the one, and the other has none with its identity. So [`two_stations`](crate::laws::two_stations) needs the two codes. The function
 /// does nothing; its contract is the theorem.
 pub fn codes_are_needed()
     ensures { CodesAreNeeded }
@@ -144,7 +142,6 @@ pub fn stops_leave_prefixes()
 pub fn callers_need_no_office<O: Office, W: Write>()
     ensures only { (book : BookData) (octets : List ℕ) → admission_of book octets ≡ LetIn → IsAccepted book octets }
     ensures each { (book : BookData) (octets : List ℕ) → IsAccepted book octets → admission_of book octets ≡ LetIn }
-    ensures any { (book : BookData) (octets : List ℕ) (talk : Dialogue) (before now : Port W) (office : O) → (O.view office).clean → (O.view office).stands
-        → HasOpened W.contents book octets talk before now → admission_of book octets ≡ LetIn
-        → HasHeard (of_caller book) octets talk (scene W.contents (O.view office) before) (scene W.contents (O.view office) now) }
+    ensures any { (book : BookData) (octets : List ℕ) (talk : Dialogue) (before now : Port W) (office : O)
+        → TakesOver W.contents book octets talk before now (O.view office) }
 {}

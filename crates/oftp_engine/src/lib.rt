@@ -3,7 +3,8 @@
 
 mod content;
 mod conversation;
-mod laws;
+pub mod laws;
+mod limits;
 mod operating;
 mod running;
 mod serving;
@@ -11,12 +12,6 @@ mod submitting;
 
 pub use content::write_content;
 pub use conversation::Conversation;
-pub use laws::{
-    callers_need_no_office, changes_are_made, conversations_hear_pieces, deeds_are_orders,
-    folds_over_frames, jobs_make_the_file, no_count_passes, parts_make_the_file, queues_are_heard,
-    ranges_are_kept, runs_never_lack_resources, runs_say_queues, stops_leave_prefixes,
-    two_stations,
-};
 pub use oftp_io::Port;
 pub use operating::{Operator, Refusal, Told, operate};
 pub use running::{CallJob, Job, SessionJob, run};

@@ -1,14 +1,15 @@
 //! An operator's calls on a register, and the lines that report them.
 
-ghost use Rattle.std.specs.Prelude.{◌≡◌, ◌≤◌, ℕ, List, length, codes, IfOk, IfErr, Some, is_ok};
-ghost use Rattle.oftp_register.specs.Soundness.{IsFit};
+ghost use Rattle.std.specs.Prelude.{◌≡◌, ◌≤◌, length, codes, IfOk, IfErr, Some, is_ok};
 ghost use Rattle.oftp_io.specs.Ports.{Puts, Sent};
 ghost use Rattle.oftp_engine.specs.Served.{WriterTold};
-ghost use Rattle.oftp_engine.specs.Serving.{scene};
-ghost use Rattle.oftp_engine.specs.Operating.{IsDeed, done_line, makes, refusal_line, refusal_of, refusal_phrase, refused, released};
-ghost use Rattle.oftp_engine.specs.InsideOperating.{verb_of, Attempts, MayFail, came_out, line_as};
+ghost use Rattle.oftp_engine.specs.Serving.{FailsOnlyBy, OnCleanStore, WasClean, scene};
+ghost use Rattle.oftp_engine.specs.Operating.{IsDeed, done_line, refusal_line, refusal_of, refusal_phrase, refused, released};
+ghost use Rattle.oftp_engine.specs.InsideOperating.{Decides, MayFail, Tries, TriesDeed, call_result, line_as, verb_of};
+ghost use Rattle.oftp_engine.specs.InsideServing.{OnlyWrites};
 ghost use Rattle.oftp_engine.specs.Operated.{Operates};
 
+use crate::limits::HIGHEST_REASON;
 use crate::serving::RunFault;
 use crate::submitting::{Submission, submit};
 use arrayvec::ArrayVec;
@@ -158,13 +159,11 @@ fn line_of(verb: &[u8], told: Told) -> CallLine
 
 // Writes the line that reports a result.
 #[tactic(auto, using(oftp_io::proofs::Puts::puts_none, oftp_io::proofs::Puts::puts_on, oftp_io::proofs::Puts::puts_sent))]
-fn tell<W: Write>(writer: &mut Port<W>, verb: &[u8], told: Told) -> Result<Told, RunFault>
+fn report_result<W: Write>(writer: &mut Port<W>, verb: &[u8], told: Told) -> Result<Told, RunFault>
     requires { length verb.now ≤ 20 }
     ensures sent { Sent W.contents writer.old writer.new (line_as verb.now told) (is_ok result) }
     ensures told { IfOk result (λ t. t ≡ told) }
-    ensures err { IfErr result (λ f. f ≡ RunFault.Write) }
-    ensures out { Puts W.contents writer.old writer.new }
-    ensures writer_told { WriterTold writer.old writer.new result }
+    ensures writes { OnlyWrites W.contents writer.old writer.new result }
 {
     let line = line_of(verb, told);
     if writer.send(line.as_slice()) {
@@ -175,8 +174,8 @@ fn tell<W: Write>(writer: &mut Port<W>, verb: &[u8], told: Told) -> Result<Told,
 }
 
 // The result of a commit.
-pub(crate) fn told_of(made: Result<(), OfficeFault>, no: u64) -> Result<Told, RunFault>
-    ensures { result ≡ came_out no made }
+pub(crate) fn call_result(made: Result<(), OfficeFault>, no: u64) -> Result<Told, RunFault>
+    ensures { result ≡ call_result no made }
 {
     match made {
         Ok(()) => Ok(Told::Done(no)),
@@ -187,21 +186,19 @@ pub(crate) fn told_of(made: Result<(), OfficeFault>, no: u64) -> Result<Told, Ru
 
 // Commits a change of the file with a number, and returns the office's verdict.
 fn decide<O: Office>(office: &mut O, change: Change<'_>, no: u64) -> Result<Told, RunFault>
-    ensures clean { (O.view office.new).clean → (O.view office.old).clean }
-    ensures does { (O.view office.new).clean → (O.view office.old).stands → IsFit (O.view office.old).register change.entry → (verb : List ℕ)
-        → Attempts verb (λ deed. deed ≡ makes verb no change.entry (O.view office.old).register) (O.view office.old) (O.view office.new) result }
-    ensures err { IfErr result (λ f. f ≡ RunFault.Office) }
+    ensures clean { WasClean (O.view office.old) (O.view office.new) }
+    ensures does { Decides no change.entry (O.view office.old) (O.view office.new) result }
+    ensures err { FailsOnlyBy RunFault.Office result }
 {
     let made = office.commit(change);
-    told_of(made, no)
+    call_result(made, no)
 }
 
 // Issues the End-to-End Response of a file.
 fn release<O: Office>(office: &mut O, no: u64) -> Result<Told, RunFault>
-    ensures clean { (O.view office.new).clean → (O.view office.old).clean }
-    ensures does { (O.view office.new).clean → (O.view office.old).stands
-        → Attempts (codes "done: release ") (λ deed. deed ≡ released (O.view office.old).register no) (O.view office.old) (O.view office.new) result }
-    ensures err { IfErr result (λ f. f ≡ RunFault.Office) }
+    ensures clean { WasClean (O.view office.old) (O.view office.new) }
+    ensures does { TriesDeed (codes "done: release ") (λ r. released r no) (O.view office.old) (O.view office.new) result }
+    ensures err { FailsOnlyBy RunFault.Office result }
 {
     let Some(text) = Text::new("") else {
         unreachable!()
@@ -217,15 +214,14 @@ fn release<O: Office>(office: &mut O, no: u64) -> Result<Told, RunFault>
 
 // Issues the Negative End Response of a file.
 fn refuse<O: Office>(office: &mut O, no: u64, reason: u64, text: &str) -> Result<Told, RunFault>
-    ensures clean { (O.view office.new).clean → (O.view office.old).clean }
-    ensures does { (O.view office.new).clean → (O.view office.old).stands
-        → Attempts (codes "done: refuse ") (λ deed. deed ≡ refused (O.view office.old).register no reason text.now) (O.view office.old) (O.view office.new) result }
-    ensures err { IfErr result (λ f. f ≡ RunFault.Office) }
+    ensures clean { WasClean (O.view office.old) (O.view office.new) }
+    ensures does { TriesDeed (codes "done: refuse ") (λ r. refused r no reason text.now) (O.view office.old) (O.view office.new) result }
+    ensures err { FailsOnlyBy RunFault.Office result }
 {
     let Some(text) = Text::new(text) else {
         return Ok(Told::Refused(Refusal::Field));
     };
-    if reason > 99 {
+    if reason > HIGHEST_REASON {
         return Ok(Told::Refused(Refusal::Field));
     }
     let change = Change::Issue {
@@ -244,9 +240,8 @@ fn attempt<O: Office>(
     book: &Book,
     call: &Operator<'_>,
 ) -> Result<Told, RunFault>
-    ensures clean { (O.view office.new).clean → (O.view office.old).clean }
-    ensures does { (O.view office.new).clean → (O.view office.old).stands
-        → Attempts (verb_of call.now) (IsDeed book.now (O.view office.old).register call.now) (O.view office.old) (O.view office.new) result }
+    ensures clean { WasClean (O.view office.old) (O.view office.new) }
+    ensures does { Tries (verb_of call.now) (λ r. IsDeed book.now r call.now) (O.view office.old) (O.view office.new) result }
     ensures err { IfErr result (MayFail call.now) }
 {
     match *call {
@@ -274,12 +269,12 @@ pub fn operate<O: Office, W: Write>(
     call: &Operator<'_>,
     writer: &mut Port<W>,
 ) -> Result<Told, RunFault>
-    ensures operates { (O.view office.new).clean → (O.view office.old).stands → Operates book.now call.now
-        (scene W.contents (O.view office.old) writer.old) (scene W.contents (O.view office.new) writer.new) result }
-    ensures clean { (O.view office.new).clean → (O.view office.old).clean }
+    ensures operates { OnCleanStore (O.view office.old) (O.view office.new) (Operates book.now call.now
+        (scene W.contents (O.view office.old) writer.old) (scene W.contents (O.view office.new) writer.new) result) }
+    ensures clean { WasClean (O.view office.old) (O.view office.new) }
     ensures out { Puts W.contents writer.old writer.new }
     ensures writer_told { WriterTold writer.old writer.new result }
 {
     let told = attempt(alloc, office, book, call)?;
-    tell(writer, call.verb(), told)
+    report_result(writer, call.verb(), told)
 }

@@ -2,7 +2,8 @@
 
 ghost use Rattle.std.specs.Prelude.{◌≡◌, None};
 ghost use Rattle.oftp_engine.specs.Jobs.{Runs};
-ghost use Rattle.oftp_engine.specs.InsideRunning.{DoesJob, IsGoneOn};
+ghost use Rattle.oftp_engine.specs.Serving.{OnCleanStore, WasClean};
+ghost use Rattle.oftp_engine.specs.InsideRunning.{IsListResult, TriesJob};
 
 use crate::operating::{Operator, Told, operate};
 use crate::serving::{End, Role, RunFault, serve};
@@ -71,8 +72,8 @@ impl<'a, R, W> Job<'a, R, W> {
 }
 
 // The result of a list after a job's result. An error of the job's ports doesn't end the list.
-fn go_on<T>(answer: &Result<T, RunFault>) -> Result<(), RunFault>
-    ensures { IsGoneOn answer.now result }
+fn list_result<T>(answer: &Result<T, RunFault>) -> Result<(), RunFault>
+    ensures { IsListResult answer.now result }
 {
     match answer {
         Ok(_) | Err(RunFault::Read | RunFault::Write) => Ok(()),
@@ -88,13 +89,12 @@ fn serve_job<O: Office, R: Read, W: Write>(
     book: &Book,
     job: &mut SessionJob<'_, R, W>,
 ) -> Result<(), RunFault>
-    ensures clean { (O.view office.new).clean → (O.view office.old).clean }
-    ensures does { (O.view office.new).clean → (O.view office.old).stands → DoesJob R.remaining W.contents book.now
-        (O.view office.old) (O.view office.new) (Job.Session job.old) (Job.Session job.new) result }
+    ensures clean { WasClean (O.view office.old) (O.view office.new) }
+    ensures does { TriesJob R.remaining W.contents book.now (O.view office.old) (O.view office.new) (Job.Session job.old) (Job.Session job.new) result }
 {
     let role = job.role;
     let answer = serve(alloc, office, book, role, &mut job.reader, &mut job.writer);
-    let after = go_on(&answer);
+    let after = list_result(&answer);
     job.result = Some(answer);
     after
 }
@@ -106,12 +106,11 @@ fn operate_job<O: Office, R: Read, W: Write>(
     book: &Book,
     job: &mut CallJob<'_, W>,
 ) -> Result<(), RunFault>
-    ensures clean { (O.view office.new).clean → (O.view office.old).clean }
-    ensures does { (O.view office.new).clean → (O.view office.old).stands → DoesJob R.remaining W.contents book.now
-        (O.view office.old) (O.view office.new) (Job.Call job.old) (Job.Call job.new) result }
+    ensures clean { WasClean (O.view office.old) (O.view office.new) }
+    ensures does { TriesJob R.remaining W.contents book.now (O.view office.old) (O.view office.new) (Job.Call job.old) (Job.Call job.new) result }
 {
     let answer = operate(alloc, office, book, &job.call, &mut job.writer);
-    let after = go_on(&answer);
+    let after = list_result(&answer);
     job.result = Some(answer);
     after
 }
@@ -123,9 +122,8 @@ fn do_job<O: Office, R: Read, W: Write>(
     book: &Book,
     job: &mut Job<'_, R, W>,
 ) -> Result<(), RunFault>
-    ensures clean { (O.view office.new).clean → (O.view office.old).clean }
-    ensures does { (O.view office.new).clean → (O.view office.old).stands → DoesJob R.remaining W.contents book.now
-        (O.view office.old) (O.view office.new) job.old job.new result }
+    ensures clean { WasClean (O.view office.old) (O.view office.new) }
+    ensures does { TriesJob R.remaining W.contents book.now (O.view office.old) (O.view office.new) job.old job.new result }
 {
     match job {
         Job::Session(session) => serve_job(alloc, office, book, session),
@@ -149,9 +147,9 @@ pub fn run<O: Office, R: Read, W: Write>(
     book: &Book,
     jobs: &mut [Job<'_, R, W>],
 ) -> Result<(), RunFault>
-    ensures runs { (O.view office.new).clean → (O.view office.old).stands → Runs R.remaining W.contents book.now
-        (O.view office.old) (O.view office.new) jobs.old jobs.new result }
-    ensures clean { (O.view office.new).clean → (O.view office.old).clean }
+    ensures runs { OnCleanStore (O.view office.old) (O.view office.new) (Runs R.remaining W.contents book.now
+        (O.view office.old) (O.view office.new) jobs.old jobs.new result) }
+    ensures clean { WasClean (O.view office.old) (O.view office.new) }
 {
     for i in 0..jobs.len() {
         do_job(alloc, office, book, &mut jobs[i])?;

@@ -1,26 +1,24 @@
 //! A session over any reader and any writer.
 
-ghost use Rattle.std.specs.Prelude.{◌≡◌, ◌≢◌, ◌<◌, ◌+◌, ℕ, true, false, List, None, OnOk, IfErr, IfOk, is_ok};
+ghost use Rattle.std.specs.Prelude.{◌≡◌, ◌≢◌, ◌<◌, ◌+◌, ℕ, true, false, List, None, Ok, OnOk, IfErr, IfOk, is_ok};
 ghost use Rattle.oftp_wire.specs.Kinds.{command_of};
 ghost use Rattle.oftp_register.specs.Plain.{view_of};
-ghost use Rattle.oftp_partners.specs.Book.{BookData};
 ghost use Rattle.oftp_session.specs.Callers.{greeting};
 ghost use Rattle.oftp_session.specs.Opening.{came_awaiting_ssid};
-ghost use Rattle.oftp_session.specs.Phases.{is_over, Phase, ending_of, frame_of, esid_of};
-ghost use Rattle.oftp_session.specs.Steps.{came, has_turn, opening, turned};
+ghost use Rattle.oftp_session.specs.Phases.{Phase, ending_of, frame_of, esid_of};
+ghost use Rattle.oftp_session.specs.Steps.{opening};
 ghost use Rattle.oftp_session.specs.Calls.{IsFailure, Stands, said};
 ghost use Rattle.oftp_session.specs.Standings.{Broken, is_closed, is_due, is_sending, turns_left};
 ghost use Rattle.oftp_io.specs.Ports.{Sent, Puts};
-ghost use Rattle.oftp_engine.specs.declared.conversation.TheConstants.{LONGEST_FRAME};
-ghost use Rattle.oftp_engine.specs.Runs.{Course, ended_as, step_on};
+ghost use Rattle.oftp_engine.specs.Runs.{ended_as};
 ghost use Rattle.oftp_engine.specs.Served.{Gave, InputEnded, ReaderTold, Serves, setting_of, WriterErr, WriterTold};
-ghost use Rattle.oftp_engine.specs.Serving.{scene};
-ghost use Rattle.oftp_engine.specs.Progress.{IsAt};
-ghost use Rattle.oftp_engine.specs.Conversation.{IsOwn};
-ghost use Rattle.oftp_engine.specs.Openings.{Answered, IsGreeted, IsJudged, admission_by, answer_to};
-ghost use Rattle.oftp_engine.specs.InsideServing.{BrokeOff, LastWords, Pumped, Stepped, TurnsTaken, ending_in, pauses, run_fault};
+ghost use Rattle.oftp_engine.specs.Serving.{OnCleanStore, WasClean, scene};
+ghost use Rattle.oftp_engine.specs.Conversation.{dialogue};
+ghost use Rattle.oftp_engine.specs.Openings.{Answered, Judges, admission_by, answer_to};
+ghost use Rattle.oftp_engine.specs.InsideServing.{Behaves, BrokeOff, HasTurn, LastWords, MakesStep, MakesTurns, NotOver, OnlyWrites, Drives, ending_in, pauses, run_fault, step_at, turn_at};
 
 use crate::conversation::Conversation;
+use crate::limits::{MOST_TURNS, PIECE};
 use oftp_io::Port;
 use oftp_partners::{Book, Partner};
 use oftp_register::{Office, PlainOffice};
@@ -28,12 +26,6 @@ use oftp_session::{Ending, Out, Session, SessionFault};
 use oftp_wire::{Command, Count, Deframer, SessionReason, parse};
 use std::alloc::Global;
 use std::io::{Read, Write};
-
-/// The number of octets that one read asks for.
-const PIECE: usize = 4096;
-
-/// After so many turns a session that sends a file in parts leaves the others for later.
-const MOST_TURNS: u32 = 32;
 
 /// How a session ended (RFC 5024, section 5.3.11).
 #[derive(Clone, Copy, Debug, Drop, PartialEq, Eq)]
@@ -135,9 +127,7 @@ pub enum RunFault {
 #[tactic(auto, using(oftp_io::proofs::Puts::puts_none, oftp_io::proofs::Puts::puts_on, oftp_io::proofs::Puts::puts_sent))]
 fn write_out<W: Write>(port: &mut Port<W>, out: Out<'_>) -> Result<(), RunFault>
     ensures sent { Sent W.contents port.old port.new (said out.entry) (is_ok result) }
-    ensures err { IfErr result (λ fault. fault ≡ RunFault.Write) }
-    ensures out { Puts W.contents port.old port.new }
-    ensures told { WriterTold port.old port.new result }
+    ensures writes { OnlyWrites W.contents port.old port.new result }
 {
     match out {
         Out::Nothing => Ok(()),
@@ -159,13 +149,10 @@ fn end_with<W: Write>(
     reason: SessionReason,
 ) -> Result<(), RunFault>
     requires { is_closed session.old.standing ≡ false }
-    ensures own { IfErr result IsOwn }
     ensures sent { Sent W.contents port.old port.new (frame_of (esid_of reason)) (is_ok result) }
-    ensures err { IfErr result (λ fault. fault ≡ RunFault.Write) }
     ensures over { OnOk result (Stands (Phase.EndedHere reason) session.new) }
     ensures setting { session.new.setting ≡ session.old.setting }
-    ensures out { Puts W.contents port.old port.new }
-    ensures told { WriterTold port.old port.new result }
+    ensures writes { OnlyWrites W.contents port.old port.new result }
 {
     match session.fail(reason) {
         Ok(out) => write_out(port, out),
@@ -215,22 +202,16 @@ fn break_off<W: Write>(
 
 // Executes the turn that is due, and writes its frame.
 #[tactic(auto, using(oftp_io::proofs::Puts::puts_none, oftp_io::proofs::Puts::puts_on, oftp_io::proofs::Puts::puts_sent, crate::proofs::Stepping::run_fault_own))]
-fn take_turn<O: Office, W: Write>(
+fn write_next<O: Office, W: Write>(
     session: &mut Session<'_>,
     office: &mut O,
     writer: &mut Port<W>,
 ) -> Result<(), RunFault>
     requires { is_due session.old.standing ≡ true }
-    ensures clean { (O.view office.new).clean → (O.view office.old).clean }
-    ensures own { IfErr result IsOwn }
     ensures fewer { OnOk result (turns_left session.new.standing < turns_left session.old.standing) }
-    ensures unbroken { OnOk result (session.new.standing ≢ Broken) }
-    ensures steps { (O.view office.new).clean → (O.view office.old).stands → (c : Course) → has_turn c.phase ≡ true
-        → IsAt c session.old (scene W.contents (O.view office.old) writer.old)
-        → Stepped c (turned c.setting c.phase c.register) session.new
-        (scene W.contents (O.view office.old) writer.old) (scene W.contents (O.view office.new) writer.new) result }
-    ensures out { Puts W.contents writer.old writer.new }
-    ensures told { WriterTold writer.old writer.new result }
+    ensures steps { MakesStep turn_at HasTurn session.old (scene W.contents (O.view office.old) writer.old)
+        session.new (scene W.contents (O.view office.new) writer.new) result }
+    ensures behaves { Behaves W.contents (O.view office.old) (O.view office.new) writer.old writer.new session.new result }
     ensures spared { IfErr result (λ fault. fault ≡ RunFault.Memory → is_sending session.old.standing ≡ true) }
 {
     match session.turn(office) {
@@ -241,22 +222,16 @@ fn take_turn<O: Office, W: Write>(
 
 // Executes a command that arrived, and writes the answer.
 #[tactic(auto, using(oftp_io::proofs::Puts::puts_none, oftp_io::proofs::Puts::puts_on, oftp_io::proofs::Puts::puts_sent, crate::proofs::Stepping::run_fault_own))]
-fn obey<O: Office, W: Write>(
+fn handle<O: Office, W: Write>(
     session: &mut Session<'_>,
     office: &mut O,
     writer: &mut Port<W>,
     command: &Command<'_>,
 ) -> Result<(), RunFault>
     requires { is_closed session.old.standing ≡ false }
-    ensures clean { (O.view office.new).clean → (O.view office.old).clean }
-    ensures own { IfErr result IsOwn }
-    ensures steps { (O.view office.new).clean → (O.view office.old).stands → (c : Course) → is_over c.phase ≡ false
-        → IsAt c session.old (scene W.contents (O.view office.old) writer.old)
-        → Stepped c (came c.setting c.phase c.register command.now) session.new
-        (scene W.contents (O.view office.old) writer.old) (scene W.contents (O.view office.new) writer.new) result }
-    ensures unbroken { OnOk result (session.new.standing ≢ Broken) }
-    ensures out { Puts W.contents writer.old writer.new }
-    ensures told { WriterTold writer.old writer.new result }
+    ensures steps { MakesStep (step_at (Ok command.now)) NotOver session.old (scene W.contents (O.view office.old) writer.old)
+        session.new (scene W.contents (O.view office.new) writer.new) result }
+    ensures behaves { Behaves W.contents (O.view office.old) (O.view office.new) writer.old writer.new session.new result }
 {
     match session.on_command(office, command) {
         Ok(out) => write_out(writer, out),
@@ -266,26 +241,19 @@ fn obey<O: Office, W: Write>(
 
 // Decodes and executes the octets of a command, and writes the answer.
 #[tactic(auto, using(oftp_io::proofs::Puts::puts_none, oftp_io::proofs::Puts::puts_on, oftp_io::proofs::Puts::puts_sent))]
-fn take_command<O: Office, W: Write>(
+fn parse_and_handle<O: Office, W: Write>(
     session: &mut Session<'_>,
     office: &mut O,
     writer: &mut Port<W>,
     octets: &[u8],
 ) -> Result<(), RunFault>
     requires { is_closed session.old.standing ≡ false }
-    ensures clean { (O.view office.new).clean → (O.view office.old).clean }
-    ensures own { IfErr result IsOwn }
-    ensures steps { (O.view office.new).clean → (O.view office.old).stands → (c : Course) → is_over c.phase ≡ false
-        → IsAt c session.old (scene W.contents (O.view office.old) writer.old)
-        → Stepped c (step_on c.setting c.phase c.register (command_of octets.now)) session.new
-        (scene W.contents (O.view office.old) writer.old)
-        (scene W.contents (O.view office.new) writer.new) result }
-    ensures unbroken { OnOk result (session.new.standing ≢ Broken) }
-    ensures out { Puts W.contents writer.old writer.new }
-    ensures told { WriterTold writer.old writer.new result }
+    ensures steps { MakesStep (step_at (command_of octets.now)) NotOver session.old (scene W.contents (O.view office.old) writer.old)
+        session.new (scene W.contents (O.view office.new) writer.new) result }
+    ensures behaves { Behaves W.contents (O.view office.old) (O.view office.new) writer.old writer.new session.new result }
 {
     match parse(octets) {
-        Ok(command) => obey(session, office, writer, &command),
+        Ok(command) => handle(session, office, writer, &command),
         Err(fault) => match fault.reason() {
             Some(reason) => end_with(session, writer, reason),
             None => unreachable!(),
@@ -304,7 +272,7 @@ fn pauses(pace: Pace, made: u32, session: &Session<'_>) -> bool
 }
 
 // Executes every turn that is due or, in parts, some of those that send a file, after those that were made before.
-fn take_turns<O: Office, W: Write>(
+fn write_due<O: Office, W: Write>(
     session: &mut Session<'_>,
     office: &mut O,
     writer: &mut Port<W>,
@@ -312,31 +280,24 @@ fn take_turns<O: Office, W: Write>(
     before: u32,
 ) -> Result<Turns, RunFault>
     requires { session.old.standing ≢ Broken }
-    ensures clean { (O.view office.new).clean → (O.view office.old).clean }
-    ensures own { IfErr result IsOwn }
-    ensures steps { (O.view office.new).clean → (O.view office.old).stands → (c : Course)
-        → IsAt c session.old (scene W.contents (O.view office.old) writer.old)
-        → TurnsTaken c session.new
-        (scene W.contents (O.view office.old) writer.old)
-        (scene W.contents (O.view office.new) writer.new) result }
+    ensures steps { MakesTurns session.old (scene W.contents (O.view office.old) writer.old)
+        session.new (scene W.contents (O.view office.new) writer.new) result }
     ensures whole { pace ≡ Pace.Whole → IfOk result (λ turns. turns ≢ Turns.Left) }
-    ensures unbroken { OnOk result (session.new.standing ≢ Broken) }
-    ensures out { Puts W.contents writer.old writer.new }
-    ensures told { WriterTold writer.old writer.new result }
+    ensures behaves { Behaves W.contents (O.view office.old) (O.view office.new) writer.old writer.new session.new result }
 {
     let mut made = before;
     'turns: while session.has_turn() {
         if pauses(pace, made, session) {
             return Ok(Turns::Left);
         }
-        take_turn(session, office, writer)?;
+        write_next(session, office, writer)?;
         made = made.saturating_add(1);
     }
     Ok(Turns::Made(made))
 }
 
 // Executes all turns that are due and all commands that are complete; in parts, it returns where more exchange buffers of a file are due.
-pub(crate) fn pump<O: Office, W: Write>(
+pub(crate) fn drive<O: Office, W: Write>(
     session: &mut Session<'_>,
     office: &mut O,
     stream: &mut Deframer,
@@ -344,21 +305,14 @@ pub(crate) fn pump<O: Office, W: Write>(
     pace: Pace,
 ) -> Result<Going, RunFault>
     requires { session.old.standing ≢ Broken }
-    ensures clean { (O.view office.new).clean → (O.view office.old).clean }
-    ensures own { IfErr result IsOwn }
-    ensures steps { (O.view office.new).clean → (O.view office.old).stands → (c : Course) → stream.old.limit ≡ LONGEST_FRAME → stream.old.told ≡ None
-        → IsAt c session.old (scene W.contents (O.view office.old) writer.old)
-        → Pumped c stream.old.rest stream.new session.new
-        (scene W.contents (O.view office.old) writer.old)
-        (scene W.contents (O.view office.new) writer.new) result }
+    ensures steps { Drives (dialogue session.old stream.old) (scene W.contents (O.view office.old) writer.old)
+        (dialogue session.new stream.new) (scene W.contents (O.view office.new) writer.new) result }
     ensures whole { pace ≡ Pace.Whole → IfOk result (λ going. going ≢ Going.Sends) }
-    ensures unbroken { OnOk result (session.new.standing ≢ Broken) }
-    ensures out { Puts W.contents writer.old writer.new }
-    ensures told { WriterTold writer.old writer.new result }
+    ensures behaves { Behaves W.contents (O.view office.old) (O.view office.new) writer.old writer.new session.new result }
 {
     let mut made: u32 = 0;
     'frames: loop {
-        match take_turns(session, office, writer, pace, made)? {
+        match write_due(session, office, writer, pace, made)? {
             Turns::Made(count) => made = count,
             Turns::Left => return Ok(Going::Sends),
         }
@@ -366,7 +320,7 @@ pub(crate) fn pump<O: Office, W: Write>(
             return Ok(Going::Ended(ending));
         }
         match stream.next() {
-            Ok(Some(octets)) => take_command(session, office, writer, octets)?,
+            Ok(Some(octets)) => parse_and_handle(session, office, writer, octets)?,
             Ok(None) => return Ok(Going::Waits),
             Err(_) => {
                 end_with(session, writer, SessionReason::ProtocolViolation)?;
@@ -384,9 +338,7 @@ pub(crate) fn greet<W: Write>(
 ) -> Result<(), RunFault>
     requires { Stands Phase.ResponderOpening session.old }
     ensures answers { OnOk result (Answered W.contents greeting session.old session.new writer.old writer.new) }
-    ensures err { IfErr result (λ fault. fault ≡ RunFault.Write) }
-    ensures out { Puts W.contents writer.old writer.new }
-    ensures told { WriterTold writer.old writer.new result }
+    ensures writes { OnlyWrites W.contents writer.old writer.new result }
 {
     let out = session.greet();
     write_out(writer, out)
@@ -401,9 +353,7 @@ fn judge_by<W: Write>(
 ) -> Result<(), RunFault>
     requires { Stands Phase.AwaitingSsid session.old }
     ensures answers { OnOk result (Answered W.contents (came_awaiting_ssid session.old.setting command.now) session.old session.new writer.old writer.new) }
-    ensures err { IfErr result (λ fault. fault ≡ RunFault.Write) }
-    ensures out { Puts W.contents writer.old writer.new }
-    ensures told { WriterTold writer.old writer.new result }
+    ensures writes { OnlyWrites W.contents writer.old writer.new result }
 {
     let out = session.judge(command);
     write_out(writer, out)
@@ -418,9 +368,7 @@ fn judge_octets<W: Write>(
 ) -> Result<(), RunFault>
     requires { Stands Phase.AwaitingSsid session.old }
     ensures answers { OnOk result (Answered W.contents (answer_to session.old.setting (command_of octets.now)) session.old session.new writer.old writer.new) }
-    ensures err { IfErr result (λ fault. fault ≡ RunFault.Write) }
-    ensures out { Puts W.contents writer.old writer.new }
-    ensures told { WriterTold writer.old writer.new result }
+    ensures writes { OnlyWrites W.contents writer.old writer.new result }
 {
     match parse(octets) {
         Ok(command) => judge_by(session, writer, &command),
@@ -448,12 +396,8 @@ pub(crate) fn judge<W: Write>(
     writer: &mut Port<W>,
 ) -> Result<Admission, RunFault>
     requires { Stands Phase.AwaitingSsid session.old }
-    ensures judges { (book : BookData) (octets : List ℕ) (before : Port W)
-        → IsGreeted W.contents book octets (record { seen = session.old; stream = stream.old }) before writer.old
-        → IfOk result (IsJudged W.contents book octets (record { seen = session.new; stream = stream.new }) before writer.new) }
-    ensures err { IfErr result (λ fault. fault ≡ RunFault.Write) }
-    ensures out { Puts W.contents writer.old writer.new }
-    ensures told { WriterTold writer.old writer.new result }
+    ensures judges { Judges W.contents (dialogue session.old stream.old) writer.old (dialogue session.new stream.new) writer.new result }
+    ensures writes { OnlyWrites W.contents writer.old writer.new result }
 {
     match stream.next() {
         Ok(Some(octets)) => {
@@ -503,10 +447,9 @@ pub fn serve<O: Office, R: Read, W: Write>(
     writer: &mut Port<W>,
 ) -> Result<End, RunFault>
     ensures serves { (given : List ℕ) × Gave R.remaining reader.old reader.new given
-        × ((O.view office.new).clean → (O.view office.old).stands → Serves (setting_of book.now role.entry) given
-        (scene W.contents (O.view office.old) writer.old)
-        (scene W.contents (O.view office.new) writer.new) result) }
-    ensures clean { (O.view office.new).clean → (O.view office.old).clean }
+        × OnCleanStore (O.view office.old) (O.view office.new) (Serves (setting_of book.now role.entry) given
+        (scene W.contents (O.view office.old) writer.old) (scene W.contents (O.view office.new) writer.new) result) }
+    ensures clean { WasClean (O.view office.old) (O.view office.new) }
     ensures reader_told { ReaderTold reader.old reader.new result }
     ensures writer_told { WriterTold writer.old writer.new result }
     ensures ends { InputEnded R.remaining reader.old reader.new result }

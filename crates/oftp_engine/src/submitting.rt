@@ -1,16 +1,16 @@
 //! Submitting a file, which registers it to be sent to a partner.
 
-ghost use Rattle.std.specs.Prelude.{◌≡◌, ◌≤◌, ◌↔◌, ℕ, List, true, length, codes, if◌then◌else◌, IsTrue, IfOk, IfErr, IfSome, IfNone};
+ghost use Rattle.std.specs.Prelude.{◌≡◌, ◌≤◌, ◌↔◌, true, length, codes, if◌then◌else◌, IsTrue, IfOk, IfErr, IfSome, IfNone};
 ghost use Rattle.oftp_vfile.specs.LocalForm.{IsLocal};
 ghost use Rattle.oftp_vfile.specs.VirtualFile.{IsLongest, units_in};
 ghost use Rattle.oftp_register.specs.Changes.{is_outgoing};
-ghost use Rattle.oftp_register.specs.Soundness.{IsFile};
 ghost use Rattle.oftp_engine.specs.declared.operating.Operator.TheVariants.{Submit};
-ghost use Rattle.oftp_engine.specs.Operating.{AreInRange, IsNoFile, Submits, is_too_big, refuses, registered};
-ghost use Rattle.oftp_engine.specs.InsideOperating.{Attempts, MayFail};
-ghost use Rattle.oftp_engine.specs.InsideSubmitting.{AreFieldsOf, IsOffer, came_big, came_numbered, named_by};
+ghost use Rattle.oftp_engine.specs.Serving.{FailsOnlyBy, WasClean};
+ghost use Rattle.oftp_engine.specs.Operating.{AreInRange, IsNoFile, Submits, is_too_big, refuses};
+ghost use Rattle.oftp_engine.specs.InsideOperating.{MayFail, Tries, TriesDeed};
+ghost use Rattle.oftp_engine.specs.InsideSubmitting.{AreFieldsOf, IsNotLocal, IsOffer, RegistersFile, big_file_result, new_file_result, named_by};
 
-use crate::operating::{Refusal, Told, told_of};
+use crate::operating::{Refusal, Told, call_result};
 use crate::serving::RunFault;
 use oftp_partners::{Book, Partner};
 use oftp_register::{Change, DigitString, Identity, Name, Office, OfficeFault, OutgoingEntry};
@@ -83,8 +83,8 @@ fn rows_of(
 ) -> Result<Option<Rows>, RunFault>
     requires { IsLongest format longest }
     ensures some { IfOk result (λ found. IfSome found (IsLocal format longest content.now)) }
-    ensures none { IfOk result (λ found. IfNone found ((rows : List (List ℕ)) → IsLocal format longest content.now rows → ⊥)) }
-    ensures err { IfErr result (λ f. (f ≡ RunFault.Memory) × (((rows : List (List ℕ)) → IsLocal format longest content.now rows → ⊥) → ⊥)) }
+    ensures none { IfOk result (λ found. IfNone found (IsNotLocal format longest content.now)) }
+    ensures err { IfErr result (λ f. (f ≡ RunFault.Memory) × (IsNotLocal format longest content.now → ⊥)) }
 {
     match VFile::from_local(alloc, format, longest, content) {
         Ok(file) => Ok(Some(file.rows)),
@@ -140,7 +140,7 @@ fn units_of(format: Format, longest: u32, content: &[u8], rows: &Rows) -> u64
 }
 
 // Whether a file exceeds the limits of the station.
-fn are_too_many(limits: Limits, units: u64, rows: &Rows) -> bool
+fn is_too_big(limits: Limits, units: u64, rows: &Rows) -> bool
     requires { units ≡ units_in rows.now }
     ensures { result ≡ is_too_big limits rows.now }
 {
@@ -148,8 +148,8 @@ fn are_too_many(limits: Limits, units: u64, rows: &Rows) -> bool
 }
 
 // The result for a file that exceeds the limits, once its identity was looked up.
-fn told_of_big(found: Result<Option<OutgoingEntry>, OfficeFault>) -> Result<Told, RunFault>
-    ensures { result ≡ came_big found }
+fn big_file_result(found: Result<Option<OutgoingEntry>, OfficeFault>) -> Result<Told, RunFault>
+    ensures { result ≡ big_file_result found }
 {
     match found {
         Ok(Some(_)) => Ok(Told::Refused(Refusal::Duplicate)),
@@ -160,19 +160,19 @@ fn told_of_big(found: Result<Option<OutgoingEntry>, OfficeFault>) -> Result<Told
 
 // Refuses a file that exceeds the limits. It is a duplicate where its identity exists.
 fn refuse_big<O: Office>(office: &mut O, identity: &Identity) -> Result<Told, RunFault>
-    ensures clean { (O.view office.new).clean → (O.view office.old).clean }
-    ensures does { (O.view office.new).clean → (O.view office.old).stands → Attempts (codes "done: submit ")
-        (λ deed. deed ≡ (if is_outgoing (O.view office.old).register identity.now then refuses Refusal.Duplicate else refuses Refusal.Limit))
+    ensures clean { WasClean (O.view office.old) (O.view office.new) }
+    ensures does { TriesDeed (codes "done: submit ")
+        (λ r. if is_outgoing r identity.now then refuses Refusal.Duplicate else refuses Refusal.Limit)
         (O.view office.old) (O.view office.new) result }
-    ensures err { IfErr result (λ f. f ≡ RunFault.Office) }
+    ensures err { FailsOnlyBy RunFault.Office result }
 {
     let found = office.look_out(identity);
-    told_of_big(found)
+    big_file_result(found)
 }
 
 // The result for a registered file, once its number was looked up.
-fn told_of_number(found: Result<Option<OutgoingEntry>, OfficeFault>) -> Result<Told, RunFault>
-    ensures { result ≡ came_numbered found }
+fn new_file_result(found: Result<Option<OutgoingEntry>, OfficeFault>) -> Result<Told, RunFault>
+    ensures { result ≡ new_file_result found }
 {
     match found {
         Ok(Some(file)) => Ok(Told::Done(file.no)),
@@ -189,11 +189,9 @@ fn register<O: Office>(
     description: Text<'_>,
     rows: Rows,
 ) -> Result<Told, RunFault>
-    ensures clean { (O.view office.new).clean → (O.view office.old).clean }
-    ensures does { (O.view office.new).clean → (O.view office.old).stands → description.entry ≡ submission.now.description.now
-        → IsFile submission.now.format submission.now.longest rows → Attempts (codes "done: submit ")
-        (λ deed. deed ≡ registered identity.now submission.now rows (O.view office.old).register) (O.view office.old) (O.view office.new) result }
-    ensures err { IfErr result (λ f. f ≡ RunFault.Office) }
+    ensures clean { WasClean (O.view office.old) (O.view office.new) }
+    ensures does { RegistersFile identity.now submission.now description.entry rows (O.view office.old) (O.view office.new) result }
+    ensures err { FailsOnlyBy RunFault.Office result }
 {
     let change = Change::Submit {
         identity: identity.again(),
@@ -205,9 +203,9 @@ fn register<O: Office>(
     match office.commit(change) {
         Ok(()) => {
             let found = office.look_out(identity);
-            told_of_number(found)
+            new_file_result(found)
         }
-        Err(fault) => told_of(Err(fault), 0),
+        Err(fault) => call_result(Err(fault), 0),
     }
 }
 
@@ -218,9 +216,8 @@ pub(crate) fn submit<O: Office>(
     book: &Book,
     submission: &Submission<'_>,
 ) -> Result<Told, RunFault>
-    ensures clean { (O.view office.new).clean → (O.view office.old).clean }
-    ensures does { (O.view office.new).clean → (O.view office.old).stands → Attempts (codes "done: submit ")
-        (Submits book.now (O.view office.old).register submission.now) (O.view office.old) (O.view office.new) result }
+    ensures clean { WasClean (O.view office.old) (O.view office.new) }
+    ensures does { Tries (codes "done: submit ") (λ r. Submits book.now r submission.now) (O.view office.old) (O.view office.new) result }
     ensures err { IfErr result (MayFail (Submit submission.now)) }
 {
     let Some(offer) = offer_of(alloc, submission)? else {
@@ -236,7 +233,7 @@ pub(crate) fn submit<O: Office>(
         submission.content,
         &offer.rows,
     );
-    if are_too_many(office.limits(), units, &offer.rows) {
+    if is_too_big(office.limits(), units, &offer.rows) {
         return refuse_big(office, &identity);
     }
     register(

@@ -2,5 +2,5 @@ mod Walks
 mod Lives
 mod Boxes
 mod Openings
-mod LifeParts
+pub mod LifeParts
 mod LifeEvents

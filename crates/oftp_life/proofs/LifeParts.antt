@@ -28,7 +28,7 @@ use Rattle.oftp_life.specs.Reaches.{ActMakes, ActStops, Covers, IsCut, IsShort, 
 use Rattle.oftp_life.proofs.Lives.{act_replays, book_in, reaches_replays, replay_behind}
 
 -- the register after the one change of a call, or before it
-none_or_one : (change : Option Change) (r s : Register) (n : ℕ) → apply_all r (take n (with_change [] change)) ≡ Ok s → (s ≡ r) ⊎ Makes change r s
+pub none_or_one : (change : Option Change) (r s : Register) (n : ℕ) → apply_all r (take n (with_change [] change)) ≡ Ok s → (s ≡ r) ⊎ Makes change r s
 none_or_one None r s n h =
     let same : Ok r ≡ Ok s = sym (ap (apply_all r) (take-nil n)) ∙ h in
     let is : s ≡ r = cc in inl is

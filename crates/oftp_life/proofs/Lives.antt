@@ -160,6 +160,32 @@ module _ (first : Register) (acts : List Act) (before : List Change) (setting : 
       })
       (record { kept = h.kept; few = h.few; register = h.register; left = h.left })
 
+-- a session that went on with this result stands as the result says
+holds_at : {O : Type 0} (view : O → View) (result : Result Going RunFault) (first : Register) (acts : List Act) (office now : O) (out : Port Outbox) (dialogue : Dialogue)
+    → HasConversed view first acts office now out dialogue result → Holds view (stage_of result) first acts office now out dialogue
+holds_at view (Ok going.Waits) first acts office now out dialogue h = h
+holds_at view (Ok going.Sends) first acts office now out dialogue h = h
+holds_at view (Ok (going.Ended ending)) first acts office now out dialogue h = h
+holds_at view (Err f) first acts office now out dialogue h = h
+
+-- what it has done it has done too over the office that it has later, and with another box that has handed out the same octets
+conversed_later : {O : Type 0} (view : O → View) (result : Result Going RunFault) (first : Register) (acts : List Act) (office now later : O) (here there : Port Outbox) (dialogue : Dialogue)
+    → octets_out there.inner ≡ octets_out here.inner → (h : HasConversed view first acts office now here dialogue result)
+    → ComesSoFar h.setting h.heard dialogue (scene contents_of (view office) h.front) (scene contents_of (view later) there) result
+    → HasConversed view first acts office later there dialogue result
+conversed_later view result first acts office now later here there dialogue out h comes = record {
+  setting = h.setting;
+  heard = h.heard;
+  earlier = h.earlier;
+  are = h.are ∙ ap (λ (x : List ℕ). let acts' : List Act = Conversed h.setting h.heard x ∷ h.earlier in acts') (sym out);
+  changes = h.changes;
+  reached = h.reached;
+  own = h.own;
+  front = h.front;
+  nothing = h.nothing;
+  comes = comes;
+}
+
 module _ {O : Type 0} (view : O → View) (first : Register) (office now : O) (front out : Port Outbox) (nothing : octets_out front.inner ≡ []) where
   abbrev a : Scene
   a = scene contents_of (view office) front
@@ -174,14 +200,9 @@ module _ {O : Type 0} (view : O → View) (first : Register) (office now : O) (f
   pub session_holds : (acts : List Act) (before : List Change) (setting : Setting) (heard : List ℕ) (dialogue : Dialogue) → Reaches first acts before (view office).register
       → (result : Result Going RunFault) → IfErr result IsOwn → ComesSoFar setting heard dialogue a b result
       → Holds view (stage_of result) first (Conversed setting heard said ∷ acts) office now out dialogue
-  session_holds acts before setting heard dialogue reached (Ok going.Waits) own h =
-      record { setting = setting; heard = heard; earlier = acts; are = refl; changes = before; reached = reached; own = own; front = front; nothing = nothing; comes = h }
-  session_holds acts before setting heard dialogue reached (Ok going.Sends) own h =
-      record { setting = setting; heard = heard; earlier = acts; are = refl; changes = before; reached = reached; own = own; front = front; nothing = nothing; comes = h }
-  session_holds acts before setting heard dialogue reached (Ok (going.Ended ending)) own h =
-      record { setting = setting; heard = heard; earlier = acts; are = refl; changes = before; reached = reached; own = own; front = front; nothing = nothing; comes = h }
-  session_holds acts before setting heard dialogue reached (Err f) own h =
-      record { setting = setting; heard = heard; earlier = acts; are = refl; changes = before; reached = reached; own = own; front = front; nothing = nothing; comes = h }
+  session_holds acts before setting heard dialogue reached result own h =
+      holds_at view result first (Conversed setting heard said ∷ acts) office now out dialogue
+      (record { setting = setting; heard = heard; earlier = acts; are = refl; changes = before; reached = reached; own = own; front = front; nothing = nothing; comes = h })
 
   -- all that went out since the session began is in the box
   all_out : (octets : List ℕ) → Took a b octets → said ≡ octets
@@ -313,18 +334,9 @@ same_scene v here there p q r =
 module _ {O : Type 0} (view : O → View) (first : Register) (office now : O) (here there : Port Outbox) (acts : List Act) (dialogue : Dialogue)
     (out : octets_out there.inner ≡ octets_out here.inner) (same : scene contents_of (view now) here ≡ scene contents_of (view now) there) where
   conversed_same : (result : Result Going RunFault) → HasConversed view first acts office now here dialogue result → HasConversed view first acts office now there dialogue result
-  conversed_same result h = record {
-    setting = h.setting;
-    heard = h.heard;
-    earlier = h.earlier;
-    are = h.are ∙ ap (λ (x : List ℕ). let acts' : List Act = Conversed h.setting h.heard x ∷ h.earlier in acts') (sym out);
-    changes = h.changes;
-    reached = h.reached;
-    own = h.own;
-    front = h.front;
-    nothing = h.nothing;
-    comes = subst (λ (s : Scene). ComesSoFar h.setting h.heard dialogue (scene contents_of (view office) h.front) s result) same h.comes;
-  }
+  conversed_same result h =
+      conversed_later view result first acts office now now here there dialogue out h
+      (subst (λ (s : Scene). ComesSoFar h.setting h.heard dialogue (scene contents_of (view office) h.front) s result) same h.comes)
 
   holds_same : (stage' : Stage) → Holds view stage' first acts office now here dialogue → Holds view stage' first acts office now there dialogue
   holds_same stage.Waits h = conversed_same (Ok going.Waits) h
@@ -408,10 +420,21 @@ module _ {T : Type 0} (Tells : Register → T → Type 0) (old before new : View
   }
 
 -- a life that looked something up
-pub look_lives : {T : Type 0} (Tells : Register → T → Type 0) (old before new : View) (result : Result T OfficeFault) → LooksUp Tells before new result → new.clean → (acts : List Act)
+look_lives : {T : Type 0} (Tells : Register → T → Type 0) (old before new : View) (result : Result T OfficeFault) → LooksUp Tells before new result → new.clean → (acts : List Act)
     → Rests old.register acts before → Lives (has_failed result) old.register acts new
 look_lives Tells old before new (Ok x) looks clean acts h = look_rests Tells old before new (Ok x) looks clean acts h (looks.stays clean h.stands)
 look_lives Tells old before new (Err f) looks clean acts h = look_leaves Tells old before new (Err f) looks clean acts h
+
+-- the same of a life whose look-ups say by their result whether it is over
+pub look_life : {O T : Type 0} (view : O → View) (Tells : Register → T → Type 0) (began old new : O) (acts : List Act) (over over' : Bool) (result : Result T OfficeFault)
+    → over ≡ false → over' ≡ has_failed result → LooksUp Tells (view old) (view new) result
+    → ((view old).clean → (view began).stands → Lives over (view began).register acts (view old))
+    → (view new).clean → (view began).stands → Lives over' (view began).register acts (view new)
+look_life view Tells began old new acts over over' result live ends looks lives clean stood =
+    let first = (view began).register in
+    lives_as (has_failed result) over' first acts acts (view new) ends refl
+    (look_lives Tells (view began) (view old) (view new) result looks clean acts
+    (subst (λ (b : Bool). Lives b first acts (view old)) live (lives (looks.clean clean) stood)))
 
 -- a session that looked something up while it could go on
 module _ {O T : Type 0} (view : O → View) (Tells : Register → T → Type 0) (began office old new : O) (out : Port Outbox) (acts : List Act) (dialogue : Dialogue) where
@@ -428,41 +451,23 @@ module _ {O T : Type 0} (view : O → View) (Tells : Register → T → Type 0) 
       → Holds view stage' first acts office old out dialogue → Holds view (after_look stage' result) first acts office new out dialogue
   look_holds stage.Waits e (Ok x) looks clean h =
       let same = looked Tells (view old) (view new) (Ok x) looks refl clean h.comes.all.stands in
-      record {
-        setting = h.setting;
-        heard = h.heard;
-        earlier = h.earlier;
-        are = h.are;
-        changes = h.changes;
-        reached = h.reached;
-        own = tt;
-        front = h.front;
-        nothing = h.nothing;
-        comes = listens_kept h.setting h.heard dialogue (scene contents_of (view office) h.front) (scene contents_of (view old) out) (view new) same h.comes;
-      }
+      conversed_later view (Ok going.Waits) first acts office old new out out dialogue refl h
+      (listens_kept h.setting h.heard dialogue (scene contents_of (view office) h.front) (scene contents_of (view old) out) (view new) same h.comes)
   look_holds stage.Sends e (Ok x) looks clean h =
       let same = looked Tells (view old) (view new) (Ok x) looks refl clean h.comes.between.stands in
-      record {
-        setting = h.setting;
-        heard = h.heard;
-        earlier = h.earlier;
-        are = h.are;
-        changes = h.changes;
-        reached = h.reached;
-        own = tt;
-        front = h.front;
-        nothing = h.nothing;
-        comes = sends_kept h.setting h.heard dialogue (scene contents_of (view office) h.front) (scene contents_of (view old) out) (view new) same h.comes;
-      }
+      conversed_later view (Ok going.Sends) first acts office old new out out dialogue refl h
+      (sends_kept h.setting h.heard dialogue (scene contents_of (view office) h.front) (scene contents_of (view old) out) (view new) same h.comes)
   look_holds stage.Waits e (Err f) looks clean h = look_fails stage.Waits refl f looks clean h
   look_holds stage.Sends e (Err f) looks clean h = look_fails stage.Sends refl f looks clean h
   look_holds (stage.Ended ending) e result looks clean h = absurd (let no : true ≡ false = e in cc)
   look_holds (stage.Failed f) e result looks clean h = absurd (let no : true ≡ false = e in cc)
   look_holds stage.Lost e result looks clean h = absurd (let no : true ≡ false = e in cc)
 
-  pub look_session : (stage' : Stage) (result : Result T OfficeFault) → has_ceased stage' ≡ false → LooksUp Tells (view old) (view new) result
-      → IsSession view began acts office old out dialogue stage' → IsSession view began acts office new out dialogue (after_look stage' result)
-  look_session stage' result live looks is = record {
+  pub look_session : (stage' after : Stage) (result : Result T OfficeFault) → has_ceased stage' ≡ false → after ≡ after_look stage' result → LooksUp Tells (view old) (view new) result
+      → IsSession view began acts office old out dialogue stage' → IsSession view began acts office new out dialogue after
+  look_session stage' after result live stands looks is = record {
     unbroken = λ e. is.unbroken live;
-    holds = λ clean stood. look_holds stage' live result looks clean (is.holds (looks.clean clean) stood);
+    holds = λ clean stood.
+        subst (λ (x : Stage). Holds view x first acts office new out dialogue) (sym stands)
+        (look_holds stage' live result looks clean (is.holds (looks.clean clean) stood));
   }

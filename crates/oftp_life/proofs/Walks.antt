@@ -1,11 +1,25 @@
--- Steps that the walks of `src/history.rt` and `src/was.rt` share. Assumes `Logic`.
-use Rattle.std.proofs.Common.{List, [], ◌∷◌, refl}
+-- What the walks of src/history.rt, src/octet_log.rt and src/snapshot.rt share: names, and steps. Assumes `Logic`.
+pub use Rattle.std.proofs.Common.{List, [], ◌∷◌, ◌++◌, refl}
+pub use Rattle.std.proofs.raw_atomic.Walks.{proved_at}
+pub use mir.Val.{Val, vptr}
+pub use prog.Wp.{WpFn}
+pub use contract.Running.{tables}
+pub use types.Kit.{‵, raw, ◌⊛◌, prop, ◌$◌, ◌∵◌, !, qed, move, keep, drop, split, fsplit, fjoin, feq_l, regoal, suffices, done}
+pub use types.Part.{agg}
+pub use types.Run.{enter, returns, and_then, no_more}
+pub use types.ByLocal.{alloc_all, pass_all, free_all, look_at, get, sets}
+pub use denote.Exit.{yes}
+pub use denote.RattleType.{owns}
+pub use denote.Builtin.{RefOf}
+pub use denote.Signature.{plain, types_at, named_lft}
+pub use denote.Steps.{nothing}
+pub use denote.Triple.Entry.{alive}
+pub use denote.Triple.Walked.{says, Stays, stay_dropped, walk_of, ends_at, Goes-dropped}
 use seplogic.Ra.Ura.{Ura}
-use mir.Val.{Val, vstruct, vcons, vnil}
+use mir.Val.{vstruct, vcons, vnil}
 use types.Logic.{Logic}
-use types.Kit.{Goal, Step, step, Item, ‵, ◌$◌, move, fjoin, fpack, feq_i}
+use types.Kit.{Goal, Step, step, Item, fpack, feq_i}
 use denote.RattleType.{RattleType, Valss}
-use denote.Steps.{nothing}
 use denote.Struct.Struct.{Struct, within}
 
 -- a struct by its fields alone: what it owns does not read its name

@@ -3,10 +3,13 @@ use Rattle.std.specs.Prelude.{ℕ, ⊤, List, [], ◌∷◌, Option}
 use Rattle.std.proofs.Common.{inl, inr}
 use Rattle.oftp_register.specs.declared.change.Change.{Change}
 use Rattle.oftp_register.specs.declared.entry.Identity.{Identity}
+use Rattle.oftp_register.specs.ByIdentity.{in_at}
+use Rattle.oftp_register.specs.Offices.{View}
 use Rattle.oftp_register.specs.Register.{Register}
 use Rattle.oftp_session.specs.Settings.{Setting}
-use Rattle.oftp_engine.specs.Parts.{BringsParts, File, SessionData}
+use Rattle.oftp_engine.specs.Parts.{BringsParts, File, IsSoFar, SessionData}
 use Rattle.oftp_life.specs.Acts.{Act, Conversed, Ordered}
+use Rattle.oftp_life.specs.Lives.{LifeLeaves}
 use Rattle.oftp_life.specs.Reaches.{Covers, Reaches}
 
 -- a session over these octets, whose writer had taken this many octets when it returned an error, if it did
@@ -27,3 +30,12 @@ BringSo file identity first (act ∷ acts) changes now h = BringSo file identity
 abbrev pub BringAll : File → Identity → (first : Register) (acts : List Act) (changes : List Change) (least : ℕ) → Covers first acts changes least → Type 0
 BringAll file identity first acts changes least (inl all) = BringSo file identity first acts changes all.0 all.1
 BringAll file identity first acts changes least (inr cut) = BringSo file identity first cut.earlier cut.before cut.at cut.reached × MayAct file identity cut.last cut.at
+
+-- each content that a crash may leave now has nothing of the file, a beginning of its rows, or the file as one transfer gives it
+abbrev pub CrashLeavesSoFar : File → Identity → View → Type 0
+CrashLeavesSoFar file identity now = (content : now.Content) → now.may_leave content → (r : Register) × now.holds content r × IsSoFar file (in_at r identity)
+
+-- the sessions of these acts, which led from the one view to the other, bring parts of the file, and so nothing else of it is left
+abbrev pub ActsMakeTheFile : File → Identity → View → List Act → View → Type 0
+ActsMakeTheFile file identity first acts now = (h : LifeLeaves first.register acts now) → IsSoFar file (in_at first.register identity)
+    → BringAll file identity first.register acts h.changes h.least h.covers → CrashLeavesSoFar file identity now

@@ -141,6 +141,10 @@ pub record LifeData (O : Type 0) : Type 0 where
   pub faults : ℕ
   pub over : Bool
 
+-- the life that begins with an office
+abbrev pub life_begun_with : {O : Type 0} → O → LifeData O
+life_begun_with office = record { office = office; began = office; acts = []; faults = 0; over = false }
+
 -- a session of a life: the same, with the office at which it began, the octets that it hands out, and how it stands
 pub record LifeSessionData (O : Type 0) : Type 0 where
   pub office : O
@@ -151,6 +155,16 @@ pub record LifeSessionData (O : Type 0) : Type 0 where
   pub dialogue : Dialogue
   pub faults : ℕ
   pub stage : Stage
+
+-- the life that a session leaves where it ends
+abbrev pub life_after : {O : Type 0} → LifeSessionData O → LifeData O
+life_after s = record { office = s.office; began = s.began; acts = s.acts; faults = s.faults; over = is_over_at s.stage }
+
+-- nothing of a session is changed but the octets that it hands out
+abbrev pub IsSameButForOut : {O : Type 0} → LifeSessionData O → LifeSessionData O → Type 0
+IsSameButForOut old new =
+    (new.office ≡ old.office) × (new.began ≡ old.began) × (new.acts ≡ old.acts) × (new.before ≡ old.before)
+    × (new.stage ≡ old.stage) × (new.dialogue ≡ old.dialogue) × (new.faults ≡ old.faults)
 
 -- a session heard these octets and went on, and the result says how it stands
 pub record HeardSome {O : Type 0} (old new : LifeSessionData O) (octets : List ℕ) (result : Result (Option Ending) RunFault) : Type 0 where

@@ -1,7 +1,9 @@
 -- A life as whoever may only look at it sees it.
-use Rattle.std.specs.Prelude.{◌≡◌, ℕ, Bool, false}
+use Rattle.std.specs.Prelude.{◌≡◌, ℕ, Bool, false, Result}
+use Rattle.oftp_register.specs.declared.office.OfficeFault.{OfficeFault}
+use Rattle.oftp_register.specs.Offices.{LooksUp, View}
+use Rattle.oftp_register.specs.Register.{Register}
 use Rattle.oftp_life.specs.Lives.{LifeData, LifeSessionData, has_ceased}
-use Rattle.oftp_register.specs.Offices.{View}
 
 -- as its office, but with a count of errors of its own, and open only while it isn't over
 abbrev pub shows : View → ℕ → Bool → View
@@ -23,6 +25,13 @@ life_seen view l = shows (view l.office) l.faults l.over
 
 abbrev pub session_seen : {O : Type 0} → (O → View) → LifeSessionData O → View
 session_seen view s = shows (view s.office) s.faults (has_ceased s.stage)
+
+-- a look-up of a life that tells this of its register, and the same of a session of it
+abbrev pub LifeLooksUp : {O T : Type 0} → (O → View) → (Register → T → Type 0) → LifeData O → LifeData O → Result T OfficeFault → Type 0
+LifeLooksUp view Tells old new result = LooksUp Tells (life_seen view old) (life_seen view new) result
+
+abbrev pub SessionLooksUp : {O T : Type 0} → (O → View) → (Register → T → Type 0) → LifeSessionData O → LifeSessionData O → Result T OfficeFault → Type 0
+SessionLooksUp view Tells old new result = LooksUp Tells (session_seen view old) (session_seen view new) result
 
 -- a look-up leaves what was done, and what goes out
 pub record IsSameLife {O : Type 0} (old new : LifeData O) : Type 0 where

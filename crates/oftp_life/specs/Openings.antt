@@ -1,9 +1,9 @@
 -- What holds of the opening of a session, before any life knows of it.
-use Rattle.std.specs.Prelude.{◌≡◌, ◌++◌, ◌⊎◌, ⊤, ℕ, List, [], Result, Ok, Err}
+use Rattle.std.specs.Prelude.{◌≡◌, ◌++◌, ◌⊎◌, ⊤, ℕ, List, [], Result, Ok, Err, IfOk}
 use Rattle.oftp_partners.specs.Book.{BookData}
 use Rattle.oftp_io.specs.declared.port.Port.{Port}
 use Rattle.oftp_engine.specs.Conversation.{Dialogue}
-use Rattle.oftp_engine.specs.Openings.{IsJudged}
+use Rattle.oftp_engine.specs.Openings.{IsJudged, admission_of}
 use Rattle.oftp_engine.specs.declared.serving.Admission.{Admission}
 use Rattle.oftp_engine.specs.declared.serving.Admission.TheVariants.{Undecided}
 use Rattle.oftp_engine.specs.declared.serving.RunFault.{RunFault}
@@ -41,6 +41,18 @@ pub record GuestData : Type 0 where
   pub heard : List ℕ
   pub out : Port Outbox
   pub dialogue : Dialogue
+
+-- the guest that an opening becomes whose caller was let in
+abbrev pub guest_from : OpeningData → GuestData
+guest_from o = record { book = o.book; heard = o.heard; out = o.out; dialogue = o.dialogue }
+
+-- the octets that an opening has heard decide, in whatever pieces they came
+abbrev pub IsVerdict : OpeningData → Result Admission RunFault → Type 0
+IsVerdict o result = IfOk result (λ admission. admission ≡ admission_of o.book o.heard)
+
+-- nothing of an opening is changed but the octets that it hands out
+abbrev pub IsSameOpening : OpeningData → OpeningData → Type 0
+IsSameOpening old new = (new.book ≡ old.book) × (new.heard ≡ old.heard) × (new.stage ≡ old.stage) × (new.dialogue ≡ old.dialogue)
 
 -- an opening heard these octets too, and this is what all of them amount to
 pub record HeardOn (old new : OpeningData) (octets : List ℕ) (result : Result Admission RunFault) : Type 0 where

@@ -2,13 +2,10 @@
 
 ghost use Rattle.std.specs.Prelude.{List};
 ghost use Rattle.oftp_register.specs.declared.entry.Identity.{Identity};
-ghost use Rattle.oftp_register.specs.ByIdentity.{in_at};
-ghost use Rattle.oftp_register.specs.Register.{Register};
-ghost use Rattle.oftp_engine.specs.Parts.{File, IsSoFar};
+ghost use Rattle.oftp_engine.specs.Parts.{File};
 ghost use Rattle.oftp_life.specs.Acts.{Act};
 ghost use Rattle.oftp_life.specs.LifeEvents.{ActsAreEvents};
-ghost use Rattle.oftp_life.specs.LifeParts.{BringAll};
-ghost use Rattle.oftp_life.specs.Lives.{LifeLeaves};
+ghost use Rattle.oftp_life.specs.LifeParts.{ActsMakeTheFile};
 
 use oftp_register::Office;
 
@@ -17,9 +14,7 @@ use oftp_register::Office;
 /// the theorem.
 pub fn lives_make_the_file<O: Office>()
     ensures { (file : File) (identity : Identity) (first now : O) (acts : List Act) → (O.view first).clean → (O.view first).stands
-        → (h : LifeLeaves (O.view first).register acts (O.view now)) → IsSoFar file (in_at (O.view first).register identity)
-        → BringAll file identity (O.view first).register acts h.changes h.least h.covers → (content : (O.view now).Content) → (O.view now).may_leave content
-        → (r : Register) × (O.view now).holds content r × IsSoFar file (in_at r identity) }
+        → ActsMakeTheFile file identity (O.view first) acts (O.view now) }
 {}
 
 /// What a life leaves of its acts is what events of two stations leave. Of a session with a third partner, who may send any octets as long as

@@ -1,9 +1,9 @@
 //! A life: one office, and all jobs that are done with it, one after another.
 
-ghost use Rattle.std.specs.Prelude.{◌≡◌, [], true, false};
+ghost use Rattle.std.specs.Prelude.{◌≡◌, true, false};
 ghost use Rattle.oftp_engine.specs.Operated.{Operates};
 ghost use Rattle.oftp_engine.specs.Serving.{scene};
-ghost use Rattle.oftp_life.specs.Lives.{HasLeft, ends_life};
+ghost use Rattle.oftp_life.specs.Lives.{HasLeft, ends_life, life_begun_with};
 ghost use Rattle.oftp_life.specs.Noted.{with_call};
 
 mod looking;
@@ -44,7 +44,7 @@ impl<O: Office> Model for Life<O> {
 impl<O: Office> Life<O> {
     /// The life that begins with this office.
     pub fn new(office: O) -> Life<O>
-        ensures { result ≡ record { office = office; began = office; acts = []; faults = 0; over = false } }
+        ensures { result ≡ life_begun_with office }
     {
         let began = Snapshot::of(&office);
         Life {

@@ -4,12 +4,12 @@ ghost use Rattle.std.specs.Prelude.{◌≡◌, ◌≢◌, ◌++◌, [], Some, Ok
 ghost use Rattle.oftp_session.specs.Callers.{code_of, greeting};
 ghost use Rattle.oftp_session.specs.Phases.{framed};
 ghost use Rattle.oftp_engine.specs.Conversation.{HeardMore};
-ghost use Rattle.oftp_engine.specs.Openings.{IsAccepted, admission_of};
-ghost use Rattle.oftp_life.specs.Openings.{HeardOrNot, IsOpening, greeted_as};
-ghost use Rattle.oftp_life.specs.Outboxes.{octets_out};
+ghost use Rattle.oftp_engine.specs.Openings.{IsAccepted};
+ghost use Rattle.oftp_life.specs.Openings.{HeardOrNot, IsOpening, IsSameOpening, IsVerdict, greeted_as, guest_from};
+ghost use Rattle.oftp_life.specs.Outboxes.{HandsAllOut, octets_out};
 
-use crate::all_heard::AllHeard;
-use crate::outbox::{Outbox, Piece};
+use crate::octet_log::{OctetLog, Piece};
+use crate::outbox::Outbox;
 use oftp_engine::{Admission, Conversation, Port, Role, RunFault};
 use oftp_partners::Book;
 use oftp_register::Name;
@@ -23,7 +23,7 @@ pub struct Opening<'b> {
     book: &'b Book,
     conversation: Conversation<'b>,
     out: Port<Outbox>,
-    heard: AllHeard,
+    heard: OctetLog,
     stage: Result<Admission, RunFault>,
 }
 
@@ -43,7 +43,7 @@ pub struct Guest<'b> {
     pub(crate) book: &'b Book,
     pub(crate) conversation: Conversation<'b>,
     pub(crate) out: Port<Outbox>,
-    pub(crate) heard: AllHeard,
+    pub(crate) heard: OctetLog,
 }
 
 impl<'b> Model for Guest<'b> {
@@ -70,7 +70,7 @@ fn greeted_as(answer: &Result<(), RunFault>) -> Result<Admission, RunFault>
 // Hears octets, and notes them.
 fn take(
     conversation: &mut Conversation<'_>,
-    heard: &mut AllHeard,
+    heard: &mut OctetLog,
     octets: &[u8],
 ) -> Result<(), RunFault>
     ensures more { OnOk result (HeardMore conversation.old conversation.new octets.now) }
@@ -99,7 +99,7 @@ impl<'b> Opening<'b> {
             book,
             conversation,
             out,
-            heard: AllHeard::new(),
+            heard: OctetLog::new(),
             stage,
         }
     }
@@ -112,7 +112,7 @@ impl<'b> Opening<'b> {
     pub fn admission(&self) -> Result<Admission, RunFault>
         ensures stage { result ≡ self.now.stage }
         // The octets decide, in whatever pieces they came.
-        ensures verdict { IfOk result (λ admission. admission ≡ admission_of self.now.book self.now.heard) }
+        ensures verdict { IsVerdict self.now result }
         // What was handed out, and what is to go out: the greeting, and the answer to the first command once that is whole.
         ensures holds { IsOpening self.now.book self.now.heard self.now.out self.now.dialogue self.now.stage }
     {
@@ -131,7 +131,7 @@ impl<'b> Opening<'b> {
         ensures let_in { self.old.stage ≡ Ok Admission.LetIn → HeardOrNot self.old self.new octets.now result }
         ensures idle { self.old.stage ≢ Ok Admission.Undecided → self.old.stage ≢ Ok Admission.LetIn → (self.new ≡ self.old) × (result ≡ self.old.stage) }
         // The octets decide, in whatever pieces they came.
-        ensures verdict { IfOk result (λ admission. admission ≡ admission_of self.new.book self.new.heard) }
+        ensures verdict { IsVerdict self.new result }
     {
         match self.stage {
             Ok(Admission::Undecided) => self.judge(octets),
@@ -144,7 +144,7 @@ impl<'b> Opening<'b> {
     fn judge(&mut self, octets: &[u8]) -> Result<Admission, RunFault>
         requires { self.old.stage ≡ Ok Admission.Undecided }
         ensures heard { HeardOrNot self.old self.new octets.now result }
-        ensures verdict { IfOk result (λ admission. admission ≡ admission_of self.new.book self.new.heard) }
+        ensures verdict { IsVerdict self.new result }
     {
         take(&mut self.conversation, &mut self.heard, octets)?;
         self.stage = self.conversation.judge(&mut self.out);
@@ -155,7 +155,7 @@ impl<'b> Opening<'b> {
     fn keep(&mut self, octets: &[u8]) -> Result<Admission, RunFault>
         requires { self.old.stage ≡ Ok Admission.LetIn }
         ensures heard { HeardOrNot self.old self.new octets.now result }
-        ensures verdict { IfOk result (λ admission. admission ≡ admission_of self.new.book self.new.heard) }
+        ensures verdict { IsVerdict self.new result }
     {
         take(&mut self.conversation, &mut self.heard, octets)?;
         Ok(Admission::LetIn)
@@ -174,9 +174,8 @@ impl<'b> Opening<'b> {
     /// session to hand out.
     pub fn take_out(&mut self, alloc: Global) -> Vec<u8>
         ensures kept { self.old.stage ≡ Ok Admission.LetIn → (result.items ≡ []) × (self.new ≡ self.old) }
-        ensures handed { self.old.stage ≢ Ok Admission.LetIn → (result.items ≡ self.old.out.inner.waiting.items) × (self.new.out.inner.waiting.items ≡ [])
-            × (octets_out self.new.out.inner ≡ octets_out self.old.out.inner) }
-        ensures same { (self.new.book ≡ self.old.book) × (self.new.heard ≡ self.old.heard) × (self.new.stage ≡ self.old.stage) × (self.new.dialogue ≡ self.old.dialogue) }
+        ensures handed { self.old.stage ≢ Ok Admission.LetIn → HandsAllOut self.old.out.inner self.new.out.inner result.items }
+        ensures same { IsSameOpening self.old self.new }
     {
         if let Ok(Admission::LetIn) = self.stage {
             return Vec::new(alloc);
@@ -193,8 +192,7 @@ impl<'b> Opening<'b> {
     ///
     /// The opening itself, where its caller wasn't let in.
     pub fn into_guest(self) -> Result<Guest<'b>, Opening<'b>>
-        ensures let_in { IfOk result (λ guest. (self.entry.stage ≡ Ok Admission.LetIn)
-            × (guest ≡ record { book = self.entry.book; heard = self.entry.heard; out = self.entry.out; dialogue = self.entry.dialogue })) }
+        ensures let_in { IfOk result (λ guest. (self.entry.stage ≡ Ok Admission.LetIn) × (guest ≡ guest_from self.entry)) }
         ensures err { IfErr result (λ opening. (self.entry.stage ≢ Ok Admission.LetIn) × (opening ≡ self.entry)) }
     {
         match self.stage {

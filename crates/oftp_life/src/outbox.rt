@@ -1,49 +1,17 @@
 //! The octets that a session handed out.
 
-ghost use Rattle.std.specs.Prelude.{◌≡◌, ◌++◌, List, ℕ, []};
-ghost use Rattle.std.specs.Borrow.{ftrue};
+ghost use Rattle.std.specs.Prelude.{◌≡◌, ◌++◌, []};
 
+use crate::octet_log::{OctetLog, Piece};
 use std::alloc::Global;
 use std::io::{self, Write};
-use std::marker::Model;
 use std::mem;
-
-// Octets, for a proof.
-#[derive(Clone, Copy, Drop)]
-pub(crate) struct Piece<'a> {
-    pub(crate) octets: &'a [u8],
-}
-
-/// Octets that were taken out of a box. It exists only in proofs.
-#[derive(Drop)]
-pub struct TakenOut {
-    pub ghost octets: { List ℕ },
-}
-
-impl Model for TakenOut {
-    ghost also_owns = { λ _. ftrue };
-}
-
-impl TakenOut {
-    // No octet.
-    pub(crate) fn new() -> TakenOut
-        ensures { result.octets ≡ [] }
-    {
-        TakenOut {}
-    }
-
-    // These octets too.
-    pub(crate) fn then(&self, _more: &Piece<'_>) -> TakenOut
-        ensures { result.octets ≡ self.now.octets ++ _more.now.octets.now }
-    {
-        TakenOut {}
-    }
-}
 
 /// A writer that keeps the octets until they are taken.
 #[derive(Drop)]
 pub struct Outbox {
-    taken: TakenOut,
+    // Those that were taken out of it.
+    taken: OctetLog,
     waiting: Vec<u8>,
 }
 
@@ -54,7 +22,7 @@ impl Outbox {
         ensures waiting { result.waiting.items ≡ [] }
     {
         Outbox {
-            taken: TakenOut::new(),
+            taken: OctetLog::new(),
             waiting: Vec::new(alloc),
         }
     }

@@ -5,7 +5,7 @@ use Rattle.oftp_register.specs.declared.entries.OutgoingEntry.{OutgoingEntry}
 use Rattle.oftp_register.specs.declared.entries.ReceivedEntry.{ReceivedEntry}
 use Rattle.oftp_register.specs.LookUps.{answered_entry, look_out, numbered, received_entry}
 use Rattle.oftp_register.specs.Register.{Received, Register}
-use Rattle.oftp_listing.specs.InsideListed.{file_answered}
+use Rattle.oftp_listing.specs.InsideResource.{file_answered}
 use Rattle.oftp_listing.specs.Texts.{no_of}
 
 no_answered : (found : Option OutgoingEntry) → unwrap_or (option_map (λ (e : OutgoingEntry). e.no) found) 0 ≡ no_of found

@@ -6,6 +6,7 @@ pub mod HidingLemmas
 pub mod HostLemmas
 pub mod ListedUnits
 pub mod Listings
+pub mod QueryLemmas
 pub mod RowLemmas
 pub mod RememberingLemmas
 pub mod Reporting

@@ -22,7 +22,7 @@ use Rattle.oftp_register.specs.Soundness.{IsSound}
 use Rattle.oftp_register.specs.Units.{units_in_blocks, units_told}
 use Rattle.oftp_register.proofs.FileRowLemmas.{few_units}
 use Rattle.oftp_register.proofs.FormatUnitLemmas.{units_of_file}
-use Rattle.oftp_listing.specs.InsideListed.{IsAmong, IsListed}
+use Rattle.oftp_listing.specs.InsideResource.{CountsBlocks, IsAmong, IsListed}
 use Rattle.oftp_listing.specs.Texts.{Asks}
 use Rattle.oftp_listing.proofs.Asking.{asks_on, asks_once, told_first}
 
@@ -81,7 +81,7 @@ records_listed r which n longest rows units sound listed is =
 -- of blocks, of which only the last is measured
 pub blocks_listed : (bodies : List (List ℕ)) (rows full product octets units : ℕ) (last : List (List ℕ)) → full ≡ rows - 1 → last ≡ take 1 (drop full bodies)
     → (length last ≤ 1 → octets ≡ units_in last) → product ≡ min (full * BLOCK) (2 ^ 64 - 1) → units ≡ min (product + octets) (2 ^ 64 - 1)
-    → rows ≡ length bodies → units_in_blocks bodies ≤ MOST_UNITS → units ≡ units_in_blocks bodies
+    → CountsBlocks rows bodies units
 blocks_listed bodies rows full product octets units last full_is last_is octets_are product_is units_are counted few =
     let at : full ≡ length bodies - 1 = full_is ∙ ap (λ k. k - 1) counted in
     let one : length (drop full bodies) ≤ 1 = omega (arith, at, length-drop full bodies) in
@@ -96,13 +96,13 @@ blocks_listed bodies rows full product octets units last full_is last_is octets_
 -- in U and T
 in_blocks : (r : Register) (which : Side) (n longest rows units : ℕ) (format : Format) → IsSound r → IsListed r which n format longest rows
     → units_told format longest (file_rows r which n) ≡ units_in_blocks (file_rows r which n)
-    → (rows ≡ length (file_rows r which n) → units_in_blocks (file_rows r which n) ≤ MOST_UNITS → units ≡ units_in_blocks (file_rows r which n)) → units ≡ units_of r which n
+    → CountsBlocks rows (file_rows r which n) units → units ≡ units_of r which n
 in_blocks r which n longest rows units format sound listed blocks told =
     let whole : units_in_blocks (file_rows r which n) ≡ units_of r which n = sym blocks ∙ units_of_file r which n format longest sound listed.0 in
     told listed.1 (subst (λ k. k ≤ MOST_UNITS) (sym whole) (few_units r which n sound)) ∙ whole
 
 pub stream_listed : (r : Register) (which : Side) (n longest rows units : ℕ) (format : Format) → (format ≡ Unstructured) ⊎ (format ≡ Text) → IsSound r → IsListed r which n format longest rows
-    → (rows ≡ length (file_rows r which n) → units_in_blocks (file_rows r which n) ≤ MOST_UNITS → units ≡ units_in_blocks (file_rows r which n)) → units ≡ units_of r which n
+    → CountsBlocks rows (file_rows r which n) units → units ≡ units_of r which n
 stream_listed r which n longest rows units format (inl is) sound listed =
     in_blocks r which n longest rows units format sound listed (ap (λ f. units_told f longest (file_rows r which n)) is)
 stream_listed r which n longest rows units format (inr is) sound listed =
@@ -153,10 +153,10 @@ outgoing_listed r e (i, is) =
 -- ---- one file after another
 
 -- the office was asked for the numbers of these entries, of all that it returned
-pub record IsAsked {E : Type 0} (all : Register → List E) (beside : Register → E → ℕ) (old now : View) (told entries : List E) (numbers : List ℕ) : Type 0 where
+pub record IsAsked {E : Type 0} (all : Register → List E) (related : Register → E → ℕ) (old now : View) (told entries : List E) (numbers : List ℕ) : Type 0 where
   pub asks : Asks old now
   pub untold : now.told ≡ old.told
-  pub right : now.clean → old.stands → told ≡ all old.register → numbers ≡ map (beside old.register) entries
+  pub right : now.clean → old.stands → told ≡ all old.register → numbers ≡ map (related old.register) entries
 
 pub take_next : {E : Type 0} (entries : List E) (i : ℕ) (e : E) → i < length entries → e ≡ get_or entries i e → take (i + 1) entries ≡ take i entries ++ e ∷ []
 take_next entries i e within is = rw add-one (take-suc entries i e within ∙ ap (λ (x : _). take i entries ++ x ∷ []) (sym is))
@@ -171,21 +171,21 @@ pub is_among : {E : Type 0} (entries : List E) (i : ℕ) (e : E) → i < length 
 is_among entries i e within is = (i, is_there entries i e within is)
 
 -- and of one more
-pub asked_on : {E : Type 0} (all : Register → List E) (beside : Register → E → ℕ) (old now new : View) (told entries : List E) (numbers longer : List ℕ) (e : E) (n : ℕ)
-    → IsAsked all beside old now told entries numbers → IsAmong e told → LooksUp (λ r n. IsAmong e (all r) → n ≡ beside r e) now new (Ok n) → longer ≡ numbers ++ n ∷ []
-    → IsAsked all beside old new told (entries ++ e ∷ []) longer
-asked_on all beside old now new told entries numbers longer e n asked among looks grown = record {
+pub asked_on : {E : Type 0} (all : Register → List E) (related : Register → E → ℕ) (old now new : View) (told entries : List E) (numbers longer : List ℕ) (e : E) (n : ℕ)
+    → IsAsked all related old now told entries numbers → IsAmong e told → LooksUp (λ r n. IsAmong e (all r) → n ≡ related r e) now new (Ok n) → longer ≡ numbers ++ n ∷ []
+    → IsAsked all related old new told (entries ++ e ∷ []) longer
+asked_on all related old now new told entries numbers longer e n asked among looks grown = record {
   asks = asks_on old now new asked.asks asked.untold (asks_once now new (Ok n) looks);
   untold = looks.counts ∙ asked.untold;
   right = λ k s whole.
-      let is : n ≡ beside old.register e =
-      told_first {Tells = λ r n. IsAmong e (all r) → n ≡ beside r e} old now new n asked.asks asked.untold looks k s (subst (IsAmong e) whole among) in
-      grown ∙ ap (λ ns. ns ++ n ∷ []) (asked.right (looks.clean k) s whole) ∙ ap (λ x. map (beside old.register) entries ++ x ∷ []) is
-      ∙ sym (map-append (beside old.register) entries (e ∷ []));
+      let is : n ≡ related old.register e =
+      told_first {Tells = λ r n. IsAmong e (all r) → n ≡ related r e} old now new n asked.asks asked.untold looks k s (subst (IsAmong e) whole among) in
+      grown ∙ ap (λ ns. ns ++ n ∷ []) (asked.right (looks.clean k) s whole) ∙ ap (λ x. map (related old.register) entries ++ x ∷ []) is
+      ∙ sym (map-append (related old.register) entries (e ∷ []));
 }
 
 -- and of all
-pub asked_all : {E : Type 0} (all : Register → List E) (beside : Register → E → ℕ) (old now : View) (told : List E) (i : ℕ) (numbers : List ℕ)
-    → IsAsked all beside old now told (take i told) numbers → length told ≤ i → now.clean → old.stands → told ≡ all old.register
-    → numbers ≡ map (beside old.register) (all old.register)
-asked_all all beside old now told i numbers asked long k s whole = asked.right k s whole ∙ ap (map (beside old.register)) (take_all i told long ∙ whole)
+pub asked_all : {E : Type 0} (all : Register → List E) (related : Register → E → ℕ) (old now : View) (told : List E) (i : ℕ) (numbers : List ℕ)
+    → IsAsked all related old now told (take i told) numbers → length told ≤ i → now.clean → old.stands → told ≡ all old.register
+    → numbers ≡ map (related old.register) (all old.register)
+asked_all all related old now told i numbers asked long k s whole = asked.right k s whole ∙ ap (map (related old.register)) (take_all i told long ∙ whole)

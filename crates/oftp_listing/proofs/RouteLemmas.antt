@@ -11,6 +11,7 @@ use Rattle.matchit.specs.Router.{RouteOf}
 use Rattle.matchit.specs.Params.{walk, named, AllText, next_at, part_of}
 use Rattle.matchit.specs.Seek.{seek, first, step, has_slash}
 use Rattle.oftp_wire.specs.Octets.{is_digit}
+use Rattle.oftp_listing.specs.declared.route.TheConstants.{MOST_DIGITS}
 use Rattle.oftp_listing.specs.declared.route.Place.{Place}
 use Rattle.oftp_listing.specs.declared.route.Place.TheVariants as place
 use Rattle.oftp_listing.specs.declared.route.Route.{Route}
@@ -35,7 +36,7 @@ unfolding number_of
 no_number p (inl e) = rw e refl
 no_number p (inr h) = elim (cases_Bool (is_unpadded p)) [
   | inr u ↦ rw u refl
-  | inl u ↦ elim (cases_Bool (nat_le (length p) 7)) [ inl n ↦ rw (u, n, no_digits p h) refl | inr n ↦ rw (u, n) refl ]
+  | inl u ↦ elim (cases_Bool (nat_le (length p) MOST_DIGITS)) [ inl n ↦ rw (u, n, no_digits p h) refl | inr n ↦ rw (u, n) refl ]
 ]
 
 -- a table's rows find the route of the target, the front before the table's own text

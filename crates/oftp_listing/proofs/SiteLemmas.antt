@@ -1,55 +1,49 @@
 -- What the spans of a head say of what is asked for.
-use Rattle.std.proofs.Common.{◌≡◌, ◌↔◌, ◌≤◌, ◌∙◌, ℕ, Bool, true, false, IsTrue, List, length, take, map, All, codes, sym, subst, arith}
+use Rattle.std.proofs.Common.{◌≡◌, ◌≤◌, ◌<◌, ℕ, List, length, take, map, Option, refl, subst, arith}
+use Rattle.std.specs.declared.net.ip_addr.IpAddr.{IpAddr}
 use Rattle.httparse.specs.declared.spans.HeaderSpan.{HeaderSpan}
 use Rattle.httparse.specs.declared.spans.RequestSpans.{RequestSpans}
 use Rattle.httparse.specs.Grammar.{RequestHead, ReadsRequest}
 use Rattle.httparse.specs.Spans.{IsRequestAt, IsRequestOf, header_bytes, span_bytes}
+use Rattle.oftp_listing.specs.declared.head.TheConstants.{MOST_FIELDS}
 use Rattle.oftp_listing.specs.declared.hosts.Hosts.{Hosts}
 use Rattle.oftp_listing.specs.declared.site.Goal.{Goal}
 use Rattle.oftp_listing.specs.declared.site.Goal.TheVariants as goal
-use Rattle.oftp_listing.specs.Hosts.{NamesHost}
-use Rattle.oftp_listing.specs.Sites.{IsForHost, IsGoal, IsGoalOf}
+use Rattle.oftp_listing.specs.declared.site.Site.{Site}
+use Rattle.oftp_listing.specs.declared.site.Site.TheVariants.{Page, Register}
+use Rattle.oftp_listing.specs.InsideQuery.{IsSoughtAt}
+use Rattle.oftp_listing.specs.Sites.{IsGoal, IsGoalAt, IsSought}
 use Rattle.oftp_listing.proofs.HeadLemmas.{fields_fit}
 
--- each field of these spans names the host
-abbrev pub AreForHost : Hosts → List ℕ → List HeaderSpan → ℕ → Type 0
-AreForHost hosts buf spans count = All (NamesHost hosts) (map (header_bytes buf) (take count spans))
+-- the names and values that the first spans cover
+abbrev pub fields_at : List ℕ → List HeaderSpan → ℕ → List (List ℕ × List ℕ)
+fields_at buf spans count = map (header_bytes buf) (take count spans)
+
+-- the parts that the spans cover are those of the head
+of_head : (hosts : Hosts) (buf : List ℕ) (spans : List HeaderSpan) (r : RequestSpans) (h : RequestHead) (sought : Goal) → IsRequestAt buf spans r h
+    → IsSought hosts (span_bytes buf r.method) (span_bytes buf r.path) (fields_at buf spans r.headers) sought → IsGoal hosts h sought
+of_head hosts buf spans r h sought at is =
+    subst (λ (fs : List (List ℕ × List ℕ)). IsSought hosts h.method h.target fs sought) at.fields
+    (subst (λ (t : List ℕ). IsSought hosts h.method t (fields_at buf spans r.headers) sought) at.path
+    (subst (λ (m : List ℕ). IsSought hosts m (span_bytes buf r.path) (fields_at buf spans r.headers) sought) at.method is))
 
 -- what is asked for, where the parser found a head
-pub goal_found : (hosts : Hosts) (buf : List ℕ) (spans : List HeaderSpan) (r : RequestSpans) (sought : Goal) → length spans ≡ 64
-    → ((h : RequestHead) (rest : List ℕ) → ReadsRequest buf h rest → length h.fields ≤ 64 → IsRequestAt buf spans r h) → IsRequestOf buf spans r
-    → ((h : RequestHead) → IsRequestAt buf spans r h → IsGoal hosts h sought) → IsGoalOf hosts buf sought
-goal_found hosts buf spans r sought room finds is asks = record {
-  whole = λ h rest reads few. asks h (finds h rest reads few);
-  none = λ many. absurd (omega (arith, room, fields_fit buf spans r.headers is.0.fields is.1.fields, many is.0 _ is.1.reads));
-}
+pub goal_found : (site : Site) (address : Option IpAddr) (buf : List ℕ) (spans : List HeaderSpan) (r : RequestSpans) (m t : List ℕ) (sought : Goal) → length spans ≡ MOST_FIELDS
+    → ((h : RequestHead) (rest : List ℕ) → ReadsRequest buf h rest → length h.fields ≤ MOST_FIELDS → IsRequestAt buf spans r h) → IsRequestOf buf spans r
+    → m ≡ span_bytes buf r.method → t ≡ span_bytes buf r.path → IsSoughtAt site address m t (fields_at buf spans r.headers) sought → IsGoalAt site address buf sought
+goal_found Register address buf spans r m t sought room finds is em et asks = asks
+goal_found (Page name) address buf spans r m t sought room finds is em et asks =
+    let hosts : Hosts = record { address = address; name = name } in
+    let asked : IsSought hosts (span_bytes buf r.method) (span_bytes buf r.path) (fields_at buf spans r.headers) sought =
+    subst (λ (t : List ℕ). IsSought hosts (span_bytes buf r.method) t (fields_at buf spans r.headers) sought) et
+    (subst (λ (m : List ℕ). IsSought hosts m t (fields_at buf spans r.headers) sought) em asks) in
+    record {
+      whole = λ h rest reads few. of_head hosts buf spans r h sought (finds h rest reads few) asked;
+      none = λ many. absurd (omega (arith, room, fields_fit buf spans r.headers is.0.fields is.1.fields, many is.0 _ is.1.reads));
+    }
 
-module _ (hosts : Hosts) (buf : List ℕ) (spans : List HeaderSpan) (r : RequestSpans) (named : Bool) (room : length spans ≡ 64)
-    (finds : (h : RequestHead) (rest : List ℕ) → ReadsRequest buf h rest → length h.fields ≤ 64 → IsRequestAt buf spans r h) (is : IsRequestOf buf spans r)
-    (names : IsTrue named ↔ AreForHost hosts buf spans r.headers) where
-  -- the fields of the spans are those of the head
-  host_named : named ≡ true → (h : RequestHead) → IsRequestAt buf spans r h → IsForHost hosts h
-  host_named holds h at = subst (All (NamesHost hosts)) at.fields (names.0 holds)
-
-  -- another host is asked for
-  pub goal_other : named ≡ false → IsGoalOf hosts buf goal.OtherHost
-  goal_other fails = goal_found hosts buf spans r goal.OtherHost room finds is (λ h at are.
-      let holds : named ≡ true = names.1 (subst (All (NamesHost hosts)) (sym at.fields) are) in
-      absurd cc)
-
-  module _ (m t : List ℕ) (paged : Bool) (em : m ≡ span_bytes buf r.method) (et : t ≡ span_bytes buf r.path)
-      (pages : IsTrue paged ↔ ((m ≡ codes "GET") × (t ≡ codes "/"))) (holds : named ≡ true) where
-    -- the page is asked for
-    pub goal_page : paged ≡ true → IsGoalOf hosts buf goal.Page
-    goal_page p = goal_found hosts buf spans r goal.Page room finds is (λ h at.
-        let asked = pages.0 p in
-        (host_named holds h at, (sym at.method ∙ sym em ∙ asked.0, sym at.path ∙ sym et ∙ asked.1)))
-
-    -- the register is asked for
-    pub goal_register : paged ≡ false → IsGoalOf hosts buf goal.Register
-    goal_register p = goal_found hosts buf spans r goal.Register room finds is (λ h at. (
-      host_named holds h at,
-      λ asked.
-          let shown : paged ≡ true = pages.1 (em ∙ at.method ∙ asked.0, et ∙ at.path ∙ asked.1) in
-          absurd cc,
-    ))
+-- the register is asked for, where it found none
+pub no_goal : (site : Site) (address : Option IpAddr) (buf : List ℕ) → ((h : RequestHead) (rest : List ℕ) → ReadsRequest buf h rest → MOST_FIELDS < length h.fields)
+    → IsGoalAt site address buf goal.Register
+no_goal Register address buf many = refl
+no_goal (Page name) address buf many = record { whole = λ h rest reads few. absurd (omega (arith, few, many h rest reads)); none = λ all. refl }

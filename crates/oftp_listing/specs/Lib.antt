@@ -5,9 +5,11 @@ pub mod Finding
 pub mod Heads
 pub mod Hiding
 pub mod Hosts
-pub mod InsideListed
+pub mod InsideQuery
+pub mod InsideResource
 pub mod Names
 pub mod Objects
+pub mod Queries
 pub mod Remembering
 pub mod Replies
 pub mod Reports

@@ -1,5 +1,6 @@
 -- The names of states, kinds and reasons in the listing and the reports.
-use Rattle.std.specs.Prelude.{ℕ, ◌/◌, ◌%◌, List, [], ◌++◌, codes, decimal, Bool, true, false, Option, Some, None}
+use Rattle.std.specs.Prelude.{ℕ, List, [], codes, Bool, true, false, Option, Some, None}
+use Rattle.oftp_wire.specs.Reasons.{two_digits}
 use Rattle.oftp_vfile.specs.declared.format.Format.{Format}
 use Rattle.oftp_vfile.specs.declared.format.Format.TheVariants as format
 use Rattle.oftp_register.specs.declared.entry.ResponseKind.{ResponseKind}
@@ -10,7 +11,9 @@ use Rattle.oftp_register.specs.declared.entry.OutgoingState.{OutgoingState}
 use Rattle.oftp_register.specs.declared.entry.OutgoingState.TheVariants.{Waiting, Closing, Handed, Refused, Delivered, Returned}
 use Rattle.oftp_register.specs.declared.entry.Dispatch.{Dispatch}
 use Rattle.oftp_register.specs.declared.entry.Dispatch.TheVariants.{Due, Sent}
+use Rattle.oftp_register.specs.declared.entries.IssuedEntry.{IssuedEntry}
 use Rattle.oftp_register.specs.declared.entries.IssuedResponse.{IssuedResponse}
+use Rattle.oftp_register.specs.declared.entries.ReceivedEntry.{ReceivedEntry}
 
 -- the letter of a format (RFC 5024, section 5.3.3)
 abbrev pub format_name : Format → List ℕ
@@ -40,10 +43,6 @@ outgoing_state_name (Refused reason) = codes "refused"
 outgoing_state_name Delivered = codes "delivered"
 outgoing_state_name Returned = codes "returned"
 
--- the two digits of a reason code
-abbrev pub two_digits : ℕ → List ℕ
-two_digits reason = decimal (reason / 10) ++ decimal (reason % 10)
-
 -- the reason of a refused file, empty for any other file
 abbrev pub refusal_name : OutgoingState → List ℕ
 refusal_name Waiting = []
@@ -57,6 +56,12 @@ refusal_name Returned = []
 abbrev pub reason_name : ResponseKind → ℕ → List ℕ
 reason_name EndResponse reason = []
 reason_name NegativeEndResponse reason = two_digits reason
+
+abbrev pub issued_reason : IssuedEntry → List ℕ
+issued_reason e = reason_name e.response.kind e.response.reason
+
+abbrev pub received_reason : ReceivedEntry → List ℕ
+received_reason e = reason_name e.response.kind e.response.reason
 
 -- whether a response was sent
 abbrev pub is_sent : Dispatch → Bool

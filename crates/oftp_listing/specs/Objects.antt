@@ -5,7 +5,7 @@ use Rattle.oftp_register.specs.declared.entries.IncomingEntry.{IncomingEntry}
 use Rattle.oftp_register.specs.declared.entries.OutgoingEntry.{OutgoingEntry}
 use Rattle.oftp_register.specs.declared.entries.IssuedEntry.{IssuedEntry}
 use Rattle.oftp_register.specs.declared.entries.ReceivedEntry.{ReceivedEntry}
-use Rattle.oftp_listing.specs.Names.{format_name, incoming_state_name, is_sent, kind_name, outgoing_state_name, reason_name, refusal_name, response_name}
+use Rattle.oftp_listing.specs.Names.{format_name, incoming_state_name, is_sent, issued_reason, kind_name, outgoing_state_name, received_reason, refusal_name, response_name}
 
 -- an object with these keys and values
 abbrev pub members : List (List ℕ × Data) → Members
@@ -56,7 +56,7 @@ abbrev pub issued_object : IssuedEntry → Data
 issued_object e = object (members (
     (codes "kind", string (kind_name e.response.kind))
     ∷ (codes "no", count e.no)
-    ∷ (codes "reason", string (reason_name e.response.kind e.response.reason))
+    ∷ (codes "reason", string (issued_reason e))
     ∷ (codes "sent", boolean (is_sent e.response.dispatch))
     ∷ []))
 
@@ -71,6 +71,6 @@ received_object e file = object (members (
     ∷ (codes "kind", string (kind_name e.response.kind))
     ∷ (codes "no", count e.no)
     ∷ (codes "note", string e.response.text)
-    ∷ (codes "reason", string (reason_name e.response.kind e.response.reason))
+    ∷ (codes "reason", string (received_reason e))
     ∷ (codes "time", string e.response.identity.time)
     ∷ []))

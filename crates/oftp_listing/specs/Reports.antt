@@ -6,7 +6,7 @@ use Rattle.oftp_io.specs.declared.port.Port.{Port}
 use Rattle.oftp_io.specs.Ports.{SentAll, SentPart}
 use Rattle.oftp_register.specs.Register.{Register}
 use Rattle.oftp_register.specs.LookUps.{list_in, list_issued, list_out, list_received, look_out, units_of}
-use Rattle.oftp_register.specs.Offices.{next_count}
+use Rattle.oftp_register.specs.Offices.{View, next_count}
 use Rattle.oftp_register.specs.declared.entries.Side.TheVariants as side
 use Rattle.oftp_register.specs.declared.entries.IncomingEntry.{IncomingEntry}
 use Rattle.oftp_register.specs.declared.entries.OutgoingEntry.{OutgoingEntry}
@@ -16,7 +16,7 @@ use Rattle.oftp_listing.specs.declared.fault.ListFault.{ListFault}
 use Rattle.oftp_listing.specs.declared.fault.ListFault.TheVariants.{Incomplete, Memory, Office, Write}
 use Rattle.oftp_listing.specs.declared.reports.ReportKind.{ReportKind}
 use Rattle.oftp_listing.specs.declared.reports.ReportKind.TheVariants.{Incoming, Outgoing, Issued, Received}
-use Rattle.oftp_listing.specs.Names.{format_name, incoming_state_name, is_sent, kind_name, outgoing_state_name, reason_name, refusal_name, response_name}
+use Rattle.oftp_listing.specs.Names.{format_name, incoming_state_name, is_sent, issued_reason, kind_name, outgoing_state_name, received_reason, refusal_name, response_name}
 use Rattle.oftp_listing.specs.Texts.{no_of}
 
 -- a line of comma-separated fields
@@ -38,14 +38,14 @@ outgoing_fields e units =
 -- a response that was issued to an incoming file
 abbrev pub issued_fields : IssuedEntry → List (List ℕ)
 issued_fields e =
-    decimal e.no ∷ kind_name e.response.kind ∷ reason_name e.response.kind e.response.reason
+    decimal e.no ∷ kind_name e.response.kind ∷ issued_reason e
     ∷ (if is_sent e.response.dispatch then codes "yes" else codes "no") ∷ []
 
 -- a received response to the outgoing file with this number, 0 where there is none
 abbrev pub received_fields : ReceivedEntry → ℕ → List (List ℕ)
 received_fields e file =
     decimal e.no ∷ kind_name e.response.kind ∷ e.response.identity.dataset ∷ e.response.identity.date ∷ e.response.identity.time
-    ∷ e.response.identity.destination ∷ reason_name e.response.kind e.response.reason ∷ decimal file ∷ e.response.creator ∷ []
+    ∷ e.response.identity.destination ∷ received_reason e ∷ decimal file ∷ e.response.creator ∷ []
 
 -- the first line: the names of the fields
 abbrev pub heading : ReportKind → List ℕ
@@ -96,6 +96,10 @@ TextOut contents old new text (Err Incomplete) = ⊥
 TextOut contents old new text (Err Memory) = new ≡ old
 TextOut contents old new text (Err Office) = new ≡ old
 TextOut contents old new text (Err Write) = SentPart contents old new text
+
+-- a report of the register has this out, if the office was open and its store reads what was written
+abbrev pub IsReported : {T W : Type 0} → (W → Option (List ℕ)) → ReportKind → (before after : View) → Port W → Port W → Result T ListFault → Type 0
+IsReported contents kind before after old new result = after.clean → before.stands → TextOut contents old new (report_of kind before.register) result
 
 -- the count of the writer's errors, by the result of a report
 abbrev pub WriterErr : {W : Type 0} → Port W → Port W → ListFault → Type 0

@@ -3,6 +3,7 @@ use Rattle.std.specs.Prelude.{ℕ, ◌==◌, ◌&&◌, Bool, false, not, nat_le,
 use Rattle.std.specs.List.{list_all}
 use Rattle.std.specs.Option.{option_map}
 use Rattle.oftp_wire.specs.Octets.{is_digit, number}
+use Rattle.oftp_listing.specs.declared.route.TheConstants.{MOST_DIGITS}
 use Rattle.oftp_listing.specs.declared.route.Route.{Route}
 use Rattle.oftp_listing.specs.declared.route.Route.TheVariants.{Incoming, IncomingFile, Outgoing, OutgoingFile, Responses}
 
@@ -11,9 +12,9 @@ abbrev pub is_unpadded : List ℕ → Bool
 is_unpadded [] = false
 is_unpadded (c ∷ text) = not (c == 48)
 
--- the number that a text of 1 to 7 digits without a leading zero stands for
+-- the number that a text of digits without a leading zero stands for, unless it is empty or they are too many
 unfoldable pub number_of : List ℕ → Option ℕ
-number_of text = if is_unpadded text && (nat_le (length text) 7 && list_all is_digit text) then Some (number text) else None
+number_of text = if is_unpadded text && (nat_le (length text) MOST_DIGITS && list_all is_digit text) then Some (number text) else None
 
 -- the rest of the text after a word, if it begins with that word
 abbrev pub behind : List ℕ → List ℕ → Option (List ℕ)

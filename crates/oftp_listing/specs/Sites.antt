@@ -6,6 +6,7 @@ use Rattle.httparse.specs.Spans.{name_and_value}
 use Rattle.oftp_register.specs.Offices.{View}
 use Rattle.oftp_listing.specs.declared.fault.ListFault.{ListFault}
 use Rattle.oftp_listing.specs.declared.fault.ListFault.TheVariants.{Memory}
+use Rattle.oftp_listing.specs.declared.head.TheConstants.{MOST_FIELDS}
 use Rattle.oftp_listing.specs.declared.hosts.Hosts.{Hosts}
 use Rattle.oftp_listing.specs.declared.site.Goal.{Goal}
 use Rattle.oftp_listing.specs.declared.site.Goal.TheVariants as goal
@@ -17,25 +18,29 @@ use Rattle.oftp_listing.specs.Hosts.{NamesHost}
 use Rattle.oftp_listing.specs.Replies.{Says, Sent, page_text}
 use Rattle.oftp_listing.specs.Texts.{Answers, Refuses}
 
--- each field Host of the head names this host
-abbrev pub IsForHost : Hosts → RequestHead → Type 0
-IsForHost hosts head = All (NamesHost hosts) (map name_and_value head.fields)
+-- each field Host of these names and values names this host
+abbrev pub IsForHost : Hosts → List (List ℕ × List ℕ) → Type 0
+IsForHost hosts fields = All (NamesHost hosts) fields
 
--- the head is that of GET for the page
-abbrev pub IsForPage : RequestHead → Type 0
-IsForPage head = (head.method ≡ codes "GET") × (head.target ≡ codes "/")
+-- it is GET for the page
+abbrev pub IsForPage : (method target : List ℕ) → Type 0
+IsForPage method target = (method ≡ codes "GET") × (target ≡ codes "/")
+
+-- this is what a head asks for with this method, this target and these fields
+abbrev pub IsSought : Hosts → (method target : List ℕ) → (fields : List (List ℕ × List ℕ)) → Goal → Type 0
+IsSought hosts method target fields goal.OtherHost = ¬ (IsForHost hosts fields)
+IsSought hosts method target fields goal.Page = IsForHost hosts fields × IsForPage method target
+IsSought hosts method target fields goal.Register = IsForHost hosts fields × ¬ (IsForPage method target)
 
 -- this is what a head asks for
 abbrev pub IsGoal : Hosts → RequestHead → Goal → Type 0
-IsGoal hosts head goal.OtherHost = ¬ (IsForHost hosts head)
-IsGoal hosts head goal.Page = IsForHost hosts head × IsForPage head
-IsGoal hosts head goal.Register = IsForHost hosts head × ¬ (IsForPage head)
+IsGoal hosts head sought = IsSought hosts head.method head.target (map name_and_value head.fields) sought
 
--- This is what the octets of a request ask for. Octets that don't begin with a head of at most 64 fields ask for the register, which has no
+-- This is what the octets of a request ask for. Octets that don't begin with a head of so few fields ask for the register, which has no
 -- reply for them but an error.
 pub record IsGoalOf (hosts : Hosts) (request : List ℕ) (sought : Goal) : Type 0 where
-  pub whole : (head : RequestHead) (rest : List ℕ) → ReadsRequest request head rest → length head.fields ≤ 64 → IsGoal hosts head sought
-  pub none : ((head : RequestHead) (rest : List ℕ) → ReadsRequest request head rest → 64 < length head.fields) → sought ≡ goal.Register
+  pub whole : (head : RequestHead) (rest : List ℕ) → ReadsRequest request head rest → length head.fields ≤ MOST_FIELDS → IsGoal hosts head sought
+  pub none : ((head : RequestHead) (rest : List ℕ) → ReadsRequest request head rest → MOST_FIELDS < length head.fields) → sought ≡ goal.Register
 
 -- this is what a request asks for that was sent to this address of the site
 abbrev pub IsGoalAt : Site → Option IpAddr → List ℕ → Goal → Type 0

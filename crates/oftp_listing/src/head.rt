@@ -1,18 +1,15 @@
-//! Reading the head of an HTTP request.
+//! The head of an HTTP request.
 
-ghost use Rattle.std.specs.Prelude.{◌≡◌};
-ghost use Rattle.oftp_listing.specs.Heads.{Heard, Hears, Reads, is_whole};
+ghost use Rattle.std.specs.Prelude.{◌↔◌, ◌<◌, IsTrue, length};
+ghost use Rattle.oftp_listing.specs.InsideQuery.{IsBegun, IsHeadOf};
 
-use httparse::Status;
-use httparse::spans::{EMPTY_HEADER_SPAN, parse_request};
-
-/// The most octets of a request.
-const MOST_OCTETS: usize = 8192;
+/// The most octets of a request over HTTP.
+pub const LONGEST_HEAD: usize = 8_192;
 
 /// The most fields of a head.
 pub(crate) const MOST_FIELDS: usize = 64;
 
-/// The result of reading a request.
+/// The result of reading a head.
 #[derive(Drop)]
 pub(crate) enum Head<'a> {
     /// The octets are the beginning of a head.
@@ -28,34 +25,33 @@ pub(crate) enum Head<'a> {
     },
 }
 
-/// Reads the head of a request.
-pub(crate) fn read_head(request: &[u8]) -> Head<'_>
-    ensures { (heard : Heard) → Hears request.now heard → Reads heard result }
+// Whether a request has too many octets.
+fn is_long(request: &[u8]) -> bool
+    ensures { IsTrue result ↔ (LONGEST_HEAD < length request.now) }
 {
-    if request.len() > MOST_OCTETS {
+    request.len() > LONGEST_HEAD
+}
+
+/// The whole head of a request, with this method and this target.
+pub(crate) fn whole_head<'a>(request: &[u8], method: &'a [u8], target: &'a [u8]) -> Head<'a>
+    ensures { IsHeadOf request.now method.now target.now result }
+{
+    if is_long(request) {
         return Head::Refused;
     }
-    let mut fields = [EMPTY_HEADER_SPAN; MOST_FIELDS];
-    match parse_request(request, &mut fields) {
-        Ok(Status::Complete(head)) => match str::from_utf8(head.path.of(request)) {
-            Ok(target) => Head::Whole {
-                method: head.method.of(request),
-                target,
-            },
-            Err(_) => Head::Refused,
-        },
-        Ok(Status::Partial) => Head::Unfinished,
+    match str::from_utf8(target) {
+        Ok(target) => Head::Whole { method, target },
         Err(_) => Head::Refused,
     }
 }
 
-/// Whether there is a reply to the octets of a request: they are a whole head and perhaps more, or aren't accepted as the beginning of one.
-/// Else [`answer`](crate::answer) returns [`ListFault::Incomplete`](crate::ListFault::Incomplete).
-pub fn is_whole(request: &[u8]) -> bool
-    ensures { (heard : Heard) → Hears request.now heard → result ≡ is_whole heard }
+/// The head of a request of which only the beginning is there.
+pub(crate) fn begun_head(request: &[u8]) -> Head<'static>
+    ensures { IsBegun request.now result }
 {
-    match read_head(request) {
-        Head::Unfinished => false,
-        Head::Refused | Head::Whole { .. } => true,
+    if is_long(request) {
+        Head::Refused
+    } else {
+        Head::Unfinished
     }
 }

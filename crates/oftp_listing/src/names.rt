@@ -1,7 +1,8 @@
 //! The names of states, kinds and reasons in the listing and the reports.
 
 ghost use Rattle.std.specs.Prelude.{◌≡◌, ◌<◌, IfOk, string_bytes};
-ghost use Rattle.oftp_listing.specs.Names.{format_name, incoming_state_name, is_sent, kind_name, outgoing_state_name, reason_name, refusal_name, response_name, two_digits};
+ghost use Rattle.oftp_wire.specs.Reasons.{two_digits};
+ghost use Rattle.oftp_listing.specs.Names.{format_name, incoming_state_name, is_sent, kind_name, outgoing_state_name, reason_name, refusal_name, response_name};
 
 use oftp_register::{
     DigitString, Dispatch, IncomingState, IssuedResponse, Name, OutgoingState, ResponseKind,
@@ -11,14 +12,14 @@ use oftp_wire::Count;
 use std::alloc::{AllocError, Global};
 
 /// A name as a text.
-pub(crate) fn name_text<const N: usize>(name: &Name<N>) -> &str
+pub fn name_text<const N: usize>(name: &Name<N>) -> &str
     ensures { result.now ≡ name.now }
 {
     str::from_utf8(name.octets()).unwrap()
 }
 
 /// Digits as a text.
-pub(crate) fn digit_text<const N: usize>(digits: &DigitString<N>) -> &str
+pub fn digit_text<const N: usize>(digits: &DigitString<N>) -> &str
     ensures { result.now ≡ digits.now }
 {
     str::from_utf8(digits.octets()).unwrap()

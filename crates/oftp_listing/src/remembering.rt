@@ -15,7 +15,7 @@ use std::alloc::Global;
 /// An office that remembers the numbers of octets of its files, as long as it lives. It remembers those of whole incoming files and of
 /// outgoing files, whose rows no change alters. Everything else is asked of the office in it.
 ///
-/// That office may also be used directly. Each of its changes leaves what is remembered true, as [`counts_stay`](crate::counts_stay) says.
+/// That office may also be used directly. Each of its changes leaves what is remembered true, as [`counts_stay`](crate::laws::counts_stay) says.
 #[derive(Drop)]
 pub struct RememberingOffice<O> {
     /// The office in it.

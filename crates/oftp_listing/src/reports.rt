@@ -1,24 +1,23 @@
 //! Reports as CSV.
 
 ghost use Rattle.std.specs.Prelude.{◌≡◌, ◌++◌, IfErr, IfOk, map};
-ghost use Rattle.std.specs.List.{flat_map};
 ghost use Rattle.csv.specs.Records.{fields_of};
 ghost use Rattle.oftp_io.specs.Ports.{Puts};
 ghost use Rattle.oftp_listing.specs.declared.fault.ListFault.TheVariants.{Memory};
 ghost use Rattle.oftp_listing.specs.Details.{text_of};
 ghost use Rattle.oftp_listing.specs.Finding.{Finds};
-ghost use Rattle.oftp_listing.specs.InsideListed.{line_in, lines_beside};
-ghost use Rattle.oftp_listing.specs.Names.{reason_name, refusal_name};
-ghost use Rattle.oftp_listing.specs.Reports.{Reports, TextOut, WriterTold, heading, incoming_fields, issued_fields, line, outgoing_fields, received_fields, report_of};
+ghost use Rattle.oftp_listing.specs.InsideResource.{all_lines, lines_with};
+ghost use Rattle.oftp_listing.specs.Names.{issued_reason, received_reason, refusal_name};
+ghost use Rattle.oftp_listing.specs.Reports.{IsReported, Reports, WriterTold, heading, incoming_fields, issued_fields, line, outgoing_fields, received_fields, report_of};
 ghost use Rattle.oftp_listing.specs.Texts.{Asks};
 
 use crate::detail::Detail;
 use crate::fault::ListFault;
-use crate::listed::{Listed, list_with_numbers};
 use crate::names::{
     digit_text, format_name, incoming_state_name, is_sent, kind_name, name_text,
     outgoing_state_name, reason_name, refusal_name, response_name,
 };
+use crate::resource::{Resource, list_with_numbers};
 use csv::{ByteRecord, WriterBuilder};
 use oftp_io::Port;
 use oftp_register::{IncomingEntry, IssuedEntry, Office, OutgoingEntry, ReceivedEntry};
@@ -74,13 +73,10 @@ pub(crate) fn line(alloc: Global, details: &[Detail<'_>]) -> Result<Vec<u8>, Lis
 {
     let fields = record_of(alloc, details)?;
     let mut lines = WriterBuilder::new().from_writer(Vec::new(alloc));
-    if lines.write_byte_record(&fields).is_err() {
-        return Err(ListFault::Memory);
-    }
-    match lines.into_inner() {
-        Ok(text) => Ok(text),
-        Err(_) => Err(ListFault::Memory),
-    }
+    lines
+        .write_byte_record(&fields)
+        .map_err(|_| ListFault::Memory)?;
+    lines.into_inner().map_err(|_| ListFault::Memory)
 }
 
 /// The details of an incoming file.
@@ -126,7 +122,7 @@ pub(crate) fn outgoing_details<'a>(
 
 /// The details of an issued response, with its reason.
 pub(crate) fn issued_details<'a>(entry: &'a IssuedEntry, reason: &'a str) -> [Detail<'a>; 4]
-    ensures { reason.now ≡ reason_name entry.now.response.kind entry.now.response.reason → map text_of result ≡ issued_fields entry.now }
+    ensures { reason.now ≡ issued_reason entry.now → map text_of result ≡ issued_fields entry.now }
 {
     [
         Detail::Count(entry.no),
@@ -142,7 +138,7 @@ pub(crate) fn received_details<'a>(
     reason: &'a str,
     file: u64,
 ) -> [Detail<'a>; 9]
-    ensures { reason.now ≡ reason_name entry.now.response.kind entry.now.response.reason → map text_of result ≡ received_fields entry.now file }
+    ensures { reason.now ≡ received_reason entry.now → map text_of result ≡ received_fields entry.now file }
 {
     let response = &entry.response;
     [
@@ -159,13 +155,13 @@ pub(crate) fn received_details<'a>(
 }
 
 // Appends the lines of entries, each with the number beside it.
-fn add_each_line<E: Listed>(
+fn add_each_line<E: Resource>(
     alloc: Global,
     front: Vec<u8>,
     entries: &[E],
     numbers: &[u64],
 ) -> Result<Vec<u8>, ListFault>
-    ensures text { IfOk result (λ text. text.items ≡ front.items ++ lines_beside E.kind entries.now numbers.now) }
+    ensures text { IfOk result (λ text. text.items ≡ front.items ++ lines_with E.kind entries.now numbers.now) }
     ensures fault { IfErr result (λ fault. fault ≡ Memory) }
 {
     let mut text = front;
@@ -176,12 +172,12 @@ fn add_each_line<E: Listed>(
 }
 
 // Appends the lines of all entries of a kind to the text.
-fn add_lines<E: Listed + Drop, O: Office>(
+fn add_lines<E: Resource + Drop, O: Office>(
     alloc: Global,
     front: Vec<u8>,
     office: &mut O,
 ) -> Result<Vec<u8>, ListFault>
-    ensures finds { Finds (λ r text. text.items ≡ front.items ++ flat_map (line_in E.kind r) (E.kind.entries r)) (O.view office.old) (O.view office.new) result }
+    ensures finds { Finds (λ r text. text.items ≡ front.items ++ all_lines E.kind r) (O.view office.old) (O.view office.new) result }
 {
     let (entries, numbers) = list_with_numbers::<E, O>(alloc, office)?;
     add_each_line(alloc, front, entries.as_slice(), numbers.as_slice())
@@ -218,8 +214,7 @@ pub fn report<O: Office, W: Write>(
     office: &mut O,
     writer: &mut Port<W>,
 ) -> Result<(), ListFault>
-    ensures text { (O.view office.new).clean → (O.view office.old).stands
-        → TextOut W.contents writer.old writer.new (report_of kind (O.view office.old).register) result }
+    ensures text { IsReported W.contents kind (O.view office.old) (O.view office.new) writer.old writer.new result }
     ensures asks { Asks (O.view office.old) (O.view office.new) }
     ensures told { Reports (O.view office.old).told (O.view office.new).told (writer.new ≡ writer.old) result }
     ensures out { Puts W.contents writer.old writer.new }

@@ -10,9 +10,12 @@ use crate::fault::ListFault;
 use matchit::{InsertError, Params, Router};
 use std::alloc::Global;
 
+/// The most digits of a file's number.
+const MOST_DIGITS: usize = 7;
+
 /// The route of a target.
 #[derive(Clone, Copy, Debug, Drop, PartialEq, Eq)]
-pub(crate) enum Route {
+pub enum Route {
     /// All incoming files.
     Incoming,
     /// The incoming file with a number.
@@ -35,12 +38,12 @@ enum Place {
     Responses,
 }
 
-// The number that a text of 1 to 7 digits without a leading zero stands for.
+// The number that a text of digits without a leading zero stands for, unless they are too many.
 #[tactic(auto, unfolding(crate::specs::Routes::number_of))]
 fn number(text: &[u8]) -> Option<u64>
     ensures { result ≡ number_of text.now }
 {
-    if text.is_empty() || text[0] == b'0' || text.len() > 7 {
+    if text.is_empty() || text[0] == b'0' || text.len() > MOST_DIGITS {
         return None;
     }
     let mut sum: u64 = 0;
@@ -106,8 +109,6 @@ fn route_in(router: &Router<Place>, target: &str) -> Option<Route>
 pub(crate) fn find_route(alloc: Global, target: &str) -> Result<Option<Route>, ListFault>
     ensures { MatchResult result (λ route. route ≡ route_at target.now) (λ fault. fault ≡ Memory) }
 {
-    match router(alloc) {
-        Ok(router) => Ok(route_in(&router, target)),
-        Err(_) => Err(ListFault::Memory),
-    }
+    let router = router(alloc).map_err(|_| ListFault::Memory)?;
+    Ok(route_in(&router, target))
 }

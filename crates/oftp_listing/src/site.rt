@@ -1,21 +1,12 @@
-//! What a request over HTTP gets at a site: the register, the page, or an error since it is for another host.
+//! What a head asks for at a site: the register, the page, or another host.
 
-ghost use Rattle.std.specs.Prelude.{◌≡◌, ◌↔◌, IfOk, IsTrue, codes};
-ghost use Rattle.oftp_listing.specs.Replies.{Says, page_text};
-ghost use Rattle.oftp_listing.specs.Sites.{IsGoalAt, IsGoalOf, IsRepliedAt};
-ghost use Rattle.oftp_listing.specs.Texts.{Asks, TellsOffice};
-ghost use Rattle.oftp_listing.specs.declared.state.OfficeState.TheVariants.{Working};
+ghost use Rattle.std.specs.Prelude.{◌≡◌, ◌↔◌, All, IsTrue, codes, length, map};
+ghost use Rattle.httparse.specs.Spans.{IsHeaderWithin, header_bytes};
+ghost use Rattle.oftp_listing.specs.InsideQuery.{IsSoughtAt};
+ghost use Rattle.oftp_listing.specs.Sites.{IsSought};
 
-use crate::fault::ListFault;
-use crate::head::MOST_FIELDS;
 use crate::hosts::{Hosts, all_name_host};
-use crate::listing::answer;
-use crate::reply::{Reply, error_reply, page_reply};
-use http::StatusCode;
-use httparse::Status;
-use httparse::spans::{EMPTY_HEADER_SPAN, parse_request};
-use oftp_register::Office;
-use std::alloc::Global;
+use httparse::spans::HeaderSpan;
 use std::net::IpAddr;
 
 /// What requests over HTTP are answered.
@@ -45,59 +36,40 @@ fn is_for_page(method: &[u8], target: &[u8]) -> bool
     method == b"GET".as_slice() && target == b"/".as_slice()
 }
 
-// What a request asks for, of these hosts.
-fn goal_of(hosts: Hosts<'_>, request: &[u8]) -> Goal
-    ensures { IsGoalOf hosts.entry request.now result }
+// What a head asks for with this method, this target and these fields, of these hosts.
+fn goal_of(
+    hosts: Hosts<'_>,
+    request: &[u8],
+    method: &[u8],
+    target: &[u8],
+    fields: &[HeaderSpan],
+) -> Goal
+    requires { All (IsHeaderWithin (length request.now)) fields.now }
+    ensures { IsSought hosts.entry method.now target.now (map (header_bytes request.now) fields.now) result }
 {
-    let mut fields = [EMPTY_HEADER_SPAN; MOST_FIELDS];
-    match parse_request(request, &mut fields) {
-        Ok(Status::Complete(head)) => {
-            if !all_name_host(hosts, request, &fields[..head.headers]) {
-                Goal::OtherHost
-            } else if is_for_page(head.method.of(request), head.path.of(request)) {
-                Goal::Page
-            } else {
-                Goal::Register
-            }
-        }
-        Ok(Status::Partial) => Goal::Register,
-        Err(_) => Goal::Register,
+    if !all_name_host(hosts, request, fields) {
+        Goal::OtherHost
+    } else if is_for_page(method, target) {
+        Goal::Page
+    } else {
+        Goal::Register
     }
 }
 
-// What a request asks for that was sent to an address of the site.
-fn goal_at(site: Site<'_>, address: Option<IpAddr>, request: &[u8]) -> Goal
-    ensures { IsGoalAt site.entry address request.now result }
+/// What a head asks for with this method, this target and these fields, that was sent to an address of the site.
+pub(crate) fn goal_at(
+    site: Site<'_>,
+    address: Option<IpAddr>,
+    request: &[u8],
+    method: &[u8],
+    target: &[u8],
+    fields: &[HeaderSpan],
+) -> Goal
+    requires { All (IsHeaderWithin (length request.now)) fields.now }
+    ensures { IsSoughtAt site.entry address method.now target.now (map (header_bytes request.now) fields.now) result }
 {
     match site {
         Site::Register => Goal::Register,
-        Site::Page(name) => goal_of(Hosts { address, name }, request),
-    }
-}
-
-/// The reply to an HTTP request at a site, with this page, that was sent to this address if it is known. A site with the page is for this
-/// machine alone: if a field `Host` names another host, the reply is 400. Else the page is the reply to GET for `/`, and [`answer`] has the
-/// other replies.
-///
-/// # Errors
-///
-/// As [`answer`].
-pub fn reply_at<O: Office>(
-    alloc: Global,
-    site: Site<'_>,
-    page: &str,
-    address: Option<IpAddr>,
-    request: &[u8],
-    office: &mut O,
-) -> Result<Reply, ListFault>
-    ensures replies { IsRepliedAt site.entry page.now address request.now (O.view office.old) (O.view office.new) result }
-    // These hold of all octets.
-    ensures asks { Asks (O.view office.old) (O.view office.new) }
-    ensures office { TellsOffice (O.view office.old) (O.view office.new) result }
-{
-    match goal_at(site, address, request) {
-        Goal::Register => answer(alloc, request, office),
-        Goal::Page => Ok(page_reply(alloc, page)?),
-        Goal::OtherHost => Ok(error_reply(alloc, StatusCode::BAD_REQUEST)?),
+        Site::Page(name) => goal_of(Hosts { address, name }, request, method, target, fields),
     }
 }

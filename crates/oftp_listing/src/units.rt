@@ -1,13 +1,11 @@
 //! The number of octets of each file that the office returned in a list.
 
-ghost use Rattle.std.specs.Prelude.{◌≡◌, ◌≤◌, length, map};
+ghost use Rattle.std.specs.Prelude.{◌≡◌, ◌≤◌, length};
 ghost use Rattle.oftp_vfile.specs.VirtualFile.{units_in};
 ghost use Rattle.oftp_register.specs.LookUps.{file_rows, units_of};
 ghost use Rattle.oftp_register.specs.Offices.{LooksUp};
-ghost use Rattle.oftp_register.specs.Units.{units_in_blocks};
-ghost use Rattle.oftp_register.specs.declared.fit.TheConstants.{MOST_UNITS};
 ghost use Rattle.oftp_listing.specs.Finding.{Finds};
-ghost use Rattle.oftp_listing.specs.InsideListed.{EntryKind, IsAmong, IsListed, incoming_files, outgoing_files};
+ghost use Rattle.oftp_listing.specs.InsideResource.{AreRelated, CountsBlocks, EntryKind, IsAmong, IsListed, incoming_files, outgoing_files};
 
 use crate::fault::ListFault;
 use oftp_register::{IncomingEntry, Office, OfficeFault, OutgoingEntry, Side};
@@ -25,9 +23,13 @@ fn octets_of(rows: &Rows) -> u64
 }
 
 // The number of octets of a file with this number of rows, which are all full blocks but the last. Only the last row is read.
-fn ask_blocks<O: Office>(office: &mut O, side: Side, no: u64, rows: u64) -> Result<u64, OfficeFault>
-    ensures looks { LooksUp (λ r units. rows ≡ length (file_rows r side no) → units_in_blocks (file_rows r side no) ≤ MOST_UNITS → units ≡ units_in_blocks (file_rows r side no))
-        (O.view office.old) (O.view office.new) result }
+fn units_in_blocks<O: Office>(
+    office: &mut O,
+    side: Side,
+    no: u64,
+    rows: u64,
+) -> Result<u64, OfficeFault>
+    ensures looks { LooksUp (λ r units. CountsBlocks rows (file_rows r side no) units) (O.view office.old) (O.view office.new) result }
 {
     let full = rows.saturating_sub(1);
     let last = office.rows_of(side, no, full, 1)?;
@@ -39,7 +41,7 @@ fn ask_blocks<O: Office>(office: &mut O, side: Side, no: u64, rows: u64) -> Resu
 
 // The number of octets of a file that the office returned in a list, with its number, its format, its longest record in octets and its
 // number of rows. In format F no row is read, in U and T the last one, and in V the office measures each.
-fn ask_units<O: Office>(
+fn units_of_file<O: Office>(
     office: &mut O,
     side: Side,
     no: u64,
@@ -52,7 +54,7 @@ fn ask_units<O: Office>(
     match format {
         Format::Fixed => Ok(rows.saturating_mul(u64::from(longest))),
         Format::Variable => office.units_of(side, no),
-        Format::Unstructured | Format::Text => ask_blocks(office, side, no, rows),
+        Format::Unstructured | Format::Text => units_in_blocks(office, side, no, rows),
     }
 }
 
@@ -62,15 +64,15 @@ pub(crate) trait Measured: Sized {
     ghost kind: { EntryKind Self };
 
     /// The number of octets of a file that the office returned in a list.
-    fn ask_in_list<O: Office>(&self, office: &mut O) -> Result<u64, OfficeFault>
-        ensures looks { LooksUp (λ r units. IsAmong self.now (kind.entries r) → units ≡ kind.beside r self.now) (O.view office.old) (O.view office.new) result };
+    fn units_in_list<O: Office>(&self, office: &mut O) -> Result<u64, OfficeFault>
+        ensures looks { LooksUp (λ r units. IsAmong self.now (kind.entries r) → units ≡ kind.related r self.now) (O.view office.old) (O.view office.new) result };
 }
 
 impl Measured for IncomingEntry {
     ghost kind = { incoming_files };
 
-    fn ask_in_list<O: Office>(&self, office: &mut O) -> Result<u64, OfficeFault> {
-        ask_units(
+    fn units_in_list<O: Office>(&self, office: &mut O) -> Result<u64, OfficeFault> {
+        units_of_file(
             office,
             Side::Incoming,
             self.no,
@@ -84,8 +86,8 @@ impl Measured for IncomingEntry {
 impl Measured for OutgoingEntry {
     ghost kind = { outgoing_files };
 
-    fn ask_in_list<O: Office>(&self, office: &mut O) -> Result<u64, OfficeFault> {
-        ask_units(
+    fn units_in_list<O: Office>(&self, office: &mut O) -> Result<u64, OfficeFault> {
+        units_of_file(
             office,
             Side::Outgoing,
             self.no,
@@ -101,16 +103,16 @@ impl Measured for OutgoingEntry {
 /// # Errors
 ///
 /// [`ListFault::Office`]: the office returned an error. [`ListFault::Memory`]: out of memory.
-pub(crate) fn ask_each<F: Measured, O: Office>(
+pub(crate) fn units_of_each<F: Measured, O: Office>(
     alloc: Global,
     files: &[F],
     office: &mut O,
 ) -> Result<Vec<u64>, ListFault>
-    ensures { Finds (λ r numbers. files.now ≡ F.kind.entries r → numbers.items ≡ map (F.kind.beside r) (F.kind.entries r)) (O.view office.old) (O.view office.new) result }
+    ensures { Finds (λ r numbers. files.now ≡ F.kind.entries r → AreRelated F.kind r numbers.items) (O.view office.old) (O.view office.new) result }
 {
     let mut numbers = Vec::with_capacity(alloc, files.len())?;
     for file in files {
-        let units = file.ask_in_list(office)?;
+        let units = file.units_in_list(office)?;
         numbers.push(units)?;
     }
     Ok(numbers)

@@ -4,5 +4,6 @@ pub mod Ended
 pub mod Fetched
 pub mod Judged
 pub mod Listed
+pub mod LookedUp
 pub mod Operated
 pub mod Verbs

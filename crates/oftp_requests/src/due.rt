@@ -1,7 +1,8 @@
 //! For whom something waits, so that the clock calls them.
 
-ghost use Rattle.std.specs.Prelude.{◌≡◌, IfErr, IfOk};
+ghost use Rattle.std.specs.Prelude.{◌≡◌, IfErr};
 ghost use Rattle.oftp_requests.specs.Due.{has_item, is_due, is_due_to};
+ghost use Rattle.oftp_requests.specs.LookedUp.{IsLookedUp};
 
 use oftp_engine::RunFault;
 use oftp_outcomes::Fault;
@@ -21,8 +22,7 @@ const FIRST: Cursor = Cursor {
 /// # Errors
 /// [`Fault::Run`] with [`RunFault::Office`]: the office failed.
 pub fn is_due<O: Office>(book: &Book, code: &str, office: &mut O) -> Result<bool, Fault>
-    ensures due { (O.view office.new).clean → (O.view office.old).stands
-        → IfOk result (λ due. due ≡ is_due book.now (O.view office.old).register code.now) }
+    ensures due { IsLookedUp (λ r. is_due book.now r code.now) (O.view office.old) (O.view office.new) result }
     ensures fails { IfErr result (λ fault. fault ≡ Fault.Run RunFault.Office) }
 {
     match book.partner(code.as_bytes()) {
@@ -33,8 +33,7 @@ pub fn is_due<O: Office>(book: &Book, code: &str, office: &mut O) -> Result<bool
 
 /// Whether something waits for a partner.
 fn is_due_to<O: Office>(partner: &Partner, office: &mut O) -> Result<bool, Fault>
-    ensures due { (O.view office.new).clean → (O.view office.old).stands
-        → IfOk result (λ due. due ≡ is_due_to (O.view office.old).register partner.now) }
+    ensures due { IsLookedUp (λ r. is_due_to r partner.now) (O.view office.old) (O.view office.new) result }
     ensures fails { IfErr result (λ fault. fault ≡ Fault.Run RunFault.Office) }
 {
     match partner.mode {
@@ -45,8 +44,7 @@ fn is_due_to<O: Office>(partner: &Partner, office: &mut O) -> Result<bool, Fault
 
 /// Whether there is something to be sent to a partner.
 fn has_item<O: Office>(partner: &Partner, office: &mut O) -> Result<bool, Fault>
-    ensures item { (O.view office.new).clean → (O.view office.old).stands
-        → IfOk result (λ due. due ≡ has_item (O.view office.old).register partner.now.code) }
+    ensures item { IsLookedUp (λ r. has_item r partner.now.code) (O.view office.old) (O.view office.new) result }
     ensures fails { IfErr result (λ fault. fault ≡ Fault.Run RunFault.Office) }
 {
     let code = Name::of(&partner.code.field());

@@ -4,6 +4,7 @@ ghost use Rattle.std.specs.Prelude.{◌≡◌, IfOk, IfErr};
 ghost use Rattle.oftp_register.specs.LookUps.{in_by_no};
 ghost use Rattle.oftp_listing.specs.Texts.{Asks};
 ghost use Rattle.oftp_requests.specs.Fetched.{handed_out};
+ghost use Rattle.oftp_requests.specs.LookedUp.{IsLookedUp};
 
 use oftp_engine::{Refusal, RunFault};
 use oftp_outcomes::Fault;
@@ -18,8 +19,7 @@ pub fn entry_to_fetch<O: Office>(
     office: &mut O,
     no: u64,
 ) -> Result<Result<IncomingEntry, Refusal>, Fault>
-    ensures finds { (O.view office.new).clean → (O.view office.old).stands
-        → IfOk result (λ found. found ≡ handed_out (in_by_no (O.view office.old).register no)) }
+    ensures finds { IsLookedUp (λ r. handed_out (in_by_no r no)) (O.view office.old) (O.view office.new) result }
     // This holds also where the store doesn't read what was written.
     ensures whole { IfOk result (λ found. IfOk found (λ entry. entry.state ≡ IncomingState.Whole)) }
     ensures asks { Asks (O.view office.old) (O.view office.new) }

@@ -6,8 +6,9 @@ ghost use Rattle.oftp_requests.specs.Listed.{is_unanswered};
 use crate::ended::GONE;
 use oftp_channel::{Ending, ListedFile, write_entry};
 use oftp_engine::{Port, RunFault};
+use oftp_listing::{digit_text, name_text};
 use oftp_outcomes::Fault;
-use oftp_register::{DigitString, Identity, IncomingEntry, IncomingState, Name, Office};
+use oftp_register::{Identity, IncomingEntry, IncomingState, Office};
 use std::io::Write;
 
 /// Whether an incoming file is whole and has no response.
@@ -34,7 +35,7 @@ pub(crate) fn list_unanswered<O: Office, W: Write>(
     for entry in &entries {
         if is_unanswered(entry) {
             let identity = &entry.identity;
-            write_file(entry.no, identity, text_of(&identity.originator), out)?;
+            write_file(entry.no, identity, name_text(&identity.originator), out)?;
         }
     }
     Ok(Ending::Listed)
@@ -53,7 +54,7 @@ pub(crate) fn list_outgoing<O: Office, W: Write>(
         return Err(GONE);
     };
     for entry in &entries {
-        let code = text_of(&entry.identity.destination);
+        let code = name_text(&entry.identity.destination);
         if code == to {
             write_file(entry.no, &entry.identity, code, out)?;
         }
@@ -70,9 +71,9 @@ fn write_file<W: Write>(
 ) -> Result<(), Fault> {
     let file = ListedFile {
         no,
-        dataset: text_of(&identity.dataset),
-        date: digits_of(&identity.date),
-        time: digits_of(&identity.time),
+        dataset: name_text(&identity.dataset),
+        date: digit_text(&identity.date),
+        time: digit_text(&identity.time),
         code,
     };
     if write_entry(out, &file) {
@@ -80,14 +81,4 @@ fn write_file<W: Write>(
     } else {
         Err(Fault::Run(RunFault::Write))
     }
-}
-
-/// A name as a text.
-fn text_of<const N: usize>(name: &Name<N>) -> &str {
-    str::from_utf8(name.octets()).unwrap_or("")
-}
-
-/// Digits as a text.
-fn digits_of<const N: usize>(digits: &DigitString<N>) -> &str {
-    str::from_utf8(digits.octets()).unwrap_or("")
 }

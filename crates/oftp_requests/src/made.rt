@@ -3,7 +3,7 @@
 use crate::answers::answer_of;
 use crate::judging::office_after;
 use oftp_channel::Ending;
-use oftp_listing::{ListFault, OfficeState, Reply, Site, reply_of_any, stopping_reply};
+use oftp_listing::{ListFault, OfficeState, Query, Reply, stopping_reply};
 use oftp_outcomes::{Fault, Trouble};
 use std::alloc::Global;
 
@@ -52,16 +52,11 @@ impl Made {
         (Made { octets, office }, Some(Trouble::OfService(fault)))
     }
 
-    /// The answer to a request over HTTP whatever the register has, if it is such a request. A site with the page looks further.
-    pub fn of_any(alloc: Global, site: Site<'_>, request: &[u8]) -> Option<Made> {
-        match site {
-            Site::Register => {
-                let reply = reply_of_any(alloc, request).ok()??;
-                let (made, _) = Made::of_reply(alloc, Ok(reply));
-                Some(made)
-            }
-            Site::Page(_) => None,
-        }
+    /// The answer to what is asked for over HTTP whatever the register has, if there is one.
+    pub fn of_any(alloc: Global, query: Query) -> Option<Made> {
+        let reply = query.reply_of_any(alloc).ok()??;
+        let (made, _) = Made::of_reply(alloc, Ok(reply));
+        Some(made)
     }
 }
 

@@ -3,7 +3,7 @@
 use crate::peer::{Came, MOST_REQUEST_OCTETS, Peer, Reading, Task};
 use crate::service::{Shell, peer_in};
 use oftp_engine::{Admission, End};
-use oftp_listing::is_whole;
+use oftp_listing::{Site, read_query};
 use oftp_outcomes::{Fault, Trouble};
 use oftp_requests::Asked;
 use oftp_schedule::connection::{Request, Signal};
@@ -22,13 +22,14 @@ impl Shell<'_> {
     /// Attends to the connection at a place.
     fn attend(&mut self, place: usize) -> Result<(), Fault> {
         let alloc = self.rt.alloc();
+        let site = self.bench.site;
         let Some(peer) = self.peers.get_mut(place) else {
             return Ok(());
         };
         let id = peer.id;
         let sent = peer.send();
         peer.end_writing();
-        let heard = peer.hear(alloc);
+        let heard = peer.hear(alloc, site);
         let is_dialing = peer.reading == Reading::Dial && peer.readiness.is_writable;
         if let Some(signal) = sent {
             self.tell(id, signal)?;
@@ -72,7 +73,7 @@ impl Peer<'_> {
     }
 
     /// Reads what is there. Returns what is to be told of it.
-    fn hear(&mut self, alloc: Global) -> Option<Signal> {
+    fn hear(&mut self, alloc: Global, site: Site<'_>) -> Option<Signal> {
         if self.reading == Reading::Nothing && self.readiness.is_gone {
             return Some(Signal::Lost);
         }
@@ -80,7 +81,7 @@ impl Peer<'_> {
             return None;
         }
         match self.take_in() {
-            Came::Octets(_) => self.judge(alloc),
+            Came::Octets(_) => self.judge(alloc, site),
             Came::Nothing => None,
             Came::End => Some(Signal::Ends),
             Came::Lost => Some(Signal::Lost),
@@ -88,12 +89,12 @@ impl Peer<'_> {
     }
 
     /// Judges what has come so far.
-    fn judge(&mut self, alloc: Global) -> Option<Signal> {
+    fn judge(&mut self, alloc: Global, site: Site<'_>) -> Option<Signal> {
         match self.reading {
             Reading::Opening => self.judge_opening(alloc),
             Reading::Session => Some(Signal::Came),
             Reading::Command => self.judge_command(alloc),
-            Reading::Request => self.judge_request(),
+            Reading::Request => self.judge_request(alloc, site),
             _ => None,
         }
     }
@@ -146,12 +147,15 @@ impl Peer<'_> {
         Some(signal)
     }
 
-    /// Judges what has come of a request over HTTP, up to the greatest length.
-    fn judge_request(&mut self) -> Option<Signal> {
+    /// Judges what has come of a request over HTTP, up to the greatest length. What it asks for is read once it is whole.
+    fn judge_request(&mut self, alloc: Global, site: Site<'_>) -> Option<Signal> {
         self.heard.truncate(MOST_REQUEST_OCTETS);
-        if !is_whole(self.heard.as_slice()) {
-            return None;
-        }
+        let address = self.stream.called_address();
+        let query = match read_query(alloc, site, address, self.heard.as_slice()) {
+            Ok(query) => Ok(query?),
+            Err(fault) => Err(fault),
+        };
+        self.task = Task::Visitor(Some(query));
         self.reading = Reading::Nothing;
         Some(Signal::Asked(Request::Query))
     }

@@ -111,7 +111,7 @@ impl<'a> Shell<'a> {
                 peer
             }
             Door::Requests | Door::Calls => {
-                Peer::new(alloc, id, Task::Visitor, stream, Reading::Request)
+                Peer::new(alloc, id, Task::Visitor(None), stream, Reading::Request)
             }
             Door::Partners => self.caller(id, stream),
         }

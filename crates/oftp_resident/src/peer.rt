@@ -5,6 +5,7 @@ use crate::stream::Stream;
 use oftp_engine::{End, RunFault};
 use oftp_files::SessionTrace;
 use oftp_life::Opening;
+use oftp_listing::{LONGEST_HEAD, ListFault, Query};
 use oftp_outcomes::{Fault, Trouble};
 use oftp_requests::{Asked, trouble_of};
 use oftp_schedule::connection::Signal;
@@ -16,7 +17,7 @@ use std::mem;
 const PIECE: usize = 4_096;
 
 /// The same of a request over HTTP: one more than a head may have. All that is there counts.
-pub(crate) const MOST_REQUEST_OCTETS: usize = 8_193;
+pub(crate) const MOST_REQUEST_OCTETS: usize = LONGEST_HEAD + 1;
 
 /// How many times one connection is written to before the others get their turn.
 const MOST_WRITES: u32 = 16;
@@ -53,8 +54,8 @@ pub(crate) enum Task<'a> {
     Call(Outgoing),
     /// A command, with its request once that is whole.
     Command(Option<Asked>),
-    /// A request over HTTP.
-    Visitor,
+    /// A request over HTTP, with what it asks for once its head is whole, or why that can't be read.
+    Visitor(Option<Result<Query, ListFault>>),
 }
 
 /// What the system last reported of a socket.
@@ -149,7 +150,7 @@ impl<'a> Peer<'a> {
     fn held(&self) -> u64 {
         match (&self.task, self.left()) {
             (_, 0) => 0,
-            (Task::Command(_) | Task::Visitor, _) => self.out.len() as u64,
+            (Task::Command(_) | Task::Visitor(_), _) => self.out.len() as u64,
             (Task::Caller(_) | Task::Call(_), left) => left,
         }
     }

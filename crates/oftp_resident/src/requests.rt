@@ -6,7 +6,7 @@ use crate::service::{Shell, peer_in};
 use oftp_channel::Ending;
 use oftp_engine::RunFault;
 use oftp_life::Life;
-use oftp_listing::{ListFault, OfficeState, Reply, Site, reply_at};
+use oftp_listing::{ListFault, OfficeState, Query, Reply};
 use oftp_outcomes::{Fault, Outcome, Trouble};
 use oftp_page::PAGE;
 use oftp_register::Office;
@@ -14,7 +14,6 @@ use oftp_requests::{Asked, Made, bare_answer, copy_let, declined, office_within,
 use oftp_schedule::connection::{Reason, Signal};
 use oftp_sockets::Keeper;
 use std::alloc::Global;
-use std::net::IpAddr;
 
 impl Shell<'_> {
     /// Does a look-up, and tells the length of its answer.
@@ -26,17 +25,16 @@ impl Shell<'_> {
     ) -> Result<(), Fault> {
         let rt = self.rt;
         let alloc = rt.alloc();
-        let site = self.bench.site;
         let Some(peer) = peer_in(&mut self.peers, id) else {
             return self.take_answer(id, Made::nothing(alloc));
         };
-        if let Some(made) = peer.look_nowhere(alloc, site) {
+        if let Some(made) = peer.look_nowhere(alloc) {
             return self.take_answer(id, made);
         }
         if let Err(trouble) = home.open(rt, keeper) {
             peer.note(Err(trouble));
         }
-        let Made { octets, office } = peer.look_at(alloc, site, home);
+        let Made { octets, office } = peer.look_at(alloc, home);
         let office = office_within(keeper.term(), office);
         self.take_answer(id, Made { octets, office })
     }
@@ -102,7 +100,7 @@ impl Shell<'_> {
             return Ok(());
         };
         let answer = match (&peer.task, reason) {
-            (Task::Visitor, _) => stopping(alloc),
+            (Task::Visitor(_), _) => stopping(alloc),
             (_, reason) => bare_answer(alloc, Ending::Failed(declined(reason))),
         };
         self.send_answer(id, answer)
@@ -147,9 +145,9 @@ impl Shell<'_> {
 
 impl Peer<'_> {
     /// What is answered whatever the register has, if it is such a request.
-    fn look_nowhere(&self, alloc: Global, site: Site<'_>) -> Option<Made> {
-        match self.task {
-            Task::Visitor => Made::of_any(alloc, site, self.heard.as_slice()),
+    fn look_nowhere(&self, alloc: Global) -> Option<Made> {
+        match &self.task {
+            Task::Visitor(Some(Ok(query))) => Made::of_any(alloc, *query),
             _ => None,
         }
     }
@@ -163,17 +161,11 @@ impl Peer<'_> {
     }
 
     /// Looks up what it asks for, in a life that is here.
-    fn look_at<O: Office + Drop>(
-        &mut self,
-        alloc: Global,
-        site: Site<'_>,
-        home: &mut Home<'_, O>,
-    ) -> Made {
+    fn look_at<O: Office + Drop>(&mut self, alloc: Global, home: &mut Home<'_, O>) -> Made {
         match &self.task {
             Task::Command(Some(asked)) => look_in(alloc, asked, home),
-            Task::Visitor => {
-                let address = self.stream.called_address();
-                let reply = reply_in(alloc, site, address, self.heard.as_slice(), home);
+            Task::Visitor(Some(query)) => {
+                let reply = reply_in(alloc, *query, home);
                 let (made, trouble) = Made::of_reply(alloc, reply);
                 if let Some(trouble) = trouble {
                     self.note(Err(trouble));
@@ -187,7 +179,7 @@ impl Peer<'_> {
     /// The error of a request over HTTP that has no answer for it.
     pub(crate) fn trouble(&self) -> Option<Trouble> {
         match (&self.task, self.ended) {
-            (Task::Visitor, Some(Err(trouble))) => Some(trouble),
+            (Task::Visitor(_), Some(Err(trouble))) => Some(trouble),
             _ => None,
         }
     }
@@ -210,17 +202,16 @@ fn look_in<O: Office + Drop>(alloc: Global, asked: &Asked, home: &mut Home<'_, O
     }
 }
 
-/// The reply to a request over HTTP, of a life that is here.
+/// The reply to what is asked for over HTTP, of a life that is here.
 fn reply_in<O: Office + Drop>(
     alloc: Global,
-    site: Site<'_>,
-    address: Option<IpAddr>,
-    request: &[u8],
+    query: Result<Query, ListFault>,
     home: &mut Home<'_, O>,
 ) -> Result<Reply, ListFault> {
+    let query = query?;
     match home {
-        Home::Idle(life) => reply_at(alloc, site, PAGE, address, request, life),
-        Home::Talking(session) => reply_at(alloc, site, PAGE, address, request, session),
+        Home::Idle(life) => query.reply(alloc, PAGE, life),
+        Home::Talking(session) => query.reply(alloc, PAGE, session),
         Home::Away => Err(ListFault::Memory),
     }
 }

@@ -240,15 +240,30 @@ impl<'a> Shell<'a> {
             if let Some(pause) = self.pause_for(action, books) {
                 return Ok(pause);
             }
-            if let Some(action) = action {
-                self.carry_out(action, &mut home, books, keeper, reporter)?;
-            }
-            if let Some(life) = home.take() {
-                keeper.close(self.rt, life);
-            }
-            self.wait(action.is_some())?;
+            self.take_turn(action, &mut home, books, keeper, reporter)?;
         }
         Ok(Pause::Ended(Status::Stopped))
+    }
+
+    /// Carries out an action, if there is one, gives a life that isn't in a session back to its keeper, and waits for the sockets.
+    fn take_turn<'b, O: Office + Drop>(
+        &mut self,
+        action: Option<Action>,
+        home: &mut Home<'b, O>,
+        books: Books<'b>,
+        keeper: &mut impl Keeper<Life<O>>,
+        reporter: &mut impl Reporter,
+    ) -> Result<(), Fault>
+    where
+        'a: 'b,
+    {
+        if let Some(action) = action {
+            self.carry_out(action, home, books, keeper, reporter)?;
+        }
+        if let Some(life) = home.take() {
+            keeper.close(self.rt, life);
+        }
+        self.wait(action.is_some())
     }
 
     /// The next action, after the schedule was told what the sockets have, and the time.

@@ -15,7 +15,7 @@ use Rattle.oftp_register.specs.Soundness.{IsFit, IsSound}
 use Rattle.oftp_register.specs.Offices.{View}
 use Rattle.oftp_register.specs.Verdicts.{end_verdict}
 use Rattle.oftp_register.proofs.EntryLemmas.{give_up_fit}
-use Rattle.oftp_session.specs.declared.receiving.Reception.{Reception}
+use Rattle.oftp_session.specs.declared.receiving.IncomingTransfer.{IncomingTransfer}
 use Rattle.oftp_session.specs.declared.session.SessionFault.{SessionFault}
 use Rattle.oftp_session.specs.declared.state.Contact.{Contact}
 use Rattle.oftp_session.specs.declared.state.State.{State}
@@ -32,38 +32,38 @@ use Rattle.oftp_session.proofs.Ends.{close_accepted, close_fits, counts_are, end
 
 -- the change of a verdict is fit and accepted
 
-close_fit : (r : Register) (contact : Contact) (f : Receipt) (s : Reception) (rows : List (List ℕ)) → IsSound r → IsReceived r f → Tracks contact f s
+close_fit : (r : Register) (contact : Contact) (f : Receipt) (s : IncomingTransfer) (rows : List (List ℕ)) → IsSound r → IsReceived r f → Tracks contact f s
     → is_open (carried_by f).stage ≡ false → rows ≡ closed s.taker.rows s.taker.tail → IsFit r (Close s.number rows)
 close_fit r contact f s rows sound holds at shut is =
     subst (λ (n : ℕ). IsFit r (Close n rows)) (sym at.number)
     (subst (λ (x : List (List ℕ)). IsFit r (Close f.number x)) (sym (is ∙ last_of contact f s at)) (close_fits r f sound holds shut))
 
-close_goes : (r : Register) (contact : Contact) (f : Receipt) (s : Reception) (rows : List (List ℕ)) → IsReceived r f → Tracks contact f s → IsAccepted r (Close s.number rows)
+close_goes : (r : Register) (contact : Contact) (f : Receipt) (s : IncomingTransfer) (rows : List (List ℕ)) → IsReceived r f → Tracks contact f s → IsAccepted r (Close s.number rows)
 close_goes r contact f s rows holds at = subst (λ (n : ℕ). IsAccepted r (Close n rows)) (sym at.number) (close_accepted r f rows holds)
 
-give_up_goes : (r : Register) (contact : Contact) (f : Receipt) (s : Reception) → IsReceived r f → Tracks contact f s → IsAccepted r (GiveUp s.number)
+give_up_goes : (r : Register) (contact : Contact) (f : Receipt) (s : IncomingTransfer) → IsReceived r f → Tracks contact f s → IsAccepted r (GiveUp s.number)
 give_up_goes r contact f s holds at = subst (λ (n : ℕ). IsAccepted r (GiveUp n)) (sym at.number) (give_up_accepted r f holds)
 
 -- it is the change of the verdict's step
 
-close_is : (contact : Contact) (f : Receipt) (s : Reception) (rows : List (List ℕ)) → Tracks contact f s → rows ≡ closed s.taker.rows s.taker.tail
+close_is : (contact : Contact) (f : Receipt) (s : IncomingTransfer) (rows : List (List ℕ)) → Tracks contact f s → rows ≡ closed s.taker.rows s.taker.tail
     → Close s.number rows ≡ Close f.number (closed (rows_to_keep f (carried_by f)) (carried_by f).tail)
 close_is contact f s rows at is = ap (λ (n : ℕ). Close n rows) at.number ∙ ap (λ (x : List (List ℕ)). Close f.number x) (is ∙ last_of contact f s at)
 
-give_up_is : (contact : Contact) (f : Receipt) (s : Reception) → Tracks contact f s → GiveUp s.number ≡ GiveUp f.number
+give_up_is : (contact : Contact) (f : Receipt) (s : IncomingTransfer) → Tracks contact f s → GiveUp s.number ≡ GiveUp f.number
 give_up_is contact f s at = ap (λ (n : ℕ). GiveUp n) at.number
 
 -- by the verdict, the step
 
-pub open_fails : (contact : Contact) (r : Register) (f : Receipt) (s : Reception) (efid : Efid) → Tracks contact f s → is_open s.taker.stage ≡ true
+pub open_fails : (contact : Contact) (r : Register) (f : Receipt) (s : IncomingTransfer) (efid : Efid) → Tracks contact f s → is_open s.taker.stage ≡ true
     → end_step contact r f efid ≡ fails ProtocolViolation
 open_fails contact r f s efid at was = end_open contact r f efid (sym (open_of contact f s at) ∙ was)
 
-verdict_is : (contact : Contact) (r : Register) (f : Receipt) (s : Reception) (efid : Efid) (verdict : EndVerdict) → IsReceived r f → Tracks contact f s
+verdict_is : (contact : Contact) (r : Register) (f : Receipt) (s : IncomingTransfer) (efid : Efid) (verdict : EndVerdict) → IsReceived r f → Tracks contact f s
     → end_verdict efid (counts_of s.taker).0 (counts_of s.taker).1 ≡ verdict → end_verdict efid (counts_of (carried_by f)).0 (counts_of (carried_by f)).1 ≡ verdict
 verdict_is contact r f s efid verdict holds at v = ap (λ (p : ℕ × ℕ). end_verdict efid p.0 p.1) (sym (counts_are r contact f s holds at)) ∙ v
 
-pub by_verdict : (contact : Contact) (r : Register) (f : Receipt) (s : Reception) (efid : Efid) (verdict : EndVerdict) (old new : View) (frame : List ℕ) (result : Result State SessionFault)
+pub by_verdict : (contact : Contact) (r : Register) (f : Receipt) (s : IncomingTransfer) (efid : Efid) (verdict : EndVerdict) (old new : View) (frame : List ℕ) (result : Result State SessionFault)
     → IsReceived r f → Tracks contact f s → is_open s.taker.stage ≡ false → end_verdict efid (counts_of s.taker).0 (counts_of s.taker).1 ≡ verdict
     → Takes (on_end_verdict contact r f (carried_by f) verdict) old new frame result → Takes (end_step contact r f efid) old new frame result
 by_verdict contact r f s efid verdict old new frame result holds at shut v h =
@@ -72,14 +72,14 @@ by_verdict contact r f s efid verdict old new frame result holds at shut v h =
 
 -- the file is closed, after the look-up of the next item
 
-asked : (contact : Contact) (f : Receipt) (s : Reception) (rows : List (List ℕ)) (old mid : View) → IsSound mid.register → IsReceived old.register f → Tracks contact f s
+asked : (contact : Contact) (f : Receipt) (s : IncomingTransfer) (rows : List (List ℕ)) (old mid : View) → IsSound mid.register → IsReceived old.register f → Tracks contact f s
     → is_open (carried_by f).stage ≡ false → rows ≡ closed s.taker.rows s.taker.tail → IsMade None None old mid []
     → IsFit mid.register (Close s.number rows) × IsAccepted mid.register (Close s.number rows)
 asked contact f s rows old mid sound holds at shut is was =
     let now = subst (λ (r : Register). IsReceived r f) (sym was.register) holds in
     (close_fit mid.register contact f s rows sound now at shut is, close_goes mid.register contact f s rows now at)
 
-pub close_err : (contact : Contact) (f : Receipt) (s : Reception) (rows : List (List ℕ)) (old mid new : View) (told : SessionFault) → IsSound mid.register → IsReceived old.register f
+pub close_err : (contact : Contact) (f : Receipt) (s : IncomingTransfer) (rows : List (List ℕ)) (old mid new : View) (told : SessionFault) → IsSound mid.register → IsReceived old.register f
     → Tracks contact f s → is_open (carried_by f).stage ≡ false → rows ≡ closed s.taker.rows s.taker.tail → IsMade None None old mid []
     → (IsFit mid.register (Close s.number rows) → IsAccepted mid.register (Close s.number rows) → DoesNot (Some (Close s.number rows)) mid new told)
     → DoesNot (on_end_verdict contact old.register f (carried_by f) «end».Accept).change old new told
@@ -87,7 +87,7 @@ close_err contact f s rows old mid new told sound holds at shut is was does =
     let asks = asked contact f s rows old mid sound holds at shut is was in
     subst (λ (x : Change). DoesNot (Some x) old new told) (close_is contact f s rows at is) (then_fails (Some (Close s.number rows)) told old mid new was (does asks.0 asks.1))
 
-pub close_ok : (contact : Contact) (f : Receipt) (s : Reception) (rows : List (List ℕ)) (speaks : Bool) (old mid new : View) (frame : List ℕ) → IsSound mid.register → IsReceived old.register f
+pub close_ok : (contact : Contact) (f : Receipt) (s : IncomingTransfer) (rows : List (List ℕ)) (speaks : Bool) (old mid new : View) (frame : List ℕ) → IsSound mid.register → IsReceived old.register f
     → Tracks contact f s → is_open (carried_by f).stage ≡ false → rows ≡ closed s.taker.rows s.taker.tail → IsMade None None old mid []
     → speaks ≡ asks_to_speak contact old.register → frame ≡ frame_of (efpa_of speaks)
     → (IsFit mid.register (Close s.number rows) → IsAccepted mid.register (Close s.number rows) → IsMade (Some (Close s.number rows)) None mid new [])
@@ -100,13 +100,13 @@ close_ok contact f s rows speaks old mid new frame sound holds at shut is was as
 
 -- its rows are deleted
 
-pub give_up_err : (contact : Contact) (f : Receipt) (s : Reception) (reason : EndReason) (old new : View) (told : SessionFault) → IsReceived old.register f → Tracks contact f s
+pub give_up_err : (contact : Contact) (f : Receipt) (s : IncomingTransfer) (reason : EndReason) (old new : View) (told : SessionFault) → IsReceived old.register f → Tracks contact f s
     → (IsFit old.register (GiveUp s.number) → IsAccepted old.register (GiveUp s.number) → DoesNot (Some (GiveUp s.number)) old new told)
     → DoesNot (on_end_verdict contact old.register f (carried_by f) («end».Refuse reason)).change old new told
 give_up_err contact f s reason old new told holds at does =
     subst (λ (x : Change). DoesNot (Some x) old new told) (give_up_is contact f s at) (does (give_up_fit old.register s.number) (give_up_goes old.register contact f s holds at))
 
-pub give_up_ok : (contact : Contact) (f : Receipt) (s : Reception) (reason : EndReason) (old new : View) (frame : List ℕ) → IsReceived old.register f → Tracks contact f s
+pub give_up_ok : (contact : Contact) (f : Receipt) (s : IncomingTransfer) (reason : EndReason) (old new : View) (frame : List ℕ) → IsReceived old.register f → Tracks contact f s
     → frame ≡ frame_of (efna_of reason)
     → (IsFit old.register (GiveUp s.number) → IsAccepted old.register (GiveUp s.number) → IsMade (Some (GiveUp s.number)) None old new [])
     → Takes (on_end_verdict contact old.register f (carried_by f) («end».Refuse reason)) old new frame (Ok (state.ListenerIdle contact))

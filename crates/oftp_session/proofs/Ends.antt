@@ -24,7 +24,7 @@ use Rattle.oftp_register.specs.Verdicts.{end_verdict}
 use Rattle.oftp_register.specs.Soundness.{AreFullRows, Ends, IsFit, IsSound, IsSoundIncoming}
 use Rattle.oftp_register.proofs.EntryLemmas.{all_at, close_changes, close_fit, give_up_changes}
 use Rattle.oftp_register.proofs.IncomingLemmas.{open_rows}
-use Rattle.oftp_session.specs.declared.receiving.Reception.{Reception}
+use Rattle.oftp_session.specs.declared.receiving.IncomingTransfer.{IncomingTransfer}
 use Rattle.oftp_session.specs.declared.state.Contact.{Contact}
 use Rattle.oftp_session.specs.Phases.{Receipt, fails}
 use Rattle.oftp_session.specs.Receiving.{carried_by, end_step, kept_of, on_end_verdict, rows_to_keep}
@@ -45,13 +45,13 @@ unfolding end_step
 end_by contact r f efid verdict h v = rw h (ap (on_end_verdict contact r f (carried_by f)) v)
 
 -- the facts of the session's taker are those of the phase's
-pub open_of : (contact : Contact) (f : Receipt) (s : Reception) → Tracks contact f s → is_open s.taker.stage ≡ is_open (carried_by f).stage
+pub open_of : (contact : Contact) (f : Receipt) (s : IncomingTransfer) → Tracks contact f s → is_open s.taker.stage ≡ is_open (carried_by f).stage
 open_of contact f s at = ap (λ (t : Taking). is_open t.stage) at.taker
 
-pub counts_are : (r : Register) (contact : Contact) (f : Receipt) (s : Reception) → IsReceived r f → Tracks contact f s → counts_of s.taker ≡ counts_of (carried_by f)
+pub counts_are : (r : Register) (contact : Contact) (f : Receipt) (s : IncomingTransfer) → IsReceived r f → Tracks contact f s → counts_of s.taker ≡ counts_of (carried_by f)
 counts_are r contact f s holds at = ap counts_of at.taker ∙ shed_counts (kept_of f) (carried_by f) (kept_within r f holds)
 
-pub last_of : (contact : Contact) (f : Receipt) (s : Reception) → Tracks contact f s → closed s.taker.rows s.taker.tail ≡ closed (rows_to_keep f (carried_by f)) (carried_by f).tail
+pub last_of : (contact : Contact) (f : Receipt) (s : IncomingTransfer) → Tracks contact f s → closed s.taker.rows s.taker.tail ≡ closed (rows_to_keep f (carried_by f)) (carried_by f).tail
 last_of contact f s at = ap (λ (t : Taking). closed t.rows t.tail) at.taker
 
 -- the octets of full blocks

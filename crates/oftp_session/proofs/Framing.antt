@@ -6,6 +6,7 @@ use Rattle.oftp_wire.specs.Spelling.{Canon, IsFit, is_data}
 use Rattle.oftp_wire.specs.declared.command.Command.{Command}
 use Rattle.oftp_wire.specs.declared.command.Command.TheVariants as command
 use Rattle.oftp_wire.proofs.Room.{canon-data, canon_short}
+use Rattle.oftp_session.specs.declared.frame.TheConstants.{COMMAND_ROOM}
 use Rattle.oftp_session.specs.Phases.{frame_of}
 
 framed_octets : (m rest head : List ℕ) (count : ℕ) → count ≡ length m → head ≡ header_of (count + 4) → take (count + 4) (head ++ (m ++ rest)) ≡ frame m
@@ -35,5 +36,5 @@ data_framed head out rest count h within =
     ∙ ap frame (sym (canon-data payload))
 
 -- there is room for each command other than DATA
-pub canon_fits : (c : Command) (n : ℕ) → n ≡ 1196 → n < length (Canon c) → IsFit c → is_data c ≡ false → ⊥
+pub canon_fits : (c : Command) (n : ℕ) → n + 4 ≡ COMMAND_ROOM → n < length (Canon c) → IsFit c → is_data c ≡ false → ⊥
 canon_fits c n e l fit command = let h = canon_short c fit command in omega (arith, h)

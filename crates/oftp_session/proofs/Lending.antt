@@ -16,13 +16,14 @@ use Rattle.oftp_register.specs.Soundness.{IsSound, IsSoundOutgoing}
 use Rattle.oftp_register.proofs.RowLemmas.{rows-part}
 use Rattle.oftp_register.proofs.EntryLemmas.{all_at}
 use Rattle.oftp_session.specs.declared.frame.TheConstants.{DATA_HEAD}
-use Rattle.oftp_session.specs.declared.sending.Shipment.{Shipment}
+use Rattle.oftp_session.specs.declared.sending.OutgoingTransfer.{OutgoingTransfer}
 use Rattle.oftp_session.specs.declared.state.Contact.{Contact}
 use Rattle.oftp_session.specs.Phases.{Transfer}
 use Rattle.oftp_session.specs.Sending.{payload_size, payloads_in, rows_from}
 use Rattle.oftp_session.specs.Steps.{IsSent}
 use Rattle.oftp_session.specs.Standings.{AreAtHand, Ships, at_hand}
-use Rattle.oftp_session.specs.Payloads.{IsAllSent, IsDataSaid, IsNextData, MayLend, is_last, next_row}
+use Rattle.oftp_session.specs.InsideFrame.{IsAllSent, IsNextData}
+use Rattle.oftp_session.specs.InsidePayloads.{IsDataSaid, MayLend, is_last, next_row}
 use Rattle.oftp_session.proofs.Framing.{data_framed}
 use Rattle.oftp_session.proofs.Items.{rows_lent_are}
 
@@ -45,18 +46,18 @@ next_data size room count old new rows last head out rest e l within h moves sen
 pub sound_file : (r : Register) (t : Transfer) → IsSound r → IsSent r t → IsSoundOutgoing t.file
 sound_file r t sound holds = all_at IsSoundOutgoing t.number r.outgoing t.file sound.outgoing holds.entry
 
-left_from : (contact : Contact) (t : Transfer) (s : Shipment) → Ships contact t s → drop (s.filler.row - t.from) (rows_from t) ≡ drop s.filler.row t.file.rows
+left_from : (contact : Contact) (t : Transfer) (s : OutgoingTransfer) → Ships contact t s → drop (s.filler.row - t.from) (rows_from t) ≡ drop s.filler.row t.file.rows
 left_from contact t s at =
     let began = at.sent.began in
     drop-drop (s.filler.row - t.from) t.from t.file.rows ∙ ap (λ n. drop n t.file.rows) (omega (arith, began))
 
 -- The filler is within the file, and so are the rows at hand.
-record IsWithin (t : Transfer) (s : Shipment) : Type 0 where
+record IsWithin (t : Transfer) (s : OutgoingTransfer) : Type 0 where
   row : s.filler.row ≤ length t.file.rows
   left : length (drop s.filler.row t.file.rows) ≡ length t.file.rows - s.filler.row
   hand : length (at_hand s.page) ≤ length t.file.rows - s.filler.row
 
-within : (r : Register) (contact : Contact) (t : Transfer) (s : Shipment) → IsSent r t → Ships contact t s → IsWithin t s
+within : (r : Register) (contact : Contact) (t : Transfer) (s : OutgoingTransfer) → IsSent r t → Ships contact t s → IsWithin t s
 within r contact t s holds at =
     let rest = drop s.filler.row t.file.rows in
     let w = at.sent.within in
@@ -66,7 +67,7 @@ within r contact t s holds at =
     record { row = omega (arith, w, f, length-drop t.from t.file.rows); left = left; hand = omega (arith, count, left) }
 
 -- the filler may borrow the rows at hand
-pub are_lent : (r : Register) (contact : Contact) (t : Transfer) (s : Shipment) → IsSound r → IsSent r t → Ships contact t s
+pub are_lent : (r : Register) (contact : Contact) (t : Transfer) (s : OutgoingTransfer) → IsSound r → IsSent r t → Ships contact t s
     → AreLent s.filler t.from (rows_from t) (at_hand s.page) (is_last s)
 are_lent r contact t s sound holds at =
     let file = sound_file r t sound holds in
@@ -95,7 +96,7 @@ are_lent r contact t s sound holds at =
     )
 
 -- the rows at hand of a sound register pass the checks
-pub may_lend : (r : Register) (contact : Contact) (t : Transfer) (s : Shipment) → IsSound r → IsSent r t → Ships contact t s → MayLend s (at_hand s.page)
+pub may_lend : (r : Register) (contact : Contact) (t : Transfer) (s : OutgoingTransfer) → IsSound r → IsSent r t → Ships contact t s → MayLend s (at_hand s.page)
 may_lend r contact t s sound holds at =
     let file = sound_file r t sound holds in
     let n = length (at_hand s.page) in
@@ -124,7 +125,7 @@ place_in f [] more h = λ some. absurd (let no = h some in omega (arith, no))
 place_in f (r ∷ rs) more h = h
 
 -- rows that are looked up are added to those at hand
-pub looked_up : (r : Register) (contact : Contact) (t : Transfer) (s : Shipment) (most : ℕ) (rows more : List (List ℕ)) → IsSent r t → Ships contact t s
+pub looked_up : (r : Register) (contact : Contact) (t : Transfer) (s : OutgoingTransfer) (most : ℕ) (rows more : List (List ℕ)) → IsSent r t → Ships contact t s
     → more ≡ rows_of r side.Outgoing s.number (next_row s) most → rows ≡ at_hand s.page ++ more → Ships contact t (record s { page = Some rows })
 looked_up r contact t s most rows more holds at e is =
     let hand = at_hand s.page in
@@ -150,7 +151,7 @@ looked_up r contact t s most rows more holds at e is =
     }
 
 -- rows that are wholly sent are dropped
-left_at_hand : (t : Transfer) (s new : Shipment) (last : Bool) → AreAtHand t.file.rows s → Moves s.filler new.filler (at_hand s.page) last
+left_at_hand : (t : Transfer) (s new : OutgoingTransfer) (last : Bool) → AreAtHand t.file.rows s → Moves s.filler new.filler (at_hand s.page) last
     → at_hand new.page ≡ drop (new.filler.row - s.filler.row) (at_hand s.page) → AreAtHand t.file.rows new
 left_at_hand t s new last are moves e =
     let k = new.filler.row - s.filler.row in
@@ -185,7 +186,7 @@ none_behind (suc k) [] e = refl
 none_behind (suc k) (x ∷ xs) e = none_behind k xs (let q : take k xs ≡ xs = cc in q)
 
 -- a DATA that was made has the next payload of the file
-pub data_said : (contact : Contact) (t : Transfer) (s new : Shipment) (size : ℕ) (last : Bool) (frame : List ℕ) → Ships contact t s
+pub data_said : (contact : Contact) (t : Transfer) (s new : OutgoingTransfer) (size : ℕ) (last : Bool) (frame : List ℕ) → Ships contact t s
     → size ≡ payload_size contact → AreLent s.filler t.from (rows_from t) (at_hand s.page) last → at_hand new.page ≡ drop (new.filler.row - s.filler.row) (at_hand s.page)
     → IsNextData size s.filler new.filler (at_hand s.page) last frame → IsDataSaid contact t new frame
 data_said contact t s new size last frame at is lent page n =
@@ -206,7 +207,7 @@ data_said contact t s new size last frame at is lent page n =
     }
 
 -- if nothing is left, all payloads were sent
-pub nothing_left : (contact : Contact) (t : Transfer) (s : Shipment) (new : Filling) (size : ℕ) (rows : List (List ℕ)) (last : Bool) → Ships contact t s
+pub nothing_left : (contact : Contact) (t : Transfer) (s : OutgoingTransfer) (new : Filling) (size : ℕ) (rows : List (List ℕ)) (last : Bool) → Ships contact t s
     → size ≡ payload_size contact → AreLent s.filler t.from (rows_from t) rows last → IsAllSent size s.filler new rows last
     → slice_get (payloads_in contact t) t.sent ≡ None
 nothing_left contact t s new size rows last at is lent n =

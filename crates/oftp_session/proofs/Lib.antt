@@ -27,3 +27,4 @@ pub mod Outputs
 pub mod Resources
 pub mod Recalling
 pub mod Looking
+pub mod Passing

@@ -10,8 +10,8 @@ use Rattle.oftp_register.specs.LookUps.{is_next_response, item_of, list_issued, 
 use Rattle.oftp_register.specs.Offices.{LooksUp, View}
 use Rattle.oftp_session.specs.declared.state.Contact.{Contact}
 use Rattle.oftp_session.specs.Calls.{IsMade}
-use Rattle.oftp_session.specs.Recalling.{IsSoOf}
-use Rattle.oftp_session.specs.Inside.{asks_after}
+use Rattle.oftp_session.specs.Recalling.{RecallsOf}
+use Rattle.oftp_session.specs.InsideSpeaker.{due_after}
 
 -- where no response is next, none is above a greater number
 not_above : (tried above n : ℕ) (due : Bool) → tried ≤ above → (nat_lt tried n && due) ≡ false → (nat_lt above n && due) ≡ false
@@ -36,8 +36,8 @@ no_response (Some e) h = absurd (let no : ⊥ = cc in no)
 no_response None h = refl
 
 -- so the same item is next
-pub same_item : (r : Register) (contact : Contact) (asks : Option Bool) (cursor : Cursor) → IsSoOf asks contact r → cursor.file ≡ contact.tried.file
-    → contact.tried.response ≤ cursor.response → (asks ≢ Some false → cursor ≡ contact.tried)
+pub same_item : (r : Register) (contact : Contact) (due : Option Bool) (cursor : Cursor) → RecallsOf due contact r → cursor.file ≡ contact.tried.file
+    → contact.tried.response ≤ cursor.response → (due ≢ Some false → cursor ≡ contact.tried)
     → next_item r contact.code cursor contact.link.sends ≡ next_item r contact.code contact.tried contact.link.sends
 same_item r contact None cursor so file above all = ap (λ (c : Cursor). next_item r contact.code c contact.link.sends) (all (λ e. let no : ⊥ = cc in no))
 same_item r contact (Some true) cursor so file above all = ap (λ (c : Cursor). next_item r contact.code c contact.link.sends) (all (λ e. let no : ⊥ = cc in no))
@@ -47,33 +47,33 @@ same_item r contact (Some false) cursor so file above all =
     let still = none_above contact.code contact.tried.response cursor.response (list_issued r) above none in
     ap (λ (o : Option IssuedEntry). item_of o (files cursor.file)) (still ∙ sym none) ∙ ap (λ n. item_of (next_response r contact.code contact.tried.response) (files n)) file
 
-looked : (contact : Contact) (asks : Option Bool) (cursor : Cursor) (old new : View) (item : Option Item)
-    → LooksUp (λ r found. found ≡ next_item r contact.code cursor contact.link.sends) old new (Ok item) → IsSoOf asks contact old.register
-    → cursor.file ≡ contact.tried.file → contact.tried.response ≤ cursor.response → (asks ≢ Some false → cursor ≡ contact.tried) → new.clean → old.stands
+looked : (contact : Contact) (due : Option Bool) (cursor : Cursor) (old new : View) (item : Option Item)
+    → LooksUp (λ r found. found ≡ next_item r contact.code cursor contact.link.sends) old new (Ok item) → RecallsOf due contact old.register
+    → cursor.file ≡ contact.tried.file → contact.tried.response ≤ cursor.response → (due ≢ Some false → cursor ≡ contact.tried) → new.clean → old.stands
     → (item ≡ next_item old.register contact.code contact.tried contact.link.sends) × IsMade None None old new []
-looked contact asks cursor old new item looks so file above all clean stands =
+looked contact due cursor old new item looks so file above all clean stands =
     let stays = looks.stays clean stands in (
-      looks.answer clean stands ∙ same_item old.register contact asks cursor so file above all,
+      looks.answer clean stands ∙ same_item old.register contact due cursor so file above all,
       record { said = refl; register = looks.register clean stands (new.opens stays); stands = stays; faults = looks.counts },
     )
 
 -- the same for the parts of a contact
-pub next_finds : (parts contact : Contact) (asks : Option Bool) (cursor : Cursor) (old new : View) (item : Option Item) → parts ≡ contact
-    → LooksUp (λ r found. found ≡ next_item r parts.code cursor parts.link.sends) old new (Ok item) → IsSoOf asks contact old.register
-    → cursor.file ≡ parts.tried.file → parts.tried.response ≤ cursor.response → (asks ≢ Some false → cursor ≡ parts.tried) → new.clean → old.stands
+pub next_finds : (parts contact : Contact) (due : Option Bool) (cursor : Cursor) (old new : View) (item : Option Item) → parts ≡ contact
+    → LooksUp (λ r found. found ≡ next_item r parts.code cursor parts.link.sends) old new (Ok item) → RecallsOf due contact old.register
+    → cursor.file ≡ parts.tried.file → parts.tried.response ≤ cursor.response → (due ≢ Some false → cursor ≡ parts.tried) → new.clean → old.stands
     → (item ≡ next_item old.register contact.code contact.tried contact.link.sends) × IsMade None None old new []
-next_finds parts contact asks cursor old new item same looks so file above all clean stands =
+next_finds parts contact due cursor old new item same looks so file above all clean stands =
     subst (λ (x : Contact). (item ≡ next_item old.register x.code x.tried x.link.sends) × IsMade None None old new []) same
-    (looked parts asks cursor old new item looks (subst (λ (x : Contact). IsSoOf asks x old.register) (sym same) so) file above all clean stands)
+    (looked parts due cursor old new item looks (subst (λ (x : Contact). RecallsOf due x old.register) (sym same) so) file above all clean stands)
 
 -- what is remembered after a look is true
-after_so : (response : Option IssuedEntry) (file : Option OutgoingEntry) (given : Bool) → asks_after (item_of response file) ≡ Some given → given ≡ is_some (item_of response None)
+after_so : (response : Option IssuedEntry) (file : Option OutgoingEntry) (given : Bool) → due_after (item_of response file) ≡ Some given → given ≡ is_some (item_of response None)
 after_so (Some e) file given is = absurd (let no : ⊥ = cc in no)
 after_so None (Some e) given is = (let same : given ≡ false = cc in same)
 after_so None None given is = (let same : given ≡ false = cc in same)
 
-pub remembered : (r : Register) (contact : Contact) (item : Option Item) (asks : Option Bool) → item ≡ next_item r contact.code contact.tried contact.link.sends
-    → asks ≡ asks_after item → IsSoOf asks contact r
-remembered r contact item asks next after = λ given is.
+pub remembered : (r : Register) (contact : Contact) (item : Option Item) (due : Option Bool) → item ≡ next_item r contact.code contact.tried contact.link.sends
+    → due ≡ due_after item → RecallsOf due contact r
+remembered r contact item due next after = λ given is.
     after_so (next_response r contact.code contact.tried.response) (cond contact.link.sends (next_file r contact.code contact.tried.file) None) given
-    (sym (after ∙ ap asks_after next) ∙ is)
+    (sym (after ∙ ap due_after next) ∙ is)

@@ -20,17 +20,18 @@ use Rattle.oftp_register.specs.Soundness.{IsFit, IsSound}
 use Rattle.oftp_register.specs.Offices.{LooksUp, View}
 use Rattle.oftp_register.proofs.EntryLemmas.{rows_of_incoming}
 use Rattle.oftp_session.specs.Links.{LinkData}
-use Rattle.oftp_session.specs.declared.receiving.Reception.{Reception}
+use Rattle.oftp_session.specs.declared.receiving.IncomingTransfer.{IncomingTransfer}
 use Rattle.oftp_session.specs.declared.session.SessionFault.{SessionFault}
 use Rattle.oftp_session.specs.declared.session.SessionFault.TheVariants as fault
 use Rattle.oftp_session.specs.declared.state.Contact.{Contact}
 use Rattle.oftp_session.specs.declared.state.State.TheVariants as state
 use Rattle.oftp_session.specs.Settings.{Setting}
 use Rattle.oftp_session.specs.Phases.{Receipt, Step, frame_of}
-use Rattle.oftp_session.specs.Receiving.{carried_by, kept_of, offer_step, offered_identity, on_start_verdict, receipt_of, sfpa_of, start_of, terms_within, verdict_on, window}
+use Rattle.oftp_session.specs.Receiving.{carried_by, kept_of, window}
+use Rattle.oftp_session.specs.Listener.{offer_step, offered_identity, on_start_verdict, receipt_of, sfpa_of, start_of, terms_within, verdict_on}
 use Rattle.oftp_session.specs.Steps.{IsReceived}
 use Rattle.oftp_session.specs.Standings.{Tracks}
-use Rattle.oftp_session.specs.Starting.{IsFound, MayBegin, Starts, reception_of}
+use Rattle.oftp_session.specs.InsideListener.{IsFound, MayBegin, Starts, incoming_of}
 use Rattle.oftp_session.specs.Calls.{DoesNot, IsMade}
 use Rattle.oftp_session.specs.Inside.{Finds, IsAccepted, Takes}
 use Rattle.oftp_session.proofs.Saying.{answered}
@@ -57,12 +58,12 @@ verdict_finds setting contact sfid identity old mid new found full limits first 
     let limit : limits ≡ old.register.limits = bound ∙ ap (λ (r : Register). r.limits) (again ∙ same) in
     (rw (known, all, limit) refl, record { said = refl; register = again ∙ same; stands = stays; faults = second.counts ∙ first.counts })
 
--- the reception of the file follows from what is looked up
+-- the transfer of the file follows from what is looked up
 pub begun_finds : (link : LinkData) (identity : Identity) (number : ℕ) (file : Incoming) (old mid new : View) (entry : IncomingEntry) (units : ℕ) (limits : Limits)
     → LooksUp (λ r found. found ≡ look_in r identity) old mid (Ok (Some entry)) → LooksUp (λ r n. n ≡ units_of r side.Incoming entry.no) mid new (Ok units)
     → limits ≡ new.register.limits → new.clean → old.stands → IsFound old.register identity number file
-    → (let s : Reception = record { number = entry.no; credit = link.credit; taker = new_taking entry.format entry.longest entry.rows units limits.octets } in s)
-    ≡ reception_of link number file old.register.limits.octets
+    → (let s : IncomingTransfer = record { number = entry.no; credit = link.credit; taker = new_taking entry.format entry.longest entry.rows units limits.octets } in s)
+    ≡ incoming_of link number file old.register.limits.octets
     × IsMade None None old new []
 begun_finds link identity number file old mid new entry units limits first second bound clean stands found =
     let before = second.clean clean in
@@ -76,7 +77,7 @@ begun_finds link identity number file old mid new entry units limits first secon
     second.answer clean stood ∙ ap (λ (r : Register). units_of r side.Incoming entry.no) same
     ∙ ap (λ (k : IncomingEntry). units_of old.register side.Incoming k.no) e ∙ units_at old.register number file found.entry in
     let limit : limits.octets ≡ old.register.limits.octets = ap (λ (l : Limits). l.octets) (bound ∙ ap (λ (r : Register). r.limits) (again ∙ same)) in
-    let of_entry : IncomingEntry → ℕ → ℕ → Reception =
+    let of_entry : IncomingEntry → ℕ → ℕ → IncomingTransfer =
     λ k n m. record { number = k.no; credit = link.credit; taker = new_taking k.format k.longest k.rows n m } in (
       ap (λ (k : IncomingEntry). of_entry k units limits.octets) e ∙ ap (λ (m : ℕ). of_entry (incoming_entry number file) m limits.octets) n
           ∙ ap (of_entry (incoming_entry number file) (units_in file.rows)) limit,
@@ -119,36 +120,36 @@ begun_found sfid count identity old mid is may made =
     let found : IsFound may.after (offered_identity sfid) f.number f.file = record { look = may.found; entry = may.received.entry } in
     (at, subst (λ (r : Register). IsFound r identity f.number f.file) (sym at) (subst (λ (i : Identity). IsFound may.after i f.number f.file) (sym is) found))
 
-pub begin_starts : (link : LinkData) (sfid : Sfid) (count : ℕ) (identity : Identity) (old mid new : View) (result : Result Reception SessionFault) → identity ≡ offered_identity sfid
+pub begin_starts : (link : LinkData) (sfid : Sfid) (count : ℕ) (identity : Identity) (old mid new : View) (result : Result IncomingTransfer SessionFault) → identity ≡ offered_identity sfid
     → MayBegin old.register sfid count → IsMade (Some (start_of sfid count)) None old mid []
-    → ((number : ℕ) (file : Incoming) → IsFound mid.register identity number file → Finds (λ r. reception_of link number file r.limits.octets) mid new result)
+    → ((number : ℕ) (file : Incoming) → IsFound mid.register identity number file → Finds (λ r. incoming_of link number file r.limits.octets) mid new result)
     → IfErr result (λ told. told ≡ fault.Office) → Starts link sfid count old new result
-begin_starts link sfid count identity old mid new (Ok reception) is may made finds err =
+begin_starts link sfid count identity old mid new (Ok incoming) is may made finds err =
     let found = begun_found sfid count identity old mid is may made in
     let f = receipt_of old.register sfid count in
     let got = finds f.number f.file found.1 in
     let limit : mid.register.limits.octets ≡ f.limit = ap (λ (r : Register). r.limits.octets) found.0 ∙ sym may.received.limit in
-    (made_then (Some (start_of sfid count)) old mid new made got.1, got.0 ∙ ap (reception_of link f.number f.file) limit)
+    (made_then (Some (start_of sfid count)) old mid new made got.1, got.0 ∙ ap (incoming_of link f.number f.file) limit)
 begin_starts link sfid count identity old mid new (Err told) is may made finds err =
     let found = begun_found sfid count identity old mid is may made in
     let f = receipt_of old.register sfid count in
     let lost = subst (DoesNot None mid new) err (finds f.number f.file found.1) in
     subst (DoesNot (Some (start_of sfid count)) old new) (sym err) (after_fails (Some (start_of sfid count)) old mid new tt made lost)
 
--- a reception of which no payload was received
-begun_tracks : (contact : Contact) (r after : Register) (sfid : Sfid) (count : ℕ) (s : Reception) → IsReceived after (receipt_of r sfid count)
-    → (let f : Receipt = receipt_of r sfid count in s ≡ reception_of contact.link f.number f.file f.limit) → Tracks contact (receipt_of r sfid count) s
+-- an incoming transfer of which no payload was received
+begun_tracks : (contact : Contact) (r after : Register) (sfid : Sfid) (count : ℕ) (s : IncomingTransfer) → IsReceived after (receipt_of r sfid count)
+    → (let f : Receipt = receipt_of r sfid count in s ≡ incoming_of contact.link f.number f.file f.limit) → Tracks contact (receipt_of r sfid count) s
 begun_tracks contact r after sfid count s holds is =
     let f = receipt_of r sfid count in
     let all : length f.file.rows ≡ f.from = omega (arith, holds.kept, holds.most) in
     let none : 0 ≡ kept_of f = omega (arith, all) in
     let place : 0 % window contact ≡ 0 = omega arith in
-    let taker : (reception_of contact.link f.number f.file f.limit).taker ≡ shed 0 (carried_by f) =
+    let taker : (incoming_of contact.link f.number f.file f.limit).taker ≡ shed 0 (carried_by f) =
     ap (λ (n : ℕ). new_taking f.file.format f.file.longest n f.units f.limit) all in
     record {
-      number = ap (λ (x : Reception). x.number) is;
-      credit = ap (λ (x : Reception). max 1 x.credit) is ∙ (let e : window contact ≡ window contact - 0 % window contact = omega (arith, place) in e);
-      taker = ap (λ (x : Reception). x.taker) is ∙ taker ∙ ap (λ (n : ℕ). shed n (carried_by f)) none;
+      number = ap (λ (x : IncomingTransfer). x.number) is;
+      credit = ap (λ (x : IncomingTransfer). max 1 x.credit) is ∙ (let e : window contact ≡ window contact - 0 % window contact = omega (arith, place) in e);
+      taker = ap (λ (x : IncomingTransfer). x.taker) is ∙ taker ∙ ap (λ (n : ℕ). shed n (carried_by f)) none;
     }
 
 accept_step : (setting : Setting) (contact : Contact) (r : Register) (sfid : Sfid) (count : ℕ) → verdict_on setting contact r sfid ≡ start.Accept count
@@ -161,7 +162,7 @@ may : (setting : Setting) (contact : Contact) (sfid : Sfid) (count : ℕ) (old m
 may setting contact sfid count old mid sound v same =
     accepted_begins setting contact mid.register sfid count sound (ap (λ (r : Register). verdict_on setting contact r sfid) same ∙ v)
 
-pub accept_ok : (setting : Setting) (contact : Contact) (sfid : Sfid) (count : ℕ) (s : Reception) (old mid new : View) (frame : List ℕ) → IsSound mid.register
+pub accept_ok : (setting : Setting) (contact : Contact) (sfid : Sfid) (count : ℕ) (s : IncomingTransfer) (old mid new : View) (frame : List ℕ) → IsSound mid.register
     → verdict_on setting contact old.register sfid ≡ start.Accept count → IsMade None None old mid [] → frame ≡ frame_of (sfpa_of count)
     → (MayBegin mid.register sfid count → Starts contact.link sfid count mid new (Ok s)) → Takes (offer_step setting contact old.register sfid) old new frame (Ok (state.Receiving contact s))
 accept_ok setting contact sfid count s old mid new frame sound v was said starts =

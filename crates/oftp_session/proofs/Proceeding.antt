@@ -27,10 +27,9 @@ use Rattle.oftp_session.specs.declared.state.Contact.{Contact}
 use Rattle.oftp_session.specs.Settings.{Setting}
 use Rattle.oftp_session.specs.Phases.{Phase, Receipt, ResponderOpening, InitiatorOpening, AwaitingSsid, ListenerIdle, Receiving, SpeakerIdle, GivingWay, AwaitingRtr, AwaitingStart, Sending, AwaitingEnd, EndedHere, EndedThere, answers, fails, quiet, register_after}
 use Rattle.oftp_session.specs.Opening.{Agreement, came_initiator_opening, came_awaiting_ssid, calling_step, opened_step, open_step, ssid_verdict}
-use Rattle.oftp_session.specs.Receiving.{came_receiving, carried_by, data_step, end_step, is_window_full, keeping, on_end_verdict, on_start_verdict, on_taken, receipt_of, rows_to_keep, sfpa_of, start_of, verdict_on, window_step, with_payload, with_rows}
-use Rattle.oftp_session.specs.Receiving.{offer_step}
-use Rattle.oftp_session.specs.Listener.{came_listener_idle, end_response, negative_end_response, response_step, filing, file_of, is_between}
-use Rattle.oftp_session.specs.Starting.{MayBegin}
+use Rattle.oftp_session.specs.Receiving.{came_receiving, carried_by, data_step, end_step, is_window_full, keeping, on_end_verdict, on_taken, rows_to_keep, window_step, with_payload, with_rows}
+use Rattle.oftp_session.specs.Listener.{came_listener_idle, end_response, negative_end_response, response_step, filing, file_of, is_between, on_start_verdict, receipt_of, sfpa_of, start_of, verdict_on, offer_step}
+use Rattle.oftp_session.specs.InsideListener.{MayBegin}
 use Rattle.oftp_session.specs.Steps.{came, turned, IsReceived, Suits}
 use Rattle.oftp_session.specs.Calls.{Proceeds}
 use Rattle.oftp_session.specs.Inside.{IsAccepted}

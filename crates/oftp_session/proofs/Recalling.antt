@@ -46,14 +46,14 @@ use Rattle.oftp_session.specs.declared.state.Contact.{Contact}
 use Rattle.oftp_session.specs.declared.state.State.{State}
 use Rattle.oftp_session.specs.Settings.{Setting}
 use Rattle.oftp_session.specs.Phases.{Phase, Offer, Receipt, Transfer, ResponderOpening, InitiatorOpening, AwaitingSsid, ListenerIdle, Receiving, SpeakerIdle, GivingWay, AwaitingRtr, AwaitingStart, Sending, AwaitingEnd, EndedHere, EndedThere, Step, answers, changes, fails, quiet, unexpected}
-use Rattle.oftp_session.specs.Receiving.{asks_to_speak, came_receiving, carried_by, data_step, end_step, is_window_full, keeping, offer_step, on_end_verdict, on_start_verdict, on_taken, verdict_on, window_step, with_payload, with_rows}
-use Rattle.oftp_session.specs.Listener.{came_listener_idle, end_response, file_of, filing, is_between, negative_end_response, response_step}
+use Rattle.oftp_session.specs.Receiving.{asks_to_speak, came_receiving, carried_by, data_step, end_step, is_window_full, keeping, on_end_verdict, on_taken, window_step, with_payload, with_rows}
+use Rattle.oftp_session.specs.Listener.{came_listener_idle, end_response, file_of, filing, is_between, negative_end_response, offer_step, on_start_verdict, response_step, verdict_on}
 use Rattle.oftp_session.specs.Speaker.{having_tried_file, nothing_next, offers, on_item, responds, speaks}
 use Rattle.oftp_session.specs.Sending.{after_file, came_awaiting_end, came_awaiting_start, came_sending, credit_left, credited, new_mark, payloads_in, refusal, reopening, sends_next, start_step, transfer_of, turned_sending}
 use Rattle.oftp_session.specs.Steps.{opening}
 use Rattle.oftp_session.specs.Standings.{Standing, StandsIn, standing_of}
 use Rattle.oftp_session.specs.Calls.{Makes, Seen, Stands}
-use Rattle.oftp_session.specs.Recalling.{IsSoAt, IsSoOf, Recalls, recalled_in, recalled_of}
+use Rattle.oftp_session.specs.Recalling.{RecallsAt, RecallsOf, Recalls, recalled_in, recalled_of}
 use Rattle.oftp_session.specs.Inside.{Goes, Takes}
 
 -- the responses are listed by the identities and the responses of the files
@@ -384,56 +384,56 @@ stands_recalled (AwaitingEnd contact t) s h = ap recalled_of h
 stands_recalled (EndedHere reason) s h = ap recalled_of h
 stands_recalled (EndedThere reason) s h = ap recalled_of h
 
-pub so_after : (step : Step) (contact : Contact) (asks : Option Bool) (old new : View) (frame : List ℕ) (result : Result State SessionFault) → Stays contact old.register step
-    → IsSoOf asks contact old.register → Takes step old new frame result → IfOk result (λ next. IsSoAt asks (standing_of next) new.register)
-unfolding IsSoAt
-so_after step contact asks old new frame (Ok next) stays so takes = λ to e given is.
+pub so_after : (step : Step) (contact : Contact) (due : Option Bool) (old new : View) (frame : List ℕ) (result : Result State SessionFault) → Stays contact old.register step
+    → RecallsOf due contact old.register → Takes step old new frame result → IfOk result (λ next. RecallsAt due (standing_of next) new.register)
+unfolding RecallsAt
+so_after step contact due old new frame (Ok next) stays so takes = λ to e given is.
     let st = stays to (sym (stands_recalled step.phase (standing_of next) takes.1) ∙ e) in
     so given is ∙ asks_same contact old.register new.register (st.1 new.register takes.0.register) ∙ st.0 new.register
-so_after step contact asks old new frame (Err fault) stays so takes = tt
+so_after step contact due old new frame (Err fault) stays so takes = tt
 
 -- a session with such a partner remembers what it remembered
-pub so_recalled : (asks kept : Option Bool) (s : Standing) (contact : Contact) (r : Register) → recalled_of s ≡ Some contact → kept ≡ cond (is_some (recalled_of s)) asks None → IsSoAt asks s r
-    → IsSoOf kept contact r
-unfolding IsSoAt
-so_recalled asks kept s contact r at is so = λ given e.
-    so contact at given (sym (is ∙ ap (λ (o : Option Contact). let x : Option Bool = cond (is_some o) asks None in x) at) ∙ e)
+pub so_recalled : (due kept : Option Bool) (s : Standing) (contact : Contact) (r : Register) → recalled_of s ≡ Some contact → kept ≡ cond (is_some (recalled_of s)) due None → RecallsAt due s r
+    → RecallsOf kept contact r
+unfolding RecallsAt
+so_recalled due kept s contact r at is so = λ given e.
+    so contact at given (sym (is ∙ ap (λ (o : Option Contact). let x : Option Bool = cond (is_some o) due None in x) at) ∙ e)
 
-pub so_of : (asks : Option Bool) (s : Standing) (contact : Contact) (r : Register) → recalled_of s ≡ Some contact → IsSoAt asks s r → IsSoOf asks contact r
-unfolding IsSoAt
-so_of asks s contact r at so = so contact at
+pub so_of : (due : Option Bool) (s : Standing) (contact : Contact) (r : Register) → recalled_of s ≡ Some contact → RecallsAt due s r → RecallsOf due contact r
+unfolding RecallsAt
+so_of due s contact r at so = so contact at
 
 -- what is forgotten can't be wrong
-nothing_recalled : (asks : Option Bool) (s : Standing) (r : Register) → asks ≡ None → IsSoAt asks s r
-unfolding IsSoAt
-nothing_recalled asks s r none = λ to e given is. absurd (let no : ⊥ = cc in no)
+nothing_recalled : (due : Option Bool) (s : Standing) (r : Register) → due ≡ None → RecallsAt due s r
+unfolding RecallsAt
+nothing_recalled due s r none = λ to e given is. absurd (let no : ⊥ = cc in no)
 
 -- and any other session forgets
-module _ (asks kept : Option Bool) (s : Standing) (r : Register) (none : recalled_of s ≡ None) (is : kept ≡ cond (is_some (recalled_of s)) asks None) where
+module _ (due kept : Option Bool) (s : Standing) (r : Register) (none : recalled_of s ≡ None) (is : kept ≡ cond (is_some (recalled_of s)) due None) where
   forgotten : kept ≡ None
-  forgotten = is ∙ ap (λ (o : Option Contact). let x : Option Bool = cond (is_some o) asks None in x) none
+  forgotten = is ∙ ap (λ (o : Option Contact). let x : Option Bool = cond (is_some o) due None in x) none
 
-  pub forgotten_next : (next : Standing) → IsSoAt kept next r
+  pub forgotten_next : (next : Standing) → RecallsAt kept next r
   forgotten_next next = nothing_recalled kept next r forgotten
 
-  pub forgotten_result : (result : Result State SessionFault) → IfOk result (λ next. IsSoAt kept (standing_of next) r)
+  pub forgotten_result : (result : Result State SessionFault) → IfOk result (λ next. RecallsAt kept (standing_of next) r)
   forgotten_result (Ok next) = forgotten_next (standing_of next)
   forgotten_result (Err fault) = tt
 
 -- a session that has no such partner remembers nothing
-pub nowhere_recalled : (asks : Option Bool) (s : Standing) (r : Register) → recalled_of s ≡ None → IsSoAt asks s r
-unfolding IsSoAt
-nowhere_recalled asks s r none = λ to e given is. absurd (let no : ⊥ = cc in no)
+pub nowhere_recalled : (due : Option Bool) (s : Standing) (r : Register) → recalled_of s ≡ None → RecallsAt due s r
+unfolding RecallsAt
+nowhere_recalled due s r none = λ to e given is. absurd (let no : ⊥ = cc in no)
 
-goes_nowhere : (step : Step) (asks : Option Bool) (to : State) (frame : List ℕ) (r : Register) → recalled_in step.phase ≡ None → Goes step to frame → IsSoAt asks (standing_of to) r
-goes_nowhere step asks to frame r none goes = nowhere_recalled asks (standing_of to) r (stands_recalled step.phase (standing_of to) goes.stands ∙ none)
+goes_nowhere : (step : Step) (due : Option Bool) (to : State) (frame : List ℕ) (r : Register) → recalled_in step.phase ≡ None → Goes step to frame → RecallsAt due (standing_of to) r
+goes_nowhere step due to frame r none goes = nowhere_recalled due (standing_of to) r (stands_recalled step.phase (standing_of to) goes.stands ∙ none)
 
-pub unexpected_recalls : (c : Command) (asks : Option Bool) (to : State) (frame : List ℕ) (r : Register) → Goes (unexpected c) to frame → IsSoAt asks (standing_of to) r
-unexpected_recalls c asks to frame r goes = goes_nowhere (unexpected c) asks to frame r (unexpected_stops c) goes
+pub unexpected_recalls : (c : Command) (due : Option Bool) (to : State) (frame : List ℕ) (r : Register) → Goes (unexpected c) to frame → RecallsAt due (standing_of to) r
+unexpected_recalls c due to frame r goes = goes_nowhere (unexpected c) due to frame r (unexpected_stops c) goes
 
 pub opening_recalls : (called : Option Partner) (seen : Seen) (r : Register) → Stands (opening called) seen → Recalls seen r
-opening_recalls None seen r stands = nowhere_recalled seen.asks seen.standing r (ap recalled_of stands)
-opening_recalls (Some partner) seen r stands = nowhere_recalled seen.asks seen.standing r (ap recalled_of stands)
+opening_recalls None seen r stands = nowhere_recalled seen.response_due seen.standing r (ap recalled_of stands)
+opening_recalls (Some partner) seen r stands = nowhere_recalled seen.response_due seen.standing r (ap recalled_of stands)
 
 pub ended_recalls : (reason : SessionReason) (seen : Seen) (r : Register) → Stands (EndedHere reason) seen → Recalls seen r
-ended_recalls reason seen r stands = nowhere_recalled seen.asks seen.standing r (ap recalled_of stands)
+ended_recalls reason seen r stands = nowhere_recalled seen.response_due seen.standing r (ap recalled_of stands)

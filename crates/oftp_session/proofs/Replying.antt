@@ -13,8 +13,8 @@ use Rattle.oftp_register.specs.Changes.{is_closing}
 use Rattle.oftp_register.specs.Soundness.{IsFit}
 use Rattle.oftp_register.specs.Offices.{View}
 use Rattle.oftp_session.specs.declared.link.WhenDone.TheVariants.{ChangeDirection}
-use Rattle.oftp_session.specs.declared.sending.Offering.{Offering}
-use Rattle.oftp_session.specs.declared.sending.Shipment.{Shipment}
+use Rattle.oftp_session.specs.declared.sending.OutgoingOffer.{OutgoingOffer}
+use Rattle.oftp_session.specs.declared.sending.OutgoingTransfer.{OutgoingTransfer}
 use Rattle.oftp_session.specs.declared.session.SessionFault.{SessionFault}
 use Rattle.oftp_session.specs.declared.state.Contact.{Contact}
 use Rattle.oftp_session.specs.declared.state.State.{State}
@@ -24,9 +24,9 @@ use Rattle.oftp_session.specs.Phases.{Phase, Offer, Sending, SpeakerIdle, Step, 
 use Rattle.oftp_session.specs.Sending.{after_file, came_awaiting_end, refusal, reopening, start_step, transfer_of}
 use Rattle.oftp_session.specs.Speaker.{came_awaiting_rtr}
 use Rattle.oftp_session.specs.Steps.{IsEnded, IsOffered, IsResponding}
-use Rattle.oftp_session.specs.Standings.{Standing, At, Ships, StandsIn, offering_of, standing_of}
+use Rattle.oftp_session.specs.Standings.{Standing, At, Ships, StandsIn, offered_as, standing_of}
 use Rattle.oftp_session.specs.Calls.{DoesNot, IsMade}
-use Rattle.oftp_session.specs.Inside.{Files, IsAccepted, Takes}
+use Rattle.oftp_session.specs.Inside.{IsAccepted, MakesChange, Takes}
 use Rattle.oftp_session.proofs.Outgoing.{handed_accepted, handed_fits, offered_handed, offered_reopened, refused_accepted, refused_fits, reopened_accepted, reopened_fits, send_accepted, send_fits}
 
 -- a change is made, and nothing is sent
@@ -98,14 +98,14 @@ efna_err contact n t efna old new told holds is does =
 
 -- SFPA of a file whose end was sent: it is sent again
 
-files_same : {T : Type 0} (change other : Option Change) (old new : View) (result : Result T SessionFault) → change ≡ other → Files change old new result → Files other old new result
-files_same change other old new result e h = subst (λ (x : Option Change). Files x old new result) e h
+files_same : {T : Type 0} (change other : Option Change) (old new : View) (result : Result T SessionFault) → change ≡ other → MakesChange change old new result → MakesChange other old new result
+files_same change other old new result e h = subst (λ (x : Option Change). MakesChange x old new result) e h
 
-pub reopens : {T : Type 0} (s : Offering) (offer : Offer) (old new : View) (result : Result T SessionFault) → IsOffered old.register offer → s ≡ offering_of offer → s.is_closing ≡ true
-    → (IsFit old.register (Reopen s.number) → IsAccepted old.register (Reopen s.number) → Files (Some (Reopen s.number)) old new result) → Files (reopening offer) old new result
+pub reopens : {T : Type 0} (s : OutgoingOffer) (offer : Offer) (old new : View) (result : Result T SessionFault) → IsOffered old.register offer → s ≡ offered_as offer → s.is_closing ≡ true
+    → (IsFit old.register (Reopen s.number) → IsAccepted old.register (Reopen s.number) → MakesChange (Some (Reopen s.number)) old new result) → MakesChange (reopening offer) old new result
 reopens s offer old new result holds is closes does =
-    let number : s.number ≡ offer.number = ap (λ (x : Offering). x.number) is in
-    let closing : is_closing offer.file.state ≡ true = sym (ap (λ (x : Offering). x.is_closing) is) ∙ closes in
+    let number : s.number ≡ offer.number = ap (λ (x : OutgoingOffer). x.number) is in
+    let closing : is_closing offer.file.state ≡ true = sym (ap (λ (x : OutgoingOffer). x.is_closing) is) ∙ closes in
     let accepted = subst (λ m. IsAccepted old.register (Reopen m)) (sym number) (offered_reopened old.register offer holds closing) in
     let change : Some (Reopen s.number) ≡ reopening offer =
     ap (λ m. Some (Reopen m)) number ∙ sym (ap (λ b. cond b (Some (Reopen offer.number)) None) closing) in
@@ -115,7 +115,7 @@ start_is : (contact : Contact) (offer : Offer) (from : ℕ) → from ≤ offer.f
 start_is contact offer from within =
     ap (λ b. cond b (changes (Sending contact (transfer_of offer from)) (reopening offer)) (fails ProtocolViolation)) (le-leb from offer.from within)
 
-pub start_ok : (contact : Contact) (offer : Offer) (from : ℕ) (s : Shipment) (old new : View) (frame : List ℕ) → from ≤ offer.from → frame ≡ []
+pub start_ok : (contact : Contact) (offer : Offer) (from : ℕ) (s : OutgoingTransfer) (old new : View) (frame : List ℕ) → from ≤ offer.from → frame ≡ []
     → IsMade (reopening offer) None old new [] → Ships contact (transfer_of offer from) s → Takes (start_step contact offer from) old new frame (Ok (state.Sending contact s))
 start_ok contact offer from s old new frame within none made ships =
     subst (λ (x : Step). Takes x old new frame (Ok (state.Sending contact s))) (sym (start_is contact offer from within))
@@ -123,13 +123,13 @@ start_ok contact offer from s old new frame within none made ships =
 
 -- SFNA
 
-pub duplicate_given : {T : Type 0} (s : Offering) (offer : Offer) (sfna : Sfna) (old new : View) (result : Result T SessionFault) → IsOffered old.register offer → s ≡ offering_of offer
+pub duplicate_given : {T : Type 0} (s : OutgoingOffer) (offer : Offer) (sfna : Sfna) (old new : View) (result : Result T SessionFault) → IsOffered old.register offer → s ≡ offered_as offer
     → (sfna.reason == start_number DuplicateFile) ≡ true → s.is_closing ≡ true
-    → (IsFit old.register (HandOver s.number) → IsAccepted old.register (HandOver s.number) → Files (Some (HandOver s.number)) old new result)
-    → Files (refusal offer sfna) old new result
+    → (IsFit old.register (HandOver s.number) → IsAccepted old.register (HandOver s.number) → MakesChange (Some (HandOver s.number)) old new result)
+    → MakesChange (refusal offer sfna) old new result
 duplicate_given s offer sfna old new result holds is reason closes does =
-    let number : s.number ≡ offer.number = ap (λ (x : Offering). x.number) is in
-    let closing : is_closing offer.file.state ≡ true = sym (ap (λ (x : Offering). x.is_closing) is) ∙ closes in
+    let number : s.number ≡ offer.number = ap (λ (x : OutgoingOffer). x.number) is in
+    let closing : is_closing offer.file.state ≡ true = sym (ap (λ (x : OutgoingOffer). x.is_closing) is) ∙ closes in
     let accepted = subst (λ m. IsAccepted old.register (HandOver m)) (sym number) (offered_handed old.register offer holds closing) in
     let both : (sfna.reason == start_number DuplicateFile && is_closing offer.file.state) ≡ true =
     ap (λ b. b && is_closing offer.file.state) reason ∙ closing in
@@ -138,13 +138,13 @@ duplicate_given s offer sfna old new result holds is reason closes does =
     ∙ sym (ap (λ b. cond b (Some (HandOver offer.number)) (cond sfna.retry None (Some (Refuse offer.number sfna.reason)))) both) in
     files_same _ _ old new result change (does (handed_fits old.register s.number) accepted)
 
-pub given_up : {T : Type 0} (s : Offering) (offer : Offer) (sfna : Sfna) (old new : View) (result : Result T SessionFault) → IsOffered old.register offer → s ≡ offering_of offer
+pub given_up : {T : Type 0} (s : OutgoingOffer) (offer : Offer) (sfna : Sfna) (old new : View) (result : Result T SessionFault) → IsOffered old.register offer → s ≡ offered_as offer
     → (sfna.reason == start_number DuplicateFile && s.is_closing) ≡ false → sfna.retry ≡ false
-    → (IsFit old.register (Refuse s.number sfna.reason) → IsAccepted old.register (Refuse s.number sfna.reason) → Files (Some (Refuse s.number sfna.reason)) old new result)
-    → Files (refusal offer sfna) old new result
+    → (IsFit old.register (Refuse s.number sfna.reason) → IsAccepted old.register (Refuse s.number sfna.reason) → MakesChange (Some (Refuse s.number sfna.reason)) old new result)
+    → MakesChange (refusal offer sfna) old new result
 given_up s offer sfna old new result holds is other final does =
-    let number : s.number ≡ offer.number = ap (λ (x : Offering). x.number) is in
-    let closing : s.is_closing ≡ is_closing offer.file.state = ap (λ (x : Offering). x.is_closing) is in
+    let number : s.number ≡ offer.number = ap (λ (x : OutgoingOffer). x.number) is in
+    let closing : s.is_closing ≡ is_closing offer.file.state = ap (λ (x : OutgoingOffer). x.is_closing) is in
     let accepted = subst (λ m. IsAccepted old.register (Refuse m sfna.reason)) (sym number) (refused_accepted old.register offer sfna.reason holds) in
     let neither : (sfna.reason == start_number DuplicateFile && is_closing offer.file.state) ≡ false =
     ap (λ b. sfna.reason == start_number DuplicateFile && b) (sym closing) ∙ other in

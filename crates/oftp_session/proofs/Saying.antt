@@ -8,7 +8,7 @@ use Rattle.oftp_session.specs.declared.session.SessionFault.{SessionFault}
 use Rattle.oftp_session.specs.declared.state.State.{State}
 use Rattle.oftp_session.specs.Phases.{Step, frame_of}
 use Rattle.oftp_session.specs.Calls.{DoesNot, IsMade}
-use Rattle.oftp_session.specs.Inside.{Files, Goes, Takes}
+use Rattle.oftp_session.specs.Inside.{Goes, MakesChange, Takes}
 
 -- a change that was made is answered
 pub answered : (change : Option Change) (said : Command) (old new : View) (frame : List ℕ) → frame ≡ frame_of said → IsMade change None old new [] → IsMade change (Some said) old new frame
@@ -31,6 +31,6 @@ passed_on step old new frame told (Err x) is fails = subst (DoesNot step.change 
 
 -- and that of a change
 pub passed_file : {T : Type 0} (change : Option Change) (old new : View) (told : SessionFault) (result : Result T SessionFault) → IsErrAnd result (λ (x : SessionFault). x ≡ told)
-    → DoesNot change old new told → Files change old new result
+    → DoesNot change old new told → MakesChange change old new result
 passed_file change old new told (Ok x) is fails = absurd is
 passed_file change old new told (Err x) is fails = subst (DoesNot change old new) (sym is) fails

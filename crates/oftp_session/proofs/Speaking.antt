@@ -13,7 +13,7 @@ use Rattle.oftp_register.specs.LookUps.{entry_at, next_item, outgoing_entry, uni
 use Rattle.oftp_register.specs.Soundness.{IsSound}
 use Rattle.oftp_register.specs.Offices.{View}
 use Rattle.oftp_session.specs.declared.link.WhenDone.{WhenDone}
-use Rattle.oftp_session.specs.declared.sending.Offering.{Offering}
+use Rattle.oftp_session.specs.declared.sending.OutgoingOffer.{OutgoingOffer}
 use Rattle.oftp_session.specs.declared.session.SessionFault.{SessionFault}
 use Rattle.oftp_session.specs.declared.state.Contact.{Contact}
 use Rattle.oftp_session.specs.declared.state.State.{State}
@@ -23,7 +23,7 @@ use Rattle.oftp_session.specs.Phases.{Phase, Step, Transfer, Sending, frame_of, 
 use Rattle.oftp_session.specs.Speaker.{having_tried_file, offer_of, offered_from, offers, on_item, sfid_of, speaks}
 use Rattle.oftp_session.specs.Sending.{credit_left, sends_next, turned_sending, payloads_in}
 use Rattle.oftp_session.specs.Steps.{turned}
-use Rattle.oftp_session.specs.Standings.{Standing, StandsIn, is_due, offering_of, standing_of}
+use Rattle.oftp_session.specs.Standings.{Standing, StandsIn, is_due, offered_as, standing_of}
 use Rattle.oftp_session.specs.Calls.{IsMade}
 use Rattle.oftp_session.specs.Inside.{Goes, Takes}
 use Rattle.oftp_session.proofs.Items.{item_goes, units_are}
@@ -31,27 +31,27 @@ use Rattle.oftp_session.proofs.Saying.{step_same}
 use Rattle.oftp_session.proofs.Turns.{each_turn}
 use Rattle.oftp_session.proofs.Views.{then_fails, then_made}
 
--- the offering of a file with this entry
-abbrev held_of : OutgoingEntry → ℕ → ℕ → Offering
+-- the offer of a file with this entry
+abbrev held_of : OutgoingEntry → ℕ → ℕ → OutgoingOffer
 held_of e units from =
     record { number = e.no; is_closing = is_closing e.state; format = e.format; longest = e.longest; rows = e.rows; units = units; mark = e.mark; from = from }
 
 -- a file is offered
-pub offer_ok : (contact : Contact) (done : WhenDone) (e : OutgoingEntry) (file : Outgoing) (units from : ℕ) (said : Command) (s : Offering) (old new : View) (frame : List ℕ)
+pub offer_ok : (contact : Contact) (done : WhenDone) (e : OutgoingEntry) (file : Outgoing) (units from : ℕ) (said : Command) (s : OutgoingOffer) (old new : View) (frame : List ℕ)
     → e ≡ outgoing_entry e.no file → entry_at e.no old.register.outgoing ≡ Some file → units ≡ units_of old.register side.Outgoing e.no → IsMade None None old new []
     → from ≡ cond contact.link.restart e.mark 0 → (e ≡ outgoing_entry e.no file → units ≡ units_in file.rows → said ≡ sfid_of file from) → frame ≡ frame_of said
-    → s ≡ (let k : Offering = record { number = e.no; is_closing = is_closing e.state; format = e.format; longest = e.longest; rows = e.rows; units = units; mark = e.mark; from = from } in k)
+    → s ≡ (let k : OutgoingOffer = record { number = e.no; is_closing = is_closing e.state; format = e.format; longest = e.longest; rows = e.rows; units = units; mark = e.mark; from = from } in k)
     → Takes (offers contact done e.no (Some file)) old new frame (Ok (state.AwaitingStart (having_tried_file contact e.no) s))
 offer_ok contact done e file units from said s old new frame is entry counted was place spelled spoken holds =
     let octets : units ≡ units_in file.rows = counted ∙ units_are old.register e.no file entry in
     let row : from ≡ offered_from contact file = place ∙ ap (λ (x : OutgoingEntry). cond contact.link.restart x.mark 0) is in
     let command : frame ≡ frame_of (sfid_of file (offered_from contact file)) =
     spoken ∙ ap frame_of (spelled is octets) ∙ ap (λ n. frame_of (sfid_of file n)) row in
-    let whole : s ≡ offering_of (offer_of contact e.no file) =
+    let whole : s ≡ offered_as (offer_of contact e.no file) =
     holds ∙ ap (λ n. held_of e n from) octets ∙ ap (λ n. held_of e (units_in file.rows) n) row
     ∙ ap (λ (x : OutgoingEntry). held_of x (units_in file.rows) (offered_from contact file)) is in (
       record { said = command; register = was.register; stands = was.stands; faults = was.faults },
-      ap (λ (x : Offering). standing_of (state.AwaitingStart (having_tried_file contact e.no) x)) whole,
+      ap (λ (x : OutgoingOffer). standing_of (state.AwaitingStart (having_tried_file contact e.no) x)) whole,
     )
 
 -- a step after a look-up

@@ -16,9 +16,9 @@ use Rattle.oftp_register.proofs.FileRowLemmas.{few_rows}
 use Rattle.oftp_register.proofs.StartLemmas.{accepted_starts, starts_are_found}
 use Rattle.oftp_session.specs.declared.state.Contact.{Contact}
 use Rattle.oftp_session.specs.Settings.{Setting}
-use Rattle.oftp_session.specs.Receiving.{offered_file, offered_identity, receipt_of, start_of, terms_within, verdict_on}
+use Rattle.oftp_session.specs.Listener.{offered_file, offered_identity, receipt_of, start_of, terms_within, verdict_on}
 use Rattle.oftp_session.specs.Steps.{IsReceived}
-use Rattle.oftp_session.specs.Starting.{MayBegin}
+use Rattle.oftp_session.specs.InsideListener.{MayBegin}
 use Rattle.oftp_session.proofs.Receipts.{files_limits}
 
 -- a start doesn't change the limits

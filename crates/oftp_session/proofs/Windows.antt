@@ -14,7 +14,7 @@ use Rattle.oftp_register.specs.declared.change.Change.TheVariants.{Keep}
 use Rattle.oftp_register.specs.Register.{Register}
 use Rattle.oftp_register.specs.Soundness.{IsFit}
 use Rattle.oftp_register.specs.Offices.{View}
-use Rattle.oftp_session.specs.declared.receiving.Reception.{Reception}
+use Rattle.oftp_session.specs.declared.receiving.IncomingTransfer.{IncomingTransfer}
 use Rattle.oftp_session.specs.declared.session.SessionFault.{SessionFault}
 use Rattle.oftp_session.specs.declared.state.Contact.{Contact}
 use Rattle.oftp_session.specs.declared.state.State.{State}
@@ -24,7 +24,8 @@ use Rattle.oftp_session.specs.Receiving.{data_step, carried_by, ends_at, is_wind
 use Rattle.oftp_session.specs.Steps.{IsReceived}
 use Rattle.oftp_session.specs.Standings.{Tracks}
 use Rattle.oftp_session.specs.Calls.{DoesNot, IsMade}
-use Rattle.oftp_session.specs.Inside.{HasTaken, IsAccepted, Refuses, Takes}
+use Rattle.oftp_session.specs.Inside.{IsAccepted, Takes}
+use Rattle.oftp_session.specs.InsideReceiving.{HasTaken, Refuses}
 use Rattle.oftp_session.proofs.Saying.{step_same}
 use Rattle.oftp_session.proofs.Credit.{place_full, place_open}
 use Rattle.oftp_session.proofs.Receipts.{carried_next, keep_accepted, keep_fits, kept_within, payload_holds}
@@ -54,18 +55,18 @@ pub window_full : (contact : Contact) (g : Receipt) (rows : List (List ℕ)) →
 window_full contact g rows h = rw h refl
 
 -- what the session's taker took or refused, the phase's does
-pub next_taken : (r : Register) (contact : Contact) (f : Receipt) (s : Reception) (new : Taking) (payload : List ℕ) → IsReceived r f → Tracks contact f s → taken s.taker payload ≡ Ok new
+pub next_taken : (r : Register) (contact : Contact) (f : Receipt) (s : IncomingTransfer) (new : Taking) (payload : List ℕ) → IsReceived r f → Tracks contact f s → taken s.taker payload ≡ Ok new
     → (t : Taking) × (taken (carried_by f) payload ≡ Ok t) × (new ≡ shed (kept_of f) t)
 next_taken r contact f s new payload holds at e =
     shed_ok (kept_of f) (carried_by f) new payload (kept_within r f holds) (ap (λ (x : Taking). taken x payload) (sym at.taker) ∙ e)
 
-pub next_refused : (r : Register) (contact : Contact) (f : Receipt) (s : Reception) (fault : TakeFault) (payload : List ℕ) → IsReceived r f → Tracks contact f s
+pub next_refused : (r : Register) (contact : Contact) (f : Receipt) (s : IncomingTransfer) (fault : TakeFault) (payload : List ℕ) → IsReceived r f → Tracks contact f s
     → taken s.taker payload ≡ Err fault → taken (carried_by f) payload ≡ Err fault
 next_refused r contact f s fault payload holds at e =
     shed_err (kept_of f) (carried_by f) payload fault (kept_within r f holds) (ap (λ (x : Taking). taken x payload) (sym at.taker) ∙ e)
 
--- the reception has one payload more, which isn't counted yet
-pub next_tracks : (contact : Contact) (f : Receipt) (s : Reception) (new t : Taking) (payload : List ℕ) → Tracks contact f s → taken (carried_by f) payload ≡ Ok t
+-- the transfer has one payload more, which isn't counted yet
+pub next_tracks : (contact : Contact) (f : Receipt) (s : IncomingTransfer) (new t : Taking) (payload : List ℕ) → Tracks contact f s → taken (carried_by f) payload ≡ Ok t
     → new ≡ shed (kept_of f) t → HasTaken contact (with_payload f payload) (record s { taker = new })
 next_tracks contact f s new t payload at e is =
     let n : length (f.payloads ++ payload ∷ []) ≡ length f.payloads + 1 = length-append f.payloads (payload ∷ []) in
@@ -80,7 +81,7 @@ next_tracks contact f s new t payload at e is =
 some_window : (contact : Contact) → 0 < window contact
 some_window contact = omega arith
 
-pub credit_open : (contact : Contact) (g : Receipt) (s : Reception) → HasTaken contact g s → 1 < s.credit
+pub credit_open : (contact : Contact) (g : Receipt) (s : IncomingTransfer) → HasTaken contact g s → 1 < s.credit
     → (is_window_full contact g ≡ false) × (max 1 (s.credit - 1) ≡ window contact - length g.payloads % window contact)
 credit_open contact g s at more =
     let w = window contact in
@@ -89,7 +90,7 @@ credit_open contact g s at more =
     let place : length g.payloads % w ≡ suc (n % w) = ap (λ (m : ℕ). m % w) (sym all) ∙ place_open n w s.credit (some_window contact) more at.credit in
     (ap (λ (m : ℕ). m == 0) place ∙ eqb-suc-zero (n % w), omega (arith, at.credit, place, more))
 
-pub credit_full : (contact : Contact) (g : Receipt) (s : Reception) → HasTaken contact g s → s.credit ≤ 1 → (is_window_full contact g ≡ true) × (length g.payloads % window contact ≡ 0)
+pub credit_full : (contact : Contact) (g : Receipt) (s : IncomingTransfer) → HasTaken contact g s → s.credit ≤ 1 → (is_window_full contact g ≡ true) × (length g.payloads % window contact ≡ 0)
 credit_full contact g s at last =
     let w = window contact in
     let n : ℕ = length g.payloads - 1 in
@@ -98,7 +99,7 @@ credit_full contact g s at last =
     (ap (λ (m : ℕ). m == 0) place, place)
 
 -- within a window nothing is sent
-pub open_takes : (contact : Contact) (g : Receipt) (s : Reception) (now : View) (frame : List ℕ) → HasTaken contact g s → 1 < s.credit → now.stands → frame ≡ []
+pub open_takes : (contact : Contact) (g : Receipt) (s : IncomingTransfer) (now : View) (frame : List ℕ) → HasTaken contact g s → 1 < s.credit → now.stands → frame ≡ []
     → Takes (window_step contact g (rows_to_keep g (carried_by g))) now now frame (Ok (state.Receiving contact (record s { credit = s.credit - 1 })))
 open_takes contact g s now frame at more stands hushed =
     let c = credit_open contact g s at more in
@@ -108,7 +109,7 @@ open_takes contact g s now frame at more stands hushed =
     (record { said = hushed; register = refl; stands = stands; faults = refl }, (record s { credit = s.credit - 1 }, refl, tracks))
 
 -- the rows were removed
-keep_tracks : (r : Register) (contact : Contact) (g : Receipt) (s : Reception) → IsReceived r g → HasTaken contact g s → length g.payloads % window contact ≡ 0
+keep_tracks : (r : Register) (contact : Contact) (g : Receipt) (s : IncomingTransfer) → IsReceived r g → HasTaken contact g s → length g.payloads % window contact ≡ 0
     → let rows = rows_to_keep g (carried_by g) in let new = record s.taker { rows = []; away = s.taker.away + length s.taker.rows } in
     Tracks contact (with_rows g rows) (record s { credit = contact.link.credit; taker = new })
 keep_tracks r contact g s holds at none =
@@ -123,21 +124,21 @@ keep_tracks r contact g s holds at none =
     }
 
 -- the premise on the rows and their change
-pub fit_of : (r : Register) (contact : Contact) (g : Receipt) (s : Reception) → IsReceived r g → HasTaken contact g s → IsFit r (Keep s.number s.taker.rows)
+pub fit_of : (r : Register) (contact : Contact) (g : Receipt) (s : IncomingTransfer) → IsReceived r g → HasTaken contact g s → IsFit r (Keep s.number s.taker.rows)
 fit_of r contact g s holds at =
     subst (λ (n : ℕ). IsFit r (Keep n s.taker.rows)) (sym at.number)
     (subst (λ (rows : List (List ℕ)). IsFit r (Keep g.number rows)) (sym (ap (λ (t : Taking). t.rows) at.taker)) (keep_fits r g holds))
 
-pub accepted_of : (r : Register) (contact : Contact) (g : Receipt) (s : Reception) → IsReceived r g → HasTaken contact g s → IsAccepted r (Keep s.number s.taker.rows)
+pub accepted_of : (r : Register) (contact : Contact) (g : Receipt) (s : IncomingTransfer) → IsReceived r g → HasTaken contact g s → IsAccepted r (Keep s.number s.taker.rows)
 accepted_of r contact g s holds at =
     subst (λ (n : ℕ). IsAccepted r (Keep n s.taker.rows)) (sym at.number)
     (subst (λ (rows : List (List ℕ)). IsAccepted r (Keep g.number rows)) (sym (ap (λ (t : Taking). t.rows) at.taker)) (keep_accepted r g holds))
 
-change_of : (contact : Contact) (g : Receipt) (s : Reception) → HasTaken contact g s → keeping s.number s.taker.rows ≡ keeping g.number (rows_to_keep g (carried_by g))
+change_of : (contact : Contact) (g : Receipt) (s : IncomingTransfer) → HasTaken contact g s → keeping s.number s.taker.rows ≡ keeping g.number (rows_to_keep g (carried_by g))
 change_of contact g s at = ap (λ (n : ℕ). keeping n s.taker.rows) at.number ∙ ap (λ (t : Taking). keeping g.number t.rows) at.taker
 
 -- a full window fails if its rows can't be stored
-pub full_fails : (contact : Contact) (g : Receipt) (s : Reception) (old new : View) (told : SessionFault) → HasTaken contact g s → s.credit ≤ 1
+pub full_fails : (contact : Contact) (g : Receipt) (s : IncomingTransfer) (old new : View) (told : SessionFault) → HasTaken contact g s → s.credit ≤ 1
     → DoesNot (keeping s.number s.taker.rows) old new told → DoesNot (window_step contact g (rows_to_keep g (carried_by g))).change old new told
 full_fails contact g s old new told at last d =
     let rows = rows_to_keep g (carried_by g) in
@@ -145,7 +146,7 @@ full_fails contact g s old new told at last d =
     subst (λ (x : Option Change). DoesNot x old new told) (change_of contact g s at ∙ ap (λ (x : Step). x.change) (sym (window_full contact g rows full))) d
 
 -- otherwise the partner gets credit
-pub full_takes : (contact : Contact) (g : Receipt) (s next : Reception) (old new : View) (frame : List ℕ) → IsReceived old.register g → HasTaken contact g s → s.credit ≤ 1
+pub full_takes : (contact : Contact) (g : Receipt) (s next : IncomingTransfer) (old new : View) (frame : List ℕ) → IsReceived old.register g → HasTaken contact g s → s.credit ≤ 1
     → next ≡ (record s { credit = contact.link.credit; taker = record s.taker { rows = []; away = s.taker.away + length s.taker.rows } })
     → IsMade (keeping s.number s.taker.rows) (Some command.Cdt) old new frame
     → Takes (window_step contact g (rows_to_keep g (carried_by g))) old new frame (Ok (state.Receiving contact next))
@@ -157,7 +158,7 @@ full_takes contact g s next old new frame holds at last is m =
     subst (λ (x : Step). Takes x old new frame (Ok (state.Receiving contact next))) (sym (window_full contact g rows c.0)) (made, (next, refl, tracks))
 
 -- the rows that are stored are those that the taker returned
-pub window_err : (contact : Contact) (g : Receipt) (s : Reception) (rows : List (List ℕ)) (old new : View) (told : SessionFault) → IsReceived old.register g
+pub window_err : (contact : Contact) (g : Receipt) (s : IncomingTransfer) (rows : List (List ℕ)) (old new : View) (told : SessionFault) → IsReceived old.register g
     → HasTaken contact g s → s.credit ≤ 1 → rows ≡ s.taker.rows
     → (IsFit old.register (Keep s.number rows) → IsAccepted old.register (Keep s.number rows) → DoesNot (keeping s.number rows) old new told)
     → DoesNot (window_step contact g (rows_to_keep g (carried_by g))).change old new told
@@ -166,7 +167,7 @@ window_err contact g s rows old new told holds at last is does =
     let accepted = subst (λ (x : List (List ℕ)). IsAccepted old.register (Keep s.number x)) (sym is) (accepted_of old.register contact g s holds at) in
     full_fails contact g s old new told at last (subst (λ (x : List (List ℕ)). DoesNot (keeping s.number x) old new told) is (does fit accepted))
 
-pub window_ok : (contact : Contact) (g : Receipt) (s : Reception) (rows : List (List ℕ)) (taker : Taking) (credit : ℕ) (old new : View) (frame : List ℕ) → IsReceived old.register g
+pub window_ok : (contact : Contact) (g : Receipt) (s : IncomingTransfer) (rows : List (List ℕ)) (taker : Taking) (credit : ℕ) (old new : View) (frame : List ℕ) → IsReceived old.register g
     → HasTaken contact g s → s.credit ≤ 1 → rows ≡ s.taker.rows → taker ≡ (record s.taker { rows = []; away = s.taker.away + length s.taker.rows }) → credit ≡ contact.link.credit
     → frame ≡ frame_of command.Cdt
     → (IsFit old.register (Keep s.number rows) → IsAccepted old.register (Keep s.number rows) → IsMade (keeping s.number rows) None old new [])
@@ -177,12 +178,12 @@ window_ok contact g s rows taker credit old new frame holds at last is rest valu
     let m = subst (λ (x : List (List ℕ)). IsMade (keeping s.number x) None old new []) is (does fit accepted) in
     let made : IsMade (keeping s.number s.taker.rows) (Some command.Cdt) old new frame = record { said = said; register = m.register; stands = m.stands; faults = m.faults } in
     let next : (record s { credit = credit; taker = taker }) ≡ (record s { credit = contact.link.credit; taker = record s.taker { rows = []; away = s.taker.away + length s.taker.rows } }) =
-    ap (λ (n : ℕ). let x : Reception = record s { credit = n; taker = taker } in x) value
-    ∙ ap (λ (t : Taking). let x : Reception = record s { credit = contact.link.credit; taker = t } in x) rest in
+    ap (λ (n : ℕ). let x : IncomingTransfer = record s { credit = n; taker = taker } in x) value
+    ∙ ap (λ (t : Taking). let x : IncomingTransfer = record s { credit = contact.link.credit; taker = t } in x) rest in
     full_takes contact g s (record { number = s.number; credit = credit; taker = taker }) old new frame holds at last next made
 
 -- a payload that is taken
-pub data_takes : (contact : Contact) (f : Receipt) (s : Reception) (taker : Taking) (payload : List ℕ) (old new : View) (frame : List ℕ) (result : Result State SessionFault)
+pub data_takes : (contact : Contact) (f : Receipt) (s : IncomingTransfer) (taker : Taking) (payload : List ℕ) (old new : View) (frame : List ℕ) (result : Result State SessionFault)
     → IsReceived old.register f → Tracks contact f s → nat_lt contact.link.buffer (length payload + 1) ≡ false → taken s.taker payload ≡ Ok taker
     → ((g : Receipt) → IsReceived old.register g → HasTaken contact g (record s { taker = taker }) → Takes (window_step contact g (rows_to_keep g (carried_by g))) old new frame result)
     → Takes (data_step contact f payload) old new frame result
@@ -193,7 +194,7 @@ data_takes contact f s taker payload old new frame result holds at short took ta
     subst (λ (x : Step). Takes x old new frame result) (sym (data_window contact f payload t.0 short t.1)) (takes (with_payload f payload) now has)
 
 -- a payload that is refused
-pub refused_takes : (contact : Contact) (f : Receipt) (s : Reception) (payload : List ℕ) (cause : TakeFault) (now : View) (frame : List ℕ) (result : Result State SessionFault) → now.stands
+pub refused_takes : (contact : Contact) (f : Receipt) (s : IncomingTransfer) (payload : List ℕ) (cause : TakeFault) (now : View) (frame : List ℕ) (result : Result State SessionFault) → now.stands
     → IsReceived now.register f → Tracks contact f s → nat_lt contact.link.buffer (length payload + 1) ≡ false
     → (cause ≡ take.Memory) ⊎ (taken s.taker payload ≡ Err cause) → Refuses cause result frame → Takes (data_step contact f payload) now now frame result
 refused_takes contact f s payload cause now frame (Ok to) stands holds at short told goes = elim told [

@@ -44,7 +44,7 @@ pub record AfterTurn (step : Phase → Register → Step) (before after : View) 
   pub made : AfterCall step before after result old new
   pub recalls : InPhase before after old (λ p r. OnOk result (Recalls new after.register))
   pub fewer : is_due old.standing ≡ true → OnOk result (turns_left new.standing < turns_left old.standing)
-  pub idle : is_due old.standing ≡ false → is_closed old.standing ≡ false → new ≡ record old { spoken = [] }
+  pub idle : is_due old.standing ≡ false → is_closed old.standing ≡ false → new ≡ record old { frame = [] }
 
 -- what an end by this reason leaves: the session is over, or unchanged if it was over before
 pub record AfterEnd (reason : SessionReason) (result : Result Out SessionFault) (old new : Seen) : Type 0 where

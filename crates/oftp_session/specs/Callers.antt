@@ -13,7 +13,7 @@ greeting = says AwaitingSsid Ssrm
 pub record AfterAlone (step : Step) (old new : Seen) : Type 0 where
   pub setting : new.setting ≡ old.setting
   pub stands : Stands step.phase new
-  pub asks : new.asks ≡ None
+  pub forgets : new.response_due ≡ None
 
 -- the code of the partner with whom a session is open, in a phase and in a state
 abbrev pub code_in : Phase → Option (List ℕ)
@@ -33,8 +33,8 @@ code_in (EndedThere reason) = None
 
 abbrev pub code_of : Standing → Option (List ℕ)
 code_of (At p) = code_in p
-code_of (Receives contact reception) = Some contact.code
-code_of (Offers contact offering) = Some contact.code
-code_of (Sends contact shipment) = Some contact.code
+code_of (Receives contact incoming) = Some contact.code
+code_of (Offers contact offered) = Some contact.code
+code_of (Sends contact outgoing) = Some contact.code
 code_of (Awaits contact number) = Some contact.code
 code_of Broken = None

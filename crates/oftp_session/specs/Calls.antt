@@ -16,13 +16,13 @@ use Rattle.oftp_session.specs.Phases.{Phase, Step, framed, register_after}
 use Rattle.oftp_session.specs.Steps.{Suits}
 use Rattle.oftp_session.specs.Standings.{Standing, StandsIn}
 
--- What a caller sees of a session: its book and the partner that it calls, its state, whether it asks to speak, once that was looked up,
--- and its last frame, [] for none.
+-- What a caller sees of a session: its book and the partner that it calls, its state, whether a response to its partner is due, once that was
+-- looked up, and its last frame, [] for none.
 pub record Seen : Type 0 where
   pub setting : Setting
   pub standing : Standing
-  pub asks : Option Bool
-  pub spoken : List ℕ
+  pub response_due : Option Bool
+  pub frame : List ℕ
 
 -- a session is in this phase
 abbrev pub Stands : Phase → Seen → Type 0

@@ -2,8 +2,8 @@ pub mod Links
 pub mod Settings
 pub mod Phases
 pub mod Opening
-pub mod Receiving
 pub mod Listener
+pub mod Receiving
 pub mod Speaker
 pub mod Sending
 pub mod Steps
@@ -11,9 +11,12 @@ pub mod Standings
 pub mod Calls
 pub mod Recalling
 pub mod After
-pub mod Inside
-pub mod Payloads
-pub mod Agreements
-pub mod Responses
-pub mod Starting
 pub mod Callers
+pub mod Inside
+pub mod InsideOpening
+pub mod InsideListener
+pub mod InsideReceiving
+pub mod InsideSpeaker
+pub mod InsideSending
+pub mod InsideFrame
+pub mod InsidePayloads

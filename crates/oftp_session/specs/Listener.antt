@@ -1,21 +1,92 @@
--- The station as a listener, while no file is received (RFC 5024, sections 5.3.3 and 5.3.12 to 5.3.14).
-use Rattle.std.specs.Prelude.{Bool, ◌&&◌, if◌then◌else◌, [], Option, None, Some}
+-- The station as a listener, while no file is received (RFC 5024, sections 5.3.3 to 5.3.5 and 5.3.12 to 5.3.14).
+use Rattle.std.specs.Prelude.{ℕ, Bool, if◌then◌else◌, [], Option, None, Some, ◌&&◌}
 use Rattle.std.specs.Str.{bytes_eq}
-use Rattle.oftp_wire.specs.declared.command.Eerp.{Eerp}
-use Rattle.oftp_wire.specs.declared.command.Nerp.{Nerp}
 use Rattle.oftp_wire.specs.declared.command.Command.{Command}
 use Rattle.oftp_wire.specs.declared.command.Command.TheVariants as command
+use Rattle.oftp_wire.specs.declared.command.Sfid.{Sfid}
 use Rattle.oftp_wire.specs.declared.reason.SessionReason.TheVariants.{InvalidData}
+use Rattle.oftp_wire.specs.declared.reason.StartReason.{StartReason}
+use Rattle.oftp_wire.specs.Reasons.{start_number}
+use Rattle.oftp_wire.specs.declared.command.Eerp.{Eerp}
+use Rattle.oftp_wire.specs.declared.command.Nerp.{Nerp}
+use Rattle.oftp_vfile.specs.declared.format.Limits.{Limits}
+use Rattle.oftp_vfile.specs.VirtualFile.{units_in}
 use Rattle.oftp_register.specs.declared.change.Change.{Change}
-use Rattle.oftp_register.specs.declared.change.Change.TheVariants.{File}
+use Rattle.oftp_register.specs.declared.change.Change.TheVariants.{Start, File}
 use Rattle.oftp_register.specs.declared.entry.Identity.{Identity}
+use Rattle.oftp_register.specs.declared.entries.Side.TheVariants as side
+use Rattle.oftp_register.specs.declared.verdicts.Terms.{Terms}
+use Rattle.oftp_register.specs.declared.verdicts.StartVerdict.{StartVerdict}
+use Rattle.oftp_register.specs.declared.verdicts.StartVerdict.TheVariants as start
+use Rattle.oftp_register.specs.Register.{Register, Incoming, Received, has_received}
+use Rattle.oftp_register.specs.Changes.{new_incoming}
+use Rattle.oftp_register.specs.ByIdentity.{number_of, started_file}
+use Rattle.oftp_register.specs.LookUps.{look_in, files_full}
+use Rattle.oftp_register.specs.Verdicts.{start_verdict, format_of, longest_of}
 use Rattle.oftp_register.specs.declared.entry.ResponseKind.TheVariants.{EndResponse, NegativeEndResponse}
-use Rattle.oftp_register.specs.Register.{Register, Received, has_received}
-use Rattle.oftp_session.specs.declared.link.WhenDone.TheVariants.{EndSession}
 use Rattle.oftp_session.specs.declared.state.Contact.{Contact}
 use Rattle.oftp_session.specs.Settings.{Setting}
-use Rattle.oftp_session.specs.Receiving.{offer_step}
-use Rattle.oftp_session.specs.Phases.{ListenerIdle, SpeakerIdle, Step, quiet, answers, fails, unexpected}
+use Rattle.oftp_session.specs.Phases.{Receipt, ListenerIdle, Receiving, Step, quiet, answers, says, fails, unexpected, SpeakerIdle}
+use Rattle.oftp_session.specs.declared.link.WhenDone.TheVariants.{EndSession}
+
+-- SFID and its answers (RFC 5024, sections 5.3.3 to 5.3.5)
+
+-- the identity of an offered file
+abbrev pub offered_identity : Sfid → Identity
+offered_identity sfid = record { dataset = sfid.dataset; date = sfid.date; time = sfid.time; originator = sfid.originator; destination = sfid.destination }
+
+-- its entry, without rows
+abbrev pub offered_file : Sfid → Incoming
+offered_file sfid = new_incoming (offered_identity sfid) (format_of sfid.layout) (longest_of sfid.layout) sfid.description
+
+-- the conditions on which a file is accepted by an office with these limits
+abbrev pub terms_within : Setting → Contact → Limits → Terms
+terms_within setting contact limits = record {
+  station = setting.book.station.code;
+  partner = contact.code;
+  receives = contact.link.receives;
+  restart = contact.link.restart;
+  limits = limits;
+}
+
+-- whether the file is accepted, and from which row on
+abbrev pub verdict_on : Setting → Contact → Register → Sfid → StartVerdict
+verdict_on setting contact r sfid =
+    start_verdict sfid (look_in r (offered_identity sfid)) (files_full r side.Incoming) (terms_within setting contact r.limits)
+
+-- the file is started, or goes on after its first `count` rows
+abbrev pub start_of : Sfid → ℕ → Change
+start_of sfid count = Start (offered_identity sfid) (format_of sfid.layout) (longest_of sfid.layout) sfid.description count
+
+-- the file as it is received from this row on
+abbrev pub receipt_of : Register → Sfid → ℕ → Receipt
+receipt_of r sfid count =
+    let file = started_file r (offered_file sfid) count in
+    record {
+      number = number_of r (offered_identity sfid);
+      file = file;
+      from = count;
+      units = units_in file.rows;
+      limit = r.limits.octets;
+      payloads = [];
+    }
+
+-- the answers to SFID
+abbrev pub sfpa_of : ℕ → Command
+sfpa_of count = command.Sfpa (record { restart = count })
+
+abbrev pub sfna_of : StartReason → Bool → Command
+sfna_of reason retry = command.Sfna (record { reason = start_number reason; retry = retry; text = [] })
+
+abbrev pub on_start_verdict : Contact → Register → Sfid → StartVerdict → Step
+on_start_verdict contact r sfid (start.Accept count) =
+    answers (Receiving contact (receipt_of r sfid count)) (Some (start_of sfid count)) (sfpa_of count)
+on_start_verdict contact r sfid (start.Refuse reason retry) = says (ListenerIdle contact) (sfna_of reason retry)
+
+unfoldable pub offer_step : Setting → Contact → Register → Sfid → Step
+offer_step setting contact r sfid = on_start_verdict contact r sfid (verdict_on setting contact r sfid)
+
+-- EERP and NERP (RFC 5024, sections 5.3.13 and 5.3.14)
 
 -- The End-to-End Response of an EERP. It answers a file that went from the response's destination to its originator.
 abbrev pub end_response : Eerp → Received
@@ -55,6 +126,7 @@ response_step setting contact r response = if is_between setting contact respons
     then answers (ListenerIdle contact) (filing r response) command.Rtr
     else fails InvalidData
 
+-- a command that arrives while no file is received
 unfoldable pub came_listener_idle : Setting → Contact → Register → Command → Step
 came_listener_idle setting contact r (command.Sfid sfid) = offer_step setting contact r sfid
 came_listener_idle setting contact r (command.Eerp eerp) = response_step setting contact r (end_response eerp)

@@ -20,20 +20,20 @@ recalled_in other = None
 
 abbrev pub recalled_of : Standing → Option Contact
 recalled_of (At p) = recalled_in p
-recalled_of (Receives contact reception) = Some contact
-recalled_of (Offers contact offering) = Some contact
-recalled_of (Sends contact shipment) = Some contact
+recalled_of (Receives contact incoming) = Some contact
+recalled_of (Offers contact offered) = Some contact
+recalled_of (Sends contact outgoing) = Some contact
 recalled_of (Awaits contact number) = Some contact
 recalled_of Broken = None
 
 -- whether a response is next is what was looked up, if it was: if one is, a listener asks to speak, and a speaker sends it before any file
-abbrev pub IsSoOf : Option Bool → Contact → Register → Type 0
-IsSoOf asks contact r = (given : Bool) → asks ≡ Some given → given ≡ asks_to_speak contact r
+abbrev pub RecallsOf : Option Bool → Contact → Register → Type 0
+RecallsOf due contact r = (given : Bool) → due ≡ Some given → given ≡ asks_to_speak contact r
 
 -- the same for a session that has such a partner
-unfoldable pub IsSoAt : Option Bool → Standing → Register → Type 0
-IsSoAt asks s r = (contact : Contact) → recalled_of s ≡ Some contact → IsSoOf asks contact r
+unfoldable pub RecallsAt : Option Bool → Standing → Register → Type 0
+RecallsAt due s r = (contact : Contact) → recalled_of s ≡ Some contact → RecallsOf due contact r
 
 -- what a session remembers is true
 abbrev pub Recalls : Seen → Register → Type 0
-Recalls session r = IsSoAt session.asks session.standing r
+Recalls session r = RecallsAt session.response_due session.standing r

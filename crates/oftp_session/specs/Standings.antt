@@ -5,9 +5,9 @@ use Rattle.oftp_vfile.specs.Reading.{shed}
 use Rattle.oftp_vfile.specs.Filling.{IsInRows, Sent}
 use Rattle.oftp_vfile.specs.VirtualFile.{units_in}
 use Rattle.oftp_register.specs.Changes.{is_closing}
-use Rattle.oftp_session.specs.declared.receiving.Reception.{Reception}
-use Rattle.oftp_session.specs.declared.sending.Offering.{Offering}
-use Rattle.oftp_session.specs.declared.sending.Shipment.{Shipment}
+use Rattle.oftp_session.specs.declared.receiving.IncomingTransfer.{IncomingTransfer}
+use Rattle.oftp_session.specs.declared.sending.OutgoingOffer.{OutgoingOffer}
+use Rattle.oftp_session.specs.declared.sending.OutgoingTransfer.{OutgoingTransfer}
 use Rattle.oftp_session.specs.declared.state.Contact.{Contact}
 use Rattle.oftp_session.specs.declared.state.State.{State}
 use Rattle.oftp_session.specs.declared.state.State.TheVariants as state
@@ -20,22 +20,22 @@ use Rattle.oftp_session.specs.Steps.{turns_due}
 -- a session is in a phase, receives, offers or sends a file, or was broken by an error of the office or out of memory
 pub data Standing : Type 0 where
   At : (phase : Phase) → Standing
-  Receives : (contact : Contact) (reception : Reception) → Standing
-  Offers : (contact : Contact) (offering : Offering) → Standing
-  Sends : (contact : Contact) (shipment : Shipment) → Standing
+  Receives : (contact : Contact) (incoming : IncomingTransfer) → Standing
+  Offers : (contact : Contact) (offered : OutgoingOffer) → Standing
+  Sends : (contact : Contact) (outgoing : OutgoingTransfer) → Standing
   Awaits : (contact : Contact) (number : ℕ) → Standing
   Broken : Standing
 
--- A reception is in the state of the phase: its credit is what is left of the window, its taker took all payloads, and the stored rows were
+-- An incoming transfer is in the state of the phase: its credit is what is left of the window, its taker took all payloads, and the stored rows were
 -- removed from the taker.
-pub record Tracks (contact : Contact) (f : Receipt) (s : Reception) : Type 0 where
+pub record Tracks (contact : Contact) (f : Receipt) (s : IncomingTransfer) : Type 0 where
   pub number : s.number ≡ f.number
   pub credit : max 1 s.credit ≡ window contact - length f.payloads % window contact
   pub taker : s.taker ≡ shed (kept_of f) (carried_by f)
 
--- the offering of the code for a file that is offered
-abbrev pub offering_of : Offer → Offering
-offering_of offer = record {
+-- the offer of the code for a file that is offered
+abbrev pub offered_as : Offer → OutgoingOffer
+offered_as offer = record {
   number = offer.number;
   is_closing = is_closing offer.file.state;
   format = offer.file.format;
@@ -52,13 +52,13 @@ at_hand None = []
 at_hand (Some rows) = rows
 
 -- they are the first of the file's rows that are left, and the filler is among them
-pub record AreAtHand (file : List (List ℕ)) (s : Shipment) : Type 0 where
+pub record AreAtHand (file : List (List ℕ)) (s : OutgoingTransfer) : Type 0 where
   pub first : at_hand s.page ≡ take (length (at_hand s.page)) (drop s.filler.row file)
   pub place : IsInRows s.filler (at_hand s.page)
 
--- A shipment is in the state of the phase: its credit is what is left, no payload was sent without credit or without room for a subrecord,
+-- An outgoing transfer is in the state of the phase: its credit is what is left, no payload was sent without credit or without room for a subrecord,
 -- its filler made the payloads that were sent, and the rows at hand are those of the file.
-pub record Ships (contact : Contact) (t : Transfer) (s : Shipment) : Type 0 where
+pub record Ships (contact : Contact) (t : Transfer) (s : OutgoingTransfer) : Type 0 where
   pub number : s.number ≡ t.number
   pub format : s.filler.format ≡ t.file.format
   pub longest : s.longest ≡ t.file.longest
@@ -74,7 +74,7 @@ pub record Ships (contact : Contact) (t : Transfer) (s : Shipment) : Type 0 wher
 
 -- a session with this state is in this phase
 abbrev pub StandsIn : Phase → Standing → Type 0
-StandsIn (Receiving contact f) s = (reception : Reception) × (s ≡ Receives contact reception) × Tracks contact f reception
+StandsIn (Receiving contact f) s = (incoming : IncomingTransfer) × (s ≡ Receives contact incoming) × Tracks contact f incoming
 StandsIn ResponderOpening s = s ≡ At ResponderOpening
 StandsIn InitiatorOpening s = s ≡ At InitiatorOpening
 StandsIn AwaitingSsid s = s ≡ At AwaitingSsid
@@ -82,8 +82,8 @@ StandsIn (ListenerIdle contact) s = s ≡ At (ListenerIdle contact)
 StandsIn (SpeakerIdle contact done) s = s ≡ At (SpeakerIdle contact done)
 StandsIn (GivingWay contact) s = s ≡ At (GivingWay contact)
 StandsIn (AwaitingRtr contact number) s = s ≡ At (AwaitingRtr contact number)
-StandsIn (AwaitingStart contact offer) s = s ≡ Offers contact (offering_of offer)
-StandsIn (Sending contact t) s = (shipment : Shipment) × (s ≡ Sends contact shipment) × Ships contact t shipment
+StandsIn (AwaitingStart contact offer) s = s ≡ Offers contact (offered_as offer)
+StandsIn (Sending contact t) s = (outgoing : OutgoingTransfer) × (s ≡ Sends contact outgoing) × Ships contact t outgoing
 StandsIn (AwaitingEnd contact t) s = s ≡ Awaits contact t.number
 StandsIn (EndedHere reason) s = s ≡ At (EndedHere reason)
 StandsIn (EndedThere reason) s = s ≡ At (EndedThere reason)
@@ -94,12 +94,12 @@ standing_of state.ResponderOpening = At ResponderOpening
 standing_of state.InitiatorOpening = At InitiatorOpening
 standing_of state.AwaitingSsid = At AwaitingSsid
 standing_of (state.ListenerIdle contact) = At (ListenerIdle contact)
-standing_of (state.Receiving contact reception) = Receives contact reception
+standing_of (state.Receiving contact incoming) = Receives contact incoming
 standing_of (state.SpeakerIdle contact done) = At (SpeakerIdle contact done)
 standing_of (state.GivingWay contact) = At (GivingWay contact)
 standing_of (state.AwaitingRtr contact number) = At (AwaitingRtr contact number)
-standing_of (state.AwaitingStart contact offering) = Offers contact offering
-standing_of (state.Sending contact shipment) = Sends contact shipment
+standing_of (state.AwaitingStart contact offered) = Offers contact offered
+standing_of (state.Sending contact outgoing) = Sends contact outgoing
 standing_of (state.AwaitingEnd contact number) = Awaits contact number
 standing_of (state.EndedHere reason) = At (EndedHere reason)
 standing_of (state.EndedThere reason) = At (EndedThere reason)
@@ -112,45 +112,45 @@ standing_held None = Broken
 -- how a session ended, if it did
 abbrev pub ended_as : Standing → Option Ending
 ended_as (At p) = ending_of p
-ended_as (Receives contact reception) = None
-ended_as (Offers contact offering) = None
-ended_as (Sends contact shipment) = None
+ended_as (Receives contact incoming) = None
+ended_as (Offers contact offered) = None
+ended_as (Sends contact outgoing) = None
 ended_as (Awaits contact number) = None
 ended_as Broken = None
 
 -- a session that is over or broken does nothing more
 abbrev pub is_closed : Standing → Bool
 is_closed (At p) = is_over p
-is_closed (Receives contact reception) = false
-is_closed (Offers contact offering) = false
-is_closed (Sends contact shipment) = false
+is_closed (Receives contact incoming) = false
+is_closed (Offers contact offered) = false
+is_closed (Sends contact outgoing) = false
 is_closed (Awaits contact number) = false
 is_closed Broken = true
 
 -- a file is being received
 abbrev pub is_receiving : Standing → Bool
 is_receiving (At p) = false
-is_receiving (Receives contact reception) = true
-is_receiving (Offers contact offering) = false
-is_receiving (Sends contact shipment) = false
+is_receiving (Receives contact incoming) = true
+is_receiving (Offers contact offered) = false
+is_receiving (Sends contact outgoing) = false
 is_receiving (Awaits contact number) = false
 is_receiving Broken = false
 
 -- a file is being sent
 abbrev pub is_sending : Standing → Bool
 is_sending (At p) = false
-is_sending (Receives contact reception) = false
-is_sending (Offers contact offering) = false
-is_sending (Sends contact shipment) = true
+is_sending (Receives contact incoming) = false
+is_sending (Offers contact offered) = false
+is_sending (Sends contact outgoing) = true
 is_sending (Awaits contact number) = false
 is_sending Broken = false
 
 -- how many turns may follow one another, and whether one is due
 abbrev pub turns_left : Standing → ℕ
 turns_left (At p) = turns_due p
-turns_left (Receives contact reception) = 0
-turns_left (Offers contact offering) = 0
-turns_left (Sends contact shipment) = shipment.credit
+turns_left (Receives contact incoming) = 0
+turns_left (Offers contact offered) = 0
+turns_left (Sends contact outgoing) = outgoing.credit
 turns_left (Awaits contact number) = 0
 turns_left Broken = 0
 

@@ -1,6 +1,6 @@
 //! The commands that a station sends.
 
-ghost use Rattle.std.specs.Prelude.{◌≡◌, ◌≤◌, take, [], false, if◌then◌else◌};
+ghost use Rattle.std.specs.Prelude.{◌≡◌, ◌≤◌, [], false, if◌then◌else◌};
 ghost use Rattle.oftp_vfile.specs.VirtualFile.{IsLongest, is_stream, units_in};
 ghost use Rattle.oftp_vfile.specs.declared.format.TheConstants.{MOST_ROWS};
 ghost use Rattle.oftp_register.specs.declared.fit.TheConstants.{MOST_UNITS};
@@ -8,10 +8,11 @@ ghost use Rattle.oftp_register.specs.LookUps.{outgoing_entry};
 ghost use Rattle.oftp_register.specs.Register.{Outgoing};
 ghost use Rattle.oftp_wire.specs.Spelling.{is_data};
 ghost use Rattle.oftp_wire.specs.declared.command.Command.TheVariants.{Efid as an_efid, Ssid as an_ssid};
-ghost use Rattle.oftp_session.specs.Phases.{frame_of, esid_of};
+ghost use Rattle.oftp_session.specs.Phases.{esid_of};
 ghost use Rattle.oftp_session.specs.Opening.{answering_ssid, calling_ssid, ssid_with};
-ghost use Rattle.oftp_session.specs.Receiving.{efna_of, efpa_of, sfna_of, sfpa_of};
-ghost use Rattle.oftp_session.specs.Agreements.{agreement_of};
+ghost use Rattle.oftp_session.specs.Receiving.{efna_of, efpa_of};
+ghost use Rattle.oftp_session.specs.Listener.{sfna_of, sfpa_of};
+ghost use Rattle.oftp_session.specs.InsideOpening.{agreement_of};
 ghost use Rattle.oftp_session.specs.Speaker.{blocks, eerp_of, layout_of, nerp_of, response_of, sfid_of};
 
 use crate::opening::{Agreement, answered_mode};
@@ -22,10 +23,10 @@ use oftp_register::{
 use oftp_vfile::Format;
 use oftp_wire::{
     Command, Count, Digits, Eerp, Efid, Efna, Efpa, EndReason, Esid, Layout, Mode, Nerp,
-    SessionReason, Sfid, Sfna, Sfpa, Ssid, StartReason, Text, X, encode, header,
+    SessionReason, Sfid, Sfna, Sfpa, Ssid, StartReason, Text, X,
 };
 
-/// An empty field.
+// An empty field.
 pub(crate) fn no_field<const N: usize>() -> X<'static, N>
     ensures { result ≡ [] }
 {
@@ -35,7 +36,7 @@ pub(crate) fn no_field<const N: usize>() -> X<'static, N>
     }
 }
 
-/// An empty text.
+// An empty text.
 pub(crate) fn no_text() -> Text<'static>
     ensures { result ≡ [] }
 {
@@ -45,7 +46,7 @@ pub(crate) fn no_text() -> Text<'static>
     }
 }
 
-/// ESID, without text (RFC 5024, section 5.3.11).
+// ESID, without text (RFC 5024, section 5.3.11).
 pub(crate) fn esid(reason: SessionReason) -> Command<'static>
     ensures { result ≡ esid_of reason }
 {
@@ -55,14 +56,14 @@ pub(crate) fn esid(reason: SessionReason) -> Command<'static>
     })
 }
 
-/// SFPA, with the Restart position that the station answers.
+// SFPA, with the Restart position that the station answers.
 pub(crate) fn sfpa(restart: Count<17>) -> Command<'static>
     ensures { result ≡ sfpa_of restart }
 {
     Command::Sfpa(Sfpa { restart })
 }
 
-/// SFNA, without text.
+// SFNA, without text.
 pub(crate) fn sfna(reason: StartReason, retry: bool) -> Command<'static>
     ensures { result ≡ sfna_of reason retry }
 {
@@ -73,14 +74,14 @@ pub(crate) fn sfna(reason: StartReason, retry: bool) -> Command<'static>
     })
 }
 
-/// EFPA, which asks to speak or doesn't.
+// EFPA, which asks to speak or doesn't.
 pub(crate) fn efpa(change_direction: bool) -> Command<'static>
     ensures { result ≡ efpa_of change_direction }
 {
     Command::Efpa(Efpa { change_direction })
 }
 
-/// EFNA, without text.
+// EFNA, without text.
 pub(crate) fn efna(reason: EndReason) -> Command<'static>
     ensures { result ≡ efna_of reason }
 {
@@ -90,7 +91,7 @@ pub(crate) fn efna(reason: EndReason) -> Command<'static>
     })
 }
 
-/// An SSID of the station. Options that it doesn't support are N.
+// An SSID of the station. Options that it doesn't support are N.
 fn ssid_with<'b>(
     book: &'b Book,
     partner: &'b Partner,
@@ -116,7 +117,7 @@ fn ssid_with<'b>(
     }
 }
 
-/// The responder's SSID, with what is agreed with a partner that sent this mode.
+// The responder's SSID, with what is agreed with a partner that sent this mode.
 pub(crate) fn answering_ssid<'b>(
     book: &'b Book,
     letter: Mode,
@@ -134,7 +135,7 @@ pub(crate) fn answering_ssid<'b>(
     ))
 }
 
-/// The initiator's SSID, with its own offers.
+// The initiator's SSID, with its own offers.
 pub(crate) fn calling_ssid<'b>(book: &'b Book, partner: &'b Partner) -> Command<'b>
     ensures { result ≡ an_ssid (calling_ssid book.entry.now partner.entry.now) }
 {
@@ -149,7 +150,7 @@ pub(crate) fn calling_ssid<'b>(book: &'b Book, partner: &'b Partner) -> Command<
     ))
 }
 
-/// A name as a field of a command.
+// A name as a field of a command.
 fn name<const N: usize>(name: &Name<N>) -> X<'_, N>
     ensures { result ≡ name.now }
 {
@@ -159,7 +160,7 @@ fn name<const N: usize>(name: &Name<N>) -> X<'_, N>
     }
 }
 
-/// Digits as a field of a command.
+// Digits as a field of a command.
 fn digits<const N: usize>(digits: &DigitString<N>) -> Digits<'_, N>
     ensures { result ≡ digits.now }
 {
@@ -169,7 +170,7 @@ fn digits<const N: usize>(digits: &DigitString<N>) -> Digits<'_, N>
     }
 }
 
-/// A text as a field of a command.
+// A text as a field of a command.
 fn text(note: &Note) -> Text<'_>
     ensures { result ≡ note.now }
 {
@@ -179,7 +180,7 @@ fn text(note: &Note) -> Text<'_>
     }
 }
 
-/// EERP, the End-to-End Response to this file.
+// EERP, the End-to-End Response to this file.
 fn eerp(file: &Identity) -> Command<'_>
     ensures { result ≡ eerp_of file.now }
 {
@@ -193,7 +194,7 @@ fn eerp(file: &Identity) -> Command<'_>
     })
 }
 
-/// NERP, a Negative End Response of which the station itself is the creator.
+// NERP, a Negative End Response of which the station itself is the creator.
 fn nerp<'a>(book: &'a Book, entry: &'a IssuedEntry) -> Command<'a>
     ensures { let e = entry.entry.now in
         result ≡ nerp_of book.entry.now.station.code e.identity e.response.reason e.response.text }
@@ -211,7 +212,7 @@ fn nerp<'a>(book: &'a Book, entry: &'a IssuedEntry) -> Command<'a>
     })
 }
 
-/// The command of the response that was issued to a file.
+// The command of the response that was issued to a file.
 pub(crate) fn response<'a>(book: &'a Book, entry: &'a IssuedEntry) -> Command<'a>
     ensures { result ≡ response_of book.entry.now.station.code entry.entry.now entry.entry.now.response.kind }
 {
@@ -221,7 +222,7 @@ pub(crate) fn response<'a>(book: &'a Book, entry: &'a IssuedEntry) -> Command<'a
     }
 }
 
-/// Format and longest record of a file, as SFID has them.
+// Format and longest record of a file, as SFID has them.
 fn layout(format: Format, longest: u32) -> Layout
     requires { IsLongest format longest }
     ensures { result ≡ layout_of format longest }
@@ -234,7 +235,7 @@ fn layout(format: Format, longest: u32) -> Layout
     }
 }
 
-/// A number of octets as SFIDOSIZ has it: in blocks of 1,024 octets, rounded up.
+// A number of octets as SFIDOSIZ has it: in blocks of 1,024 octets, rounded up.
 fn size(units: u64) -> Count<13>
     requires { units ≤ MOST_UNITS }
     ensures { result ≡ blocks units }
@@ -242,7 +243,7 @@ fn size(units: u64) -> Count<13>
     Count::new((units + SIZE_UNIT - 1) / SIZE_UNIT)
 }
 
-/// SFID of a file with this entry and this number of octets, which is offered from row `from` on.
+// SFID of a file with this entry and this number of octets, which is offered from row `from` on.
 pub(crate) fn sfid<'a>(entry: &'a OutgoingEntry, units: u64, from: u64) -> Command<'a>
     requires longest { IsLongest entry.now.format entry.now.longest }
     requires units { units ≤ MOST_UNITS }
@@ -272,7 +273,7 @@ pub(crate) fn sfid<'a>(entry: &'a OutgoingEntry, units: u64, from: u64) -> Comma
     })
 }
 
-/// EFID of a file. Blocks of a stream aren't counted as records (RFC 5024, section 5.3.8).
+// EFID of a file. Blocks of a stream aren't counted as records (RFC 5024, section 5.3.8).
 pub(crate) fn efid(format: Format, rows: Count<17>, units: Count<17>) -> Command<'static>
     ensures { result ≡ an_efid (record { records = if is_stream format then 0 else rows; units = units }) }
 {
@@ -282,23 +283,4 @@ pub(crate) fn efid(format: Format, rows: Count<17>, units: Count<17>) -> Command
         rows
     };
     Command::Efid(Efid { records, units })
-}
-
-/// Encodes the frame of a command other than DATA into the buffer, and returns its length in octets.
-pub(crate) fn spell(frame: &mut [u8; 1200], command: &Command<'_>) -> usize
-    requires { is_data command.now ≡ false }
-    ensures frame { take result frame.new ≡ frame_of command.now }
-    ensures within { result ≤ 1200 }
-{
-    let (head, body) = frame.split_at_mut(4);
-    match encode(command, body) {
-        Ok(count) => match header(count) {
-            Some(octets) => {
-                head.copy_from_slice(&octets);
-                count + 4
-            }
-            None => unreachable!(),
-        },
-        Err(_) => unreachable!(),
-    }
 }

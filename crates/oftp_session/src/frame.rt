@@ -1,91 +1,96 @@
 //! The frame that a session sends.
 
-ghost use Rattle.std.specs.Prelude.{◌≡◌, ◌∷◌, ◌++◌, ◌+◌, ◌<◌, ◌≤◌, [], ℕ, List, length, All, true, false};
+ghost use Rattle.std.specs.Prelude.{◌≡◌, ◌∷◌, ◌++◌, ◌+◌, ◌<◌, ◌≤◌, [], ℕ, List, length, take, All, true, false};
 ghost use Rattle.oftp_wire.specs.Header.{header_of};
 ghost use Rattle.oftp_wire.specs.Spelling.{is_data};
 ghost use Rattle.oftp_vfile.specs.declared.format.TheConstants.{MOST_ROWS};
 ghost use Rattle.oftp_vfile.specs.VirtualFile.{is_stream};
 ghost use Rattle.oftp_vfile.specs.Filling.{IsInRows};
+ghost use Rattle.oftp_session.specs.declared.frame.TheConstants.{COMMAND_ROOM, DATA_HEAD, LARGEST_PAYLOAD};
 ghost use Rattle.oftp_session.specs.Phases.{frame_of};
-ghost use Rattle.oftp_session.specs.Payloads.{FillsInto, FillsOrNot};
+ghost use Rattle.oftp_session.specs.InsideFrame.{FillsInto, FillsOrNot};
 ghost use Rattle.oftp_session.specs.Calls.{IsFull, said};
 
-use crate::commands::spell;
 use crate::session::{Out, SessionFault};
 use oftp_vfile::{Filled, Filler, Row};
-use oftp_wire::{Command, header};
+use oftp_wire::{Command, encode, header};
 use std::alloc::Global;
 use std::marker::Model;
 
-/// The number of octets before the payload of a DATA: the stream header, and the command's letter.
+// The number of octets before the payload of a DATA: the stream header, and the command's letter.
 const DATA_HEAD: usize = 5;
 
-/// Where the frame is, and its length in octets.
+// The most octets of the payload of a DATA: those of the largest Data Exchange Buffer, without the command's letter (RFC 5024, sections 5.3.2
+// and 5.3.6).
+pub(crate) const LARGEST_PAYLOAD: usize = 99_998;
+
+// The room in octets for the frame of a command other than DATA. The longest has 1,168: SFID with a description of 999 octets (RFC 5024,
+// section 5.3.3).
+const COMMAND_ROOM: usize = 1_200;
+
+// Where the frame is, and its length in octets.
 #[derive(Clone, Copy, Drop)]
-pub(crate) enum Said {
-    /// In the array for commands.
+pub(crate) enum Contents {
+    // In the array for commands.
     Command(usize),
-    /// In the buffer for DATA.
+    // In the buffer for DATA.
     Data(usize),
 }
 
-/// One whole frame, or none. It allocates only the buffer for DATA, once in a session.
+// One whole frame, or none. It allocates only the buffer for DATA, once in a session.
 #[derive(Drop)]
 pub(crate) struct Frame {
-    octets: [u8; 1200],
+    octets: [u8; COMMAND_ROOM],
     buffer: Vec<u8>,
-    said: Said,
+    contents: Contents,
 }
 
 impl Model for Frame {
     ghost use Rattle.std.specs.Prelude.{List, ℕ};
-    ghost use Rattle.oftp_session.specs.Payloads.{IsSpokenIn, spoken_in};
+    ghost use Rattle.oftp_session.specs.InsideFrame.{IsFrameWithin, frame_in};
 
     ghost Value = { List ℕ };
 
-    ghost view = { λ f. spoken_in f.said f.octets f.buffer.items };
+    ghost view = { λ f. frame_in f.contents f.octets f.buffer.items };
 
-    ghost invariant = { λ f. IsSpokenIn f.said f.octets f.buffer.items };
+    ghost invariant = { λ f. IsFrameWithin f.contents f.octets f.buffer.items };
 }
 
 impl Frame {
-    /// No frame. It allocates nothing.
+    // No frame. It allocates nothing.
     pub(crate) fn empty(alloc: Global) -> Frame
         ensures { result ≡ [] }
     {
         Frame {
-            octets: [0; 1200],
+            octets: [0; COMMAND_ROOM],
             buffer: Vec::new(alloc),
-            said: Said::Command(0),
+            contents: Contents::Command(0),
         }
     }
 
-    /// Clears the frame and allocates the buffer for DATA, whose payloads have at most `size` octets. If the allocation fails, there is no
-    /// buffer.
+    // Clears the frame and allocates the buffer for DATA, whose payloads have at most `size` octets. If the allocation fails, there is no
+    // buffer.
     pub(crate) fn reserve(&mut self, alloc: Global, size: usize)
-        requires { size ≤ 99998 }
+        requires { size ≤ LARGEST_PAYLOAD }
         ensures { self.new ≡ [] }
     {
-        self.hush();
+        self.clear();
         if let Ok(buffer) = vec![in alloc; 0; size + DATA_HEAD] {
             self.buffer = buffer;
         }
     }
 
-    /// Replaces the frame by that of a command other than DATA.
-    pub(crate) fn say(&mut self, command: &Command<'_>)
+    // Replaces the frame by that of a command other than DATA.
+    pub(crate) fn set_command(&mut self, command: &Command<'_>)
         requires { is_data command.now ≡ false }
         ensures { self.new ≡ frame_of command.now }
     {
-        self.said = Said::Command(spell(&mut self.octets, command));
+        self.contents = Contents::Command(encode_frame(&mut self.octets, command));
     }
 
-    /// Replaces the frame by DATA with the next payload of a file, as [`Filler::next_buffer`] makes it. `rows` are borrowed from the row at
-    /// which the filler is. If no payload is left, or the filler needs more rows, there is no frame.
-    ///
-    /// # Errors
-    ///
-    /// [`SessionFault::Memory`] where there is no buffer for payloads of this size. The filler is unchanged, and there is no frame.
+    // Replaces the frame by DATA with the next payload of a file, as `Filler::next_buffer` makes it. `rows` are borrowed from the row at
+    // which the filler is. If no payload is left, or the filler needs more rows, there is no frame. It is out of memory where there is no buffer
+    // for payloads of this size: then the filler is unchanged, and there is no frame.
     pub(crate) fn fill(
         &mut self,
         filler: &mut Filler,
@@ -94,39 +99,39 @@ impl Frame {
         size: usize,
     ) -> Result<Filled, SessionFault>
         requires room { 2 ≤ size }
-        requires size { size ≤ 99998 }
+        requires size { size ≤ LARGEST_PAYLOAD }
         requires few { filler.old.row + length rows.now ≤ MOST_ROWS }
         requires place { IsInRows filler.old rows.now }
         requires some { is_stream filler.old.format ≡ true → All (λ r. 0 < length r) rows.now }
         ensures { FillsOrNot size filler.old filler.new rows.now last self.new result }
     {
         if self.buffer.len() < size + DATA_HEAD {
-            self.hush();
+            self.clear();
             return Err(SessionFault::Memory);
         }
         let filled = fill_data(filler, rows, last, size, self.buffer.as_mut_slice());
-        self.said = match filled {
-            Filled::Buffer(count) => Said::Data(count + DATA_HEAD),
-            Filled::Done | Filled::More => Said::Command(0),
+        self.contents = match filled {
+            Filled::Buffer(count) => Contents::Data(count + DATA_HEAD),
+            Filled::Done | Filled::More => Contents::Command(0),
         };
         Ok(filled)
     }
 
-    /// Clears the frame.
-    pub(crate) fn hush(&mut self)
+    // Clears the frame.
+    pub(crate) fn clear(&mut self)
         ensures { self.new ≡ [] }
     {
-        self.said = Said::Command(0);
+        self.contents = Contents::Command(0);
     }
 
-    /// The frame to send, if there is one.
+    // The frame to send, if there is one.
     pub(crate) fn out(&self) -> Out<'_>
         ensures said { said result ≡ self.now }
         ensures full { IsFull result }
     {
-        let frame = match self.said {
-            Said::Command(len) => &self.octets[..len],
-            Said::Data(len) => &self.buffer[..len],
+        let frame = match self.contents {
+            Contents::Command(len) => &self.octets[..len],
+            Contents::Data(len) => &self.buffer[..len],
         };
         if frame.is_empty() {
             Out::Nothing
@@ -136,10 +141,29 @@ impl Frame {
     }
 }
 
-/// The octets before a payload of this length.
-fn data_head(count: usize) -> [u8; 5]
-    requires { count ≤ 99998 }
-    ensures { result ≡ header_of (count + 5) ++ 68 ∷ [] }
+// Encodes the frame of a command other than DATA into the buffer, and returns its length in octets.
+fn encode_frame(frame: &mut [u8; COMMAND_ROOM], command: &Command<'_>) -> usize
+    requires { is_data command.now ≡ false }
+    ensures frame { take result frame.new ≡ frame_of command.now }
+    ensures within { result ≤ COMMAND_ROOM }
+{
+    let (head, body) = frame.split_at_mut(4);
+    match encode(command, body) {
+        Ok(count) => match header(count) {
+            Some(octets) => {
+                head.copy_from_slice(&octets);
+                count + 4
+            }
+            None => unreachable!(),
+        },
+        Err(_) => unreachable!(),
+    }
+}
+
+// The octets before a payload of this length.
+fn data_head(count: usize) -> [u8; DATA_HEAD]
+    requires { count ≤ LARGEST_PAYLOAD }
+    ensures { result ≡ header_of (count + DATA_HEAD) ++ 68 ∷ [] }
 {
     match header(count + 1) {
         Some(octets) => [octets[0], octets[1], octets[2], octets[3], b'D'],
@@ -147,7 +171,7 @@ fn data_head(count: usize) -> [u8; 5]
     }
 }
 
-/// Writes the frame of a DATA whose payload has at most `size` octets.
+// Writes the frame of a DATA whose payload has at most `size` octets.
 fn fill_data(
     filler: &mut Filler,
     rows: &[Row],
@@ -156,8 +180,8 @@ fn fill_data(
     buffer: &mut [u8],
 ) -> Filled
     requires room { 2 ≤ size }
-    requires size { size ≤ 99998 }
-    requires buffer { size + 5 ≤ length buffer.old }
+    requires size { size ≤ LARGEST_PAYLOAD }
+    requires buffer { size + DATA_HEAD ≤ length buffer.old }
     requires few { filler.old.row + length rows.now ≤ MOST_ROWS }
     requires place { IsInRows filler.old rows.now }
     requires some { is_stream filler.old.format ≡ true → All (λ r. 0 < length r) rows.now }

@@ -1,4 +1,4 @@
-//! A theorem about the start of a session.
+//! Theorems about sessions: each is the contract of a function that does nothing.
 
 ghost use Rattle.std.specs.Prelude.{◌≡◌};
 ghost use Rattle.oftp_wire.specs.declared.command.Command.{Command};

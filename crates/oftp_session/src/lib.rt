@@ -2,23 +2,25 @@
 //! that is due, and returns the frame to send as a borrowed slice.
 //!
 //! A change of the register is committed before the frame that answers it is returned.
+//!
+//! The states of a session (RFC 5024, section 9) are in the files opening, listener, receiving, speaker and sending. The file of the same name
+//! in specs/ has the definitions of each.
+//!
+//! The calls are those of [`Session`]. The module [`laws`] has the theorems, which no program calls.
 #![tactic(auto)]
 
-mod change;
 mod commands;
 mod frame;
-mod laws;
+pub mod laws;
 mod link;
 mod listener;
 mod opening;
+mod payloads;
 mod receiving;
-mod replies;
-mod responses;
 mod sending;
 mod session;
 mod speaker;
 mod state;
 
-pub use laws::admissions_ask_no_register;
 pub use link::{Link, WhenDone};
 pub use session::{Ending, Out, Session, SessionFault};

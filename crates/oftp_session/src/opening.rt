@@ -3,20 +3,20 @@
 ghost use Rattle.std.specs.Prelude.{◌≡◌, ◌≤◌, min, option_map};
 ghost use Rattle.oftp_session.specs.Settings.{setting_of};
 ghost use Rattle.oftp_session.specs.Opening.{agreed, answered_mode, called_as, calling_step, came_awaiting_ssid, came_initiator_opening, contact_of, flows, is_opposed, may_receive, may_send, open_step, opened_step, ssid_verdict};
-ghost use Rattle.oftp_session.specs.Agreements.{agreement_of, shown};
+ghost use Rattle.oftp_session.specs.InsideOpening.{agreement_of, shown};
 ghost use Rattle.oftp_session.specs.Inside.{Goes};
 
 use crate::commands::{answering_ssid, calling_ssid};
 use crate::frame::Frame;
 use crate::link::{Link, WhenDone};
-use crate::sending::payload_size;
+use crate::payloads::payload_size;
 use crate::state::{Contact, State};
 use oftp_partners::{Book, Partner};
 use oftp_register::{Cursor, Name};
 use oftp_wire::{Command, Count, Mode, SessionReason, Ssid, X};
 use std::alloc::Global;
 
-/// What is constant in a session: the allocator, the book, and the partner that an initiator calls.
+// What is constant in a session: the allocator, the book, and the partner that an initiator calls.
 #[derive(Clone, Copy, Drop)]
 pub(crate) struct Setting<'b> {
     pub(crate) alloc: Global,
@@ -24,7 +24,7 @@ pub(crate) struct Setting<'b> {
     pub(crate) called: Option<&'b Partner>,
 }
 
-/// The partner of a session, and what is agreed with it.
+// The partner of a session, and what is agreed with it.
 #[derive(Clone, Copy, Drop)]
 pub(crate) struct Agreement<'b> {
     pub(crate) partner: &'b Partner,
@@ -32,7 +32,7 @@ pub(crate) struct Agreement<'b> {
 }
 
 impl<'b> Agreement<'b> {
-    /// An open session that has tried nothing yet.
+    // An open session that has tried nothing yet.
     fn contact(&self) -> Contact
         ensures { result ≡ contact_of (agreement_of self.now) }
     {
@@ -47,7 +47,7 @@ impl<'b> Agreement<'b> {
     }
 }
 
-/// Whether a station in this mode sends files.
+// Whether a station in this mode sends files.
 fn may_send(mode: Mode) -> bool
     ensures { result ≡ may_send mode }
 {
@@ -57,7 +57,7 @@ fn may_send(mode: Mode) -> bool
     }
 }
 
-/// Whether a station in this mode receives files.
+// Whether a station in this mode receives files.
 fn may_receive(mode: Mode) -> bool
     ensures { result ≡ may_receive mode }
 {
@@ -67,21 +67,21 @@ fn may_receive(mode: Mode) -> bool
     }
 }
 
-/// Whether a station in mode `from` sends what one in mode `to` receives.
+// Whether a station in mode `from` sends what one in mode `to` receives.
 fn flows(from: Mode, to: Mode) -> bool
     ensures { result ≡ flows from to }
 {
     may_send(from) && may_receive(to)
 }
 
-/// Whether both stations only send, or both only receive, so that no file can go either way.
+// Whether both stations only send, or both only receive, so that no file can go either way.
 fn is_opposed(own: Mode, letter: Mode) -> bool
     ensures { result ≡ is_opposed own letter }
 {
     !flows(own, letter) && !flows(letter, own)
 }
 
-/// The mode that answers the partner's.
+// The mode that answers the partner's.
 pub(crate) fn answered_mode(own: Mode, letter: Mode) -> Mode
     ensures { result ≡ answered_mode own letter }
 {
@@ -92,7 +92,7 @@ pub(crate) fn answered_mode(own: Mode, letter: Mode) -> Mode
     }
 }
 
-/// What is agreed with a partner that sends this SSID.
+// What is agreed with a partner that sends this SSID.
 fn agreed(book: &Book, partner: &Partner, ssid: &Ssid<'_>) -> Link
     requires buffer { 128 ≤ ssid.now.buffer }
     requires credit { 1 ≤ ssid.now.credit }
@@ -108,7 +108,7 @@ fn agreed(book: &Book, partner: &Partner, ssid: &Ssid<'_>) -> Link
     }
 }
 
-/// The partner with a code: for an initiator only the one that it called, for a responder any partner of the book.
+// The partner with a code: for an initiator only the one that it called, for a responder any partner of the book.
 fn partner_for<'b>(
     book: &'b Book,
     called: Option<&'b Partner>,
@@ -129,7 +129,7 @@ fn partner_for<'b>(
     }
 }
 
-/// What is agreed with a partner that sends this SSID, or the reason to end the session.
+// What is agreed with a partner that sends this SSID, or the reason to end the session.
 #[tactic(auto, unfolding(crate::specs::Opening::ssid_verdict))]
 fn ssid_verdict<'b>(setting: Setting<'b>, ssid: &Ssid<'_>) -> Result<Agreement<'b>, SessionReason>
     ensures { shown result ≡ ssid_verdict (setting_of setting.entry) ssid.now }
@@ -161,7 +161,7 @@ fn ssid_verdict<'b>(setting: Setting<'b>, ssid: &Ssid<'_>) -> Result<Agreement<'
     })
 }
 
-/// Goes on after an agreement: a responder sends its SSID, an initiator becomes the speaker.
+// Goes on after an agreement: a responder sends its SSID, an initiator becomes the speaker.
 fn agree(setting: Setting<'_>, letter: Mode, agreement: &Agreement<'_>, frame: &mut Frame) -> State
     ensures { let known = setting_of setting.entry in
         Goes (open_step known letter (agreement_of agreement.now) known.called) result frame.new }
@@ -170,14 +170,14 @@ fn agree(setting: Setting<'_>, letter: Mode, agreement: &Agreement<'_>, frame: &
         frame.reserve(setting.alloc, payload_size(&agreement.link));
     }
     if setting.called.is_some() {
-        frame.hush();
+        frame.clear();
         return State::SpeakerIdle(agreement.contact(), WhenDone::ChangeDirection);
     }
-    frame.say(&answering_ssid(setting.book, letter, agreement));
+    frame.set_command(&answering_ssid(setting.book, letter, agreement));
     State::ListenerIdle(agreement.contact())
 }
 
-/// Opens the session with a partner that sends this SSID, or ends it.
+// Opens the session with a partner that sends this SSID, or ends it.
 fn open(setting: Setting<'_>, ssid: &Ssid<'_>, frame: &mut Frame) -> State
     ensures { let known = setting_of setting.entry in
         Goes (opened_step known ssid.now.mode (ssid_verdict known ssid.now)) result frame.new }
@@ -188,20 +188,20 @@ fn open(setting: Setting<'_>, ssid: &Ssid<'_>, frame: &mut Frame) -> State
     }
 }
 
-/// Sends SSID to the partner that was called.
+// Sends SSID to the partner that was called.
 fn offer(setting: Setting<'_>, frame: &mut Frame) -> State
     ensures { let known = setting_of setting.entry in Goes (calling_step known known.called) result frame.new }
 {
     match setting.called {
         Some(partner) => {
-            frame.say(&calling_ssid(setting.book, partner));
+            frame.set_command(&calling_ssid(setting.book, partner));
             State::AwaitingSsid
         }
         None => State::ended_here(SessionReason::ProtocolViolation, frame),
     }
 }
 
-/// Executes a command that arrives while an initiator waits for SSRM.
+// Executes a command that arrives while an initiator waits for SSRM.
 #[tactic(auto, unfolding(crate::specs::Opening::came_initiator_opening))]
 pub(crate) fn in_initiator_opening(
     setting: Setting<'_>,
@@ -216,7 +216,7 @@ pub(crate) fn in_initiator_opening(
     }
 }
 
-/// Executes a command that arrives while the partner's SSID is missing.
+// Executes a command that arrives while the partner's SSID is missing.
 #[tactic(auto, unfolding(crate::specs::Opening::came_awaiting_ssid))]
 pub(crate) fn in_awaiting_ssid(
     setting: Setting<'_>,

@@ -3,24 +3,23 @@
 ghost use Rattle.std.specs.Prelude.{◌≡◌, ◌≢◌, ◌<◌, [], true, false, None, Some, Ok, Err, IfErr, IfOk, IsSome, option_map};
 ghost use Rattle.oftp_session.specs.Settings.{setting_of};
 ghost use Rattle.oftp_session.specs.Phases.{Phase, ending_of, esid_of, frame_of, framed};
-ghost use Rattle.oftp_session.specs.Steps.{came, has_turn, turned, Holds};
-ghost use Rattle.oftp_session.specs.Standings.{StandsIn, ended_as, is_closed, is_due, is_receiving, is_sending, standing_of, turns_left};
+ghost use Rattle.oftp_session.specs.Steps.{came, has_turn, turned};
+ghost use Rattle.oftp_session.specs.Standings.{ended_as, is_closed, is_due, is_receiving, is_sending, standing_of, turns_left};
 ghost use Rattle.oftp_session.specs.Calls.{Does, IsFailure, IsFull, Seen, Stands, heard, said, takes_memory};
 ghost use Rattle.oftp_session.specs.Opening.{came_awaiting_ssid};
 ghost use Rattle.oftp_session.specs.Callers.{code_of, greeting};
-ghost use Rattle.oftp_session.specs.Recalling.{IsSoAt};
-ghost use Rattle.oftp_session.specs.Inside.{Takes};
+ghost use Rattle.oftp_session.specs.Recalling.{RecallsAt};
+ghost use Rattle.oftp_session.specs.Inside.{InState, MakesFit, Takes};
 
 use crate::frame::Frame;
 use crate::listener::in_listener_idle;
 use crate::opening::{Setting, in_awaiting_ssid, in_initiator_opening};
 use crate::receiving::in_receiving;
-use crate::replies::{in_awaiting_end, in_awaiting_start};
-use crate::sending::{in_sending, send_next};
+use crate::sending::{in_awaiting_end, in_awaiting_start, in_sending, send_next};
 use crate::speaker::{give_way, in_awaiting_rtr, speak};
 use crate::state::State;
 use oftp_partners::{Book, Partner};
-use oftp_register::{Name, Office};
+use oftp_register::{Change, Name, Office, OfficeFault};
 use oftp_wire::{Command, Count, SessionReason};
 use std::alloc::Global;
 use std::marker::Model;
@@ -61,7 +60,7 @@ pub struct Session<'b> {
     // `None` after an error.
     state: Option<State>,
     // Whether a response is next, once this was looked up. While RTR is missing, it isn't known.
-    asks: Option<bool>,
+    response_due: Option<bool>,
     frame: Frame,
 }
 
@@ -75,9 +74,30 @@ impl<'b> Model for Session<'b> {
     ghost view = { λ s. record {
       setting = setting_of s.setting;
       standing = standing_held s.state;
-      asks = s.asks;
-      spoken = s.frame;
+      response_due = s.response_due;
+      frame = s.frame;
     } };
+}
+
+impl From<OfficeFault> for SessionFault {
+    ghost use Rattle.oftp_session.specs.declared.session.SessionFault.TheVariants.{Office};
+
+    ghost from_gives = { λ _ fault. fault ≡ Office };
+
+    fn from(_fault: OfficeFault) -> SessionFault {
+        SessionFault::Office
+    }
+}
+
+// Commits a change that the register accepts.
+#[tactic(auto, using(crate::proofs::Passing::commit_failed))]
+pub(crate) fn make<O: Office>(office: &mut O, change: Change<'_>) -> Result<(), SessionFault>
+    ensures clean { (O.view office.new).clean → (O.view office.old).clean }
+    ensures does { MakesFit change.entry (O.view office.old) (O.view office.new) result }
+    ensures err { IfErr result (λ fault. fault ≡ SessionFault.Office) }
+{
+    office.commit(change)?;
+    Ok(())
 }
 
 // Executes a command that arrived, by the state of the session.
@@ -85,27 +105,22 @@ impl<'b> Model for Session<'b> {
 fn came<O: Office>(
     setting: Setting<'_>,
     state: State,
-    asks: &mut Option<bool>,
+    response_due: &mut Option<bool>,
     office: &mut O,
     command: &Command<'_>,
     frame: &mut Frame,
 ) -> Result<State, SessionFault>
     requires { is_closed (standing_of state) ≡ false }
     ensures clean { (O.view office.new).clean → (O.view office.old).clean }
-    ensures takes { (O.view office.new).clean → (O.view office.old).stands
-        → (p : Phase) → Holds p (O.view office.old).register → StandsIn p (standing_of state)
-        → IsSoAt asks.old (standing_of state) (O.view office.old).register
-        → Takes (came (setting_of setting.entry) p (O.view office.old).register command.now)
-        (O.view office.old) (O.view office.new) frame.new result }
-    ensures recalls { (O.view office.new).clean → (O.view office.old).stands
-        → (p : Phase) → Holds p (O.view office.old).register → StandsIn p (standing_of state)
-        → IsSoAt asks.old (standing_of state) (O.view office.old).register
-        → IfOk result (λ next. IsSoAt asks.new (standing_of next) (O.view office.new).register) }
+    ensures takes { InState (O.view office.old) (O.view office.new) (standing_of state) response_due.old
+        (λ p r. Takes (came (setting_of setting.entry) p r command.now) (O.view office.old) (O.view office.new) frame.new result) }
+    ensures recalls { InState (O.view office.old) (O.view office.new) (standing_of state) response_due.old
+        (λ p r. IfOk result (λ next. RecallsAt response_due.new (standing_of next) (O.view office.new).register)) }
     ensures err { IfErr result IsFailure }
     ensures spared { is_receiving (standing_of state) ≡ false → IfErr result (λ fault. fault ≢ SessionFault.Memory) }
     ensures light { takes_memory command.now ≡ false → IfErr result (λ fault. fault ≢ SessionFault.Memory) }
 {
-    *asks = state.recalled(*asks);
+    *response_due = state.recalled(*response_due);
     match state {
         State::ResponderOpening | State::SpeakerIdle(_, _) | State::GivingWay(_) => {
             Ok(State::unexpected(command, frame))
@@ -113,16 +128,21 @@ fn came<O: Office>(
         State::InitiatorOpening => Ok(in_initiator_opening(setting, command, frame)),
         State::AwaitingSsid => Ok(in_awaiting_ssid(setting, command, frame)),
         State::ListenerIdle(contact) => in_listener_idle(setting, contact, office, command, frame),
-        State::Receiving(contact, reception) => in_receiving(
-            contact, reception, asks, office, command, frame,
+        State::Receiving(contact, incoming) => in_receiving(
+            contact,
+            incoming,
+            response_due,
+            office,
+            command,
+            frame,
         ),
         State::AwaitingRtr(contact, number) => in_awaiting_rtr(
             contact, number, office, command, frame,
         ),
-        State::AwaitingStart(contact, offering) => in_awaiting_start(
-            contact, offering, office, command, frame,
+        State::AwaitingStart(contact, offered) => in_awaiting_start(
+            contact, offered, office, command, frame,
         ),
-        State::Sending(contact, shipment) => in_sending(contact, shipment, office, command, frame),
+        State::Sending(contact, outgoing) => in_sending(contact, outgoing, office, command, frame),
         State::AwaitingEnd(contact, number) => in_awaiting_end(
             contact, number, office, command, frame,
         ),
@@ -135,44 +155,46 @@ fn came<O: Office>(
 fn turned<O: Office>(
     setting: Setting<'_>,
     state: State,
-    asks: &mut Option<bool>,
+    response_due: &mut Option<bool>,
     office: &mut O,
     frame: &mut Frame,
 ) -> Result<State, SessionFault>
     requires { is_closed (standing_of state) ≡ false }
     ensures clean { (O.view office.new).clean → (O.view office.old).clean }
-    ensures takes { (O.view office.new).clean → (O.view office.old).stands
-        → (p : Phase) → Holds p (O.view office.old).register → StandsIn p (standing_of state)
-        → IsSoAt asks.old (standing_of state) (O.view office.old).register
-        → Takes (turned (setting_of setting.entry) p (O.view office.old).register)
-        (O.view office.old) (O.view office.new) frame.new result }
-    ensures recalls { (O.view office.new).clean → (O.view office.old).stands
-        → (p : Phase) → Holds p (O.view office.old).register → StandsIn p (standing_of state)
-        → IsSoAt asks.old (standing_of state) (O.view office.old).register
-        → IfOk result (λ next. IsSoAt asks.new (standing_of next) (O.view office.new).register) }
+    ensures takes { InState (O.view office.old) (O.view office.new) (standing_of state) response_due.old
+        (λ p r. Takes (turned (setting_of setting.entry) p r) (O.view office.old) (O.view office.new) frame.new result) }
+    ensures recalls { InState (O.view office.old) (O.view office.new) (standing_of state) response_due.old
+        (λ p r. IfOk result (λ next. RecallsAt response_due.new (standing_of next) (O.view office.new).register)) }
     ensures err { IfErr result IsFailure }
     ensures spared { is_sending (standing_of state) ≡ false → IfErr result (λ fault. fault ≢ SessionFault.Memory) }
     ensures fewer { is_due (standing_of state) ≡ true
         → IfOk result (λ next. turns_left (standing_of next) < turns_left (standing_of state)) }
     ensures idle { is_due (standing_of state) ≡ false
-        → (result ≡ Ok state) × (frame.new ≡ []) × (office.new ≡ office.old) × (asks.new ≡ asks.old) }
+        → (result ≡ Ok state) × (frame.new ≡ []) × (office.new ≡ office.old) × (response_due.new ≡ response_due.old) }
 {
     match state {
         State::ResponderOpening => {
-            frame.say(&Command::Ssrm);
+            frame.set_command(&Command::Ssrm);
             Ok(State::AwaitingSsid)
         }
-        State::SpeakerIdle(contact, done) => speak(setting, contact, done, asks, office, frame),
+        State::SpeakerIdle(contact, done) => speak(
+            setting,
+            contact,
+            done,
+            response_due,
+            office,
+            frame,
+        ),
         State::GivingWay(contact) => Ok(give_way(contact, frame)),
-        State::Sending(contact, shipment) => {
-            if shipment.credit > 0 {
-                return send_next(contact, shipment, office, frame);
+        State::Sending(contact, outgoing) => {
+            if outgoing.credit > 0 {
+                return send_next(contact, outgoing, office, frame);
             }
-            frame.hush();
-            Ok(State::Sending(contact, shipment))
+            frame.clear();
+            Ok(State::Sending(contact, outgoing))
         }
         _ => {
-            frame.hush();
+            frame.clear();
             Ok(state)
         }
     }
@@ -187,7 +209,7 @@ impl<'b> Session<'b> {
     pub fn responder(alloc: Global, book: &'b Book) -> Session<'b>
         ensures setting { result.setting ≡ record { book = book.entry.now; called = None } }
         ensures stands { Stands Phase.ResponderOpening result }
-        ensures fresh { result.spoken ≡ [] }
+        ensures fresh { result.frame ≡ [] }
     {
         Session {
             setting: Setting {
@@ -196,7 +218,7 @@ impl<'b> Session<'b> {
                 called: None,
             },
             state: Some(State::ResponderOpening),
-            asks: None,
+            response_due: None,
             frame: Frame::empty(alloc),
         }
     }
@@ -206,7 +228,7 @@ impl<'b> Session<'b> {
         ensures setting { result.setting
             ≡ record { book = book.entry.now; called = Some partner.entry.now } }
         ensures stands { Stands Phase.InitiatorOpening result }
-        ensures fresh { result.spoken ≡ [] }
+        ensures fresh { result.frame ≡ [] }
     {
         Session {
             setting: Setting {
@@ -215,7 +237,7 @@ impl<'b> Session<'b> {
                 called: Some(partner),
             },
             state: Some(State::InitiatorOpening),
-            asks: None,
+            response_due: None,
             frame: Frame::empty(alloc),
         }
     }
@@ -261,8 +283,8 @@ impl<'b> Session<'b> {
         ensures full { IsFull result }
         ensures* leaves { sem 𝓛 (After self.entry (AfterAlone greeting self.old)) }
     {
-        self.frame.say(&Command::Ssrm);
-        self.asks = None;
+        self.frame.set_command(&Command::Ssrm);
+        self.response_due = None;
         self.state = Some(State::AwaitingSsid);
         self.frame.out()
     }
@@ -276,7 +298,7 @@ impl<'b> Session<'b> {
         ensures full { IsFull result }
         ensures* leaves { sem 𝓛 (After self.entry (AfterAlone (came_awaiting_ssid self.old.setting command.now) self.old)) }
     {
-        self.asks = None;
+        self.response_due = None;
         self.state = Some(in_awaiting_ssid(self.setting, command, &mut self.frame));
         self.frame.out()
     }
@@ -329,7 +351,7 @@ impl<'b> Session<'b> {
         self.state = Some(came(
             self.setting,
             state,
-            &mut self.asks,
+            &mut self.response_due,
             office,
             command,
             &mut self.frame,
@@ -370,7 +392,13 @@ impl<'b> Session<'b> {
             self.state = Some(state);
             return Err(SessionFault::Ended);
         }
-        self.state = Some(turned(self.setting, state, &mut self.asks, office, &mut self.frame)?);
+        self.state = Some(turned(
+            self.setting,
+            state,
+            &mut self.response_due,
+            office,
+            &mut self.frame,
+        )?);
         Ok(self.frame.out())
     }
 

@@ -3,52 +3,50 @@
 ghost use Rattle.std.specs.Prelude.{◌≡◌, ◌≢◌, ◌≤◌, true, false, if◌then◌else◌, Some, IfErr, IfOk, IfSome};
 ghost use Rattle.oftp_register.specs.declared.fit.TheConstants.{MOST_UNITS};
 ghost use Rattle.oftp_register.specs.Changes.{is_closing};
-ghost use Rattle.oftp_register.specs.LookUps.{IsItemWithin, IsOutgoingWithin, entry_at, next_item, outgoing_entry, units_of};
-ghost use Rattle.oftp_register.specs.Register.{Outgoing};
+ghost use Rattle.oftp_register.specs.LookUps.{IsItemWithin, IsOutgoingWithin, next_item, units_of};
 ghost use Rattle.oftp_session.specs.Settings.{setting_of};
-ghost use Rattle.oftp_session.specs.Speaker.{came_awaiting_rtr, nothing_next, offers, on_item, responds, speaks};
+ghost use Rattle.oftp_session.specs.Speaker.{came_awaiting_rtr, nothing_next, on_item, responds, speaks};
 ghost use Rattle.oftp_session.specs.Steps.{IsResponding};
 ghost use Rattle.oftp_session.specs.Standings.{standing_of, turns_left};
-ghost use Rattle.oftp_session.specs.Recalling.{IsSoAt, IsSoOf};
-ghost use Rattle.oftp_session.specs.Inside.{Finds, Goes, Takes, asks_after};
+ghost use Rattle.oftp_session.specs.Recalling.{RecallsAt, RecallsOf};
+ghost use Rattle.oftp_session.specs.Inside.{Finds, Goes, IfRecalled, LooksFor, StepsWhere};
+ghost use Rattle.oftp_session.specs.InsideSpeaker.{OffersFile, due_after};
 
-use crate::change::make;
 use crate::commands::{response, sfid};
 use crate::frame::Frame;
 use crate::link::{Link, WhenDone};
 use crate::opening::Setting;
-use crate::sending::Offering;
-use crate::session::SessionFault;
+use crate::sending::OutgoingOffer;
+use crate::session::{SessionFault, make};
 use crate::state::{Contact, State};
 use oftp_register::{
     Change, Cursor, IssuedEntry, Item, Office, OutgoingEntry, OutgoingState, Side,
 };
 use oftp_wire::{Command, Count, SessionReason};
 
-/// What a speaker needs of an office. Every error of the office is [`SessionFault::Office`].
+// What a speaker needs of an office. Every error of the office is `SessionFault::Office`.
 pub(crate) trait SpeakerPart: Office {
-    /// The next response or file that wasn't tried. A file is next only where the station sends files. A response is looked for until
-    /// none was found, because no change of a speaker makes one due.
+    // The next response or file that wasn't tried. A file is next only where the station sends files. A response is looked for until
+    // none was found, because no change of a speaker makes one due.
     fn next(
         &mut self,
         contact: &Contact,
-        asks: &mut Option<bool>,
+        response_due: &mut Option<bool>,
     ) -> Result<Option<Item>, SessionFault>
         ensures clean { (Self.view self.new).clean → (Self.view self.old).clean }
-        ensures finds { (Self.view self.new).clean → (Self.view self.old).stands → IsSoOf asks.old contact.now (Self.view self.old).register
-            → Finds (λ r. next_item r contact.now.code contact.now.tried contact.now.link.sends)
-            (Self.view self.old) (Self.view self.new) result }
-        ensures recalls { (Self.view self.new).clean → (Self.view self.old).stands → IsSoOf asks.old contact.now (Self.view self.old).register
-            → IsSoOf asks.new contact.now (Self.view self.old).register }
+        ensures finds { IfRecalled response_due.old contact.now (Self.view self.old) (Self.view self.new)
+            (Finds (λ r. next_item r contact.now.code contact.now.tried contact.now.link.sends)
+            (Self.view self.old) (Self.view self.new) result) }
+        ensures recalls { IfRecalled response_due.old contact.now (Self.view self.old) (Self.view self.new)
+            (RecallsOf response_due.new contact.now (Self.view self.old).register) }
         // This needs no clean disk.
         ensures within { IfOk result (λ found. IfSome found IsItemWithin) }
         ensures err { IfErr result (λ fault. fault ≡ SessionFault.Office) };
 
-    /// The number of octets of an outgoing file.
+    // The number of octets of an outgoing file.
     fn units(&mut self, no: u64) -> Result<u64, SessionFault>
         ensures clean { (Self.view self.new).clean → (Self.view self.old).clean }
-        ensures finds { (Self.view self.new).clean → (Self.view self.old).stands
-            → Finds (λ r. units_of r Side.Outgoing no) (Self.view self.old) (Self.view self.new) result }
+        ensures finds { LooksFor (λ r. units_of r Side.Outgoing no) (Self.view self.old) (Self.view self.new) result }
         // This needs no clean disk.
         ensures within { IfOk result (λ units. units ≤ MOST_UNITS) }
         ensures err { IfErr result (λ fault. fault ≡ SessionFault.Office) };
@@ -58,34 +56,27 @@ impl<O: Office> SpeakerPart for O {
     fn next(
         &mut self,
         contact: &Contact,
-        asks: &mut Option<bool>,
+        response_due: &mut Option<bool>,
     ) -> Result<Option<Item>, SessionFault> {
-        let cursor = untried(contact.tried, *asks);
-        match self.next_item(&contact.code, cursor, contact.link.sends) {
-            Ok(item) => {
-                *asks = asks_after(&item);
-                Ok(item)
-            }
-            Err(_) => Err(SessionFault::Office),
-        }
+        let cursor = untried(contact.tried, *response_due);
+        let item = self.next_item(&contact.code, cursor, contact.link.sends)?;
+        *response_due = due_after(&item);
+        Ok(item)
     }
 
     fn units(&mut self, no: u64) -> Result<u64, SessionFault> {
-        match self.units_of(Side::Outgoing, no) {
-            Ok(units) => Ok(units),
-            Err(_) => Err(SessionFault::Office),
-        }
+        Ok(self.units_of(Side::Outgoing, no)?)
     }
 }
 
-/// The numbers above which a speaker looks for what is next. If no response is next, it looks above the greatest number, so that the store
-/// visits none.
-fn untried(tried: Cursor, asks: Option<bool>) -> Cursor
+// The numbers above which a speaker looks for what is next. If no response is next, it looks above the greatest number, so that the store
+// visits none.
+fn untried(tried: Cursor, response_due: Option<bool>) -> Cursor
     ensures file { result.file ≡ tried.file }
     ensures response { tried.response ≤ result.response }
-    ensures all { asks ≢ Some false → result ≡ tried }
+    ensures all { response_due ≢ Some false → result ≡ tried }
 {
-    match asks {
+    match response_due {
         Some(false) => Cursor {
             response: u64::MAX,
             ..tried
@@ -94,9 +85,9 @@ fn untried(tried: Cursor, asks: Option<bool>) -> Cursor
     }
 }
 
-/// What a speaker remembers after it found this: nothing after a response, and else that no response is next.
-fn asks_after(item: &Option<Item>) -> Option<bool>
-    ensures { result ≡ asks_after item.now }
+// What a speaker remembers after it found this: nothing after a response, and else that no response is next.
+fn due_after(item: &Option<Item>) -> Option<bool>
+    ensures { result ≡ due_after item.now }
 {
     match item {
         Some(Item::Response(_)) => None,
@@ -104,7 +95,7 @@ fn asks_after(item: &Option<Item>) -> Option<bool>
     }
 }
 
-/// Sends CD or ends the session, because nothing is left to send.
+// Sends CD or ends the session, because nothing is left to send.
 fn nothing_next(contact: Contact, done: WhenDone, frame: &mut Frame) -> State
     ensures { Goes (nothing_next contact done) result frame.new }
 {
@@ -114,15 +105,15 @@ fn nothing_next(contact: Contact, done: WhenDone, frame: &mut Frame) -> State
     }
 }
 
-/// Sends CD, so that the partner speaks (RFC 5024, section 5.3.12).
+// Sends CD, so that the partner speaks (RFC 5024, section 5.3.12).
 pub(crate) fn give_way(contact: Contact, frame: &mut Frame) -> State
     ensures { Goes (nothing_next contact WhenDone.ChangeDirection) result frame.new }
 {
-    frame.say(&Command::Cd);
+    frame.set_command(&Command::Cd);
     State::ListenerIdle(contact)
 }
 
-/// Sends a response, and waits for RTR.
+// Sends a response, and waits for RTR.
 fn respond(
     setting: Setting<'_>,
     mut contact: Contact,
@@ -131,19 +122,19 @@ fn respond(
 ) -> State
     ensures { Goes (responds (setting_of setting.entry) contact entry.now) result frame.new }
 {
-    frame.say(&response(setting.book, entry));
+    frame.set_command(&response(setting.book, entry));
     contact.tried.response = entry.no;
     State::AwaitingRtr(contact, entry.no)
 }
 
-/// The row from which a file is offered: its mark, if restart is agreed, and else 0.
+// The row from which a file is offered: its mark, if restart is agreed, and else 0.
 fn offered_from(link: &Link, mark: u64) -> u64
     ensures { result ≡ (if link.now.restart then mark else 0) }
 {
     if link.restart { mark } else { 0 }
 }
 
-/// Whether the end of a file was sent and its answer is missing.
+// Whether the end of a file was sent and its answer is missing.
 fn is_closing(state: OutgoingState) -> bool
     ensures { result ≡ is_closing state }
 {
@@ -157,8 +148,8 @@ fn is_closing(state: OutgoingState) -> bool
     }
 }
 
-/// The offering of a file with this entry and this number of octets, from row `from` on.
-fn offering(entry: &OutgoingEntry, units: u64, from: u64) -> Offering
+// The offer of a file with this entry and this number of octets, from row `from` on.
+fn outgoing_offer(entry: &OutgoingEntry, units: u64, from: u64) -> OutgoingOffer
     requires within { IsOutgoingWithin entry.now }
     requires units { units ≤ MOST_UNITS }
     ensures { result ≡ record {
@@ -172,7 +163,7 @@ fn offering(entry: &OutgoingEntry, units: u64, from: u64) -> Offering
       from = from;
     } }
 {
-    Offering {
+    OutgoingOffer {
         number: entry.no,
         is_closing: is_closing(entry.state),
         format: entry.format,
@@ -184,7 +175,7 @@ fn offering(entry: &OutgoingEntry, units: u64, from: u64) -> Offering
     }
 }
 
-/// Offers a file with SFID, and waits for the answer.
+// Offers a file with SFID, and waits for the answer.
 fn offer<O: Office>(
     mut contact: Contact,
     office: &mut O,
@@ -193,22 +184,19 @@ fn offer<O: Office>(
 ) -> Result<State, SessionFault>
     requires { IsOutgoingWithin entry.now }
     ensures clean { (O.view office.new).clean → (O.view office.old).clean }
-    ensures takes { (O.view office.new).clean → (O.view office.old).stands
-        → (done : WhenDone) (file : Outgoing) → entry.now ≡ outgoing_entry entry.now.no file
-        → entry_at entry.now.no (O.view office.old).register.outgoing ≡ Some file
-        → Takes (offers contact done entry.now.no (Some file)) (O.view office.old) (O.view office.new) frame.new result }
+    ensures takes { OffersFile contact entry.now (O.view office.old) (O.view office.new) frame.new result }
     ensures err { IfErr result (λ fault. fault ≡ SessionFault.Office) }
     // This needs no clean disk.
     ensures still { IfOk result (λ state. turns_left (standing_of state) ≡ 0) }
 {
     let units = office.units(entry.no)?;
     let from = offered_from(&contact.link, entry.mark);
-    frame.say(&sfid(entry, units, from));
+    frame.set_command(&sfid(entry, units, from));
     contact.tried.file = entry.no;
-    Ok(State::AwaitingStart(contact, offering(entry, units, from)))
+    Ok(State::AwaitingStart(contact, outgoing_offer(entry, units, from)))
 }
 
-/// Sends the item that is next, or CD or ESID if there is none.
+// Sends the item that is next, or CD or ESID if there is none.
 fn on_item<O: Office>(
     setting: Setting<'_>,
     contact: Contact,
@@ -219,10 +207,8 @@ fn on_item<O: Office>(
 ) -> Result<State, SessionFault>
     requires { IfSome item IsItemWithin }
     ensures clean { (O.view office.new).clean → (O.view office.old).clean }
-    ensures takes { (O.view office.new).clean → (O.view office.old).stands
-        → item ≡ next_item (O.view office.old).register contact.code contact.tried contact.link.sends
-        → Takes (on_item (setting_of setting.entry) contact done (O.view office.old).register item)
-        (O.view office.old) (O.view office.new) frame.new result }
+    ensures takes { StepsWhere (λ r. item ≡ next_item r contact.code contact.tried contact.link.sends)
+        (λ r. on_item (setting_of setting.entry) contact done r item) (O.view office.old) (O.view office.new) frame.new result }
     ensures err { IfErr result (λ fault. fault ≡ SessionFault.Office) }
     // This needs no clean disk.
     ensures still { IfOk result (λ state. turns_left (standing_of state) ≡ 0) }
@@ -234,31 +220,30 @@ fn on_item<O: Office>(
     }
 }
 
-/// Sends what is next: a response that is due, or else a file, or else CD or ESID.
+// Sends what is next: a response that is due, or else a file, or else CD or ESID.
 #[tactic(auto, unfolding(crate::specs::Speaker::speaks))]
 pub(crate) fn speak<O: Office>(
     setting: Setting<'_>,
     contact: Contact,
     done: WhenDone,
-    asks: &mut Option<bool>,
+    response_due: &mut Option<bool>,
     office: &mut O,
     frame: &mut Frame,
 ) -> Result<State, SessionFault>
     ensures clean { (O.view office.new).clean → (O.view office.old).clean }
-    ensures takes { (O.view office.new).clean → (O.view office.old).stands → IsSoOf asks.old contact (O.view office.old).register
-        → Takes (speaks (setting_of setting.entry) contact done (O.view office.old).register)
+    ensures takes { StepsWhere (λ r. RecallsOf response_due.old contact r) (λ r. speaks (setting_of setting.entry) contact done r)
         (O.view office.old) (O.view office.new) frame.new result }
-    ensures recalls { (O.view office.new).clean → (O.view office.old).stands → IsSoOf asks.old contact (O.view office.old).register
-        → IfOk result (λ state. IsSoAt asks.new (standing_of state) (O.view office.new).register) }
+    ensures recalls { IfRecalled response_due.old contact (O.view office.old) (O.view office.new)
+        (IfOk result (λ state. RecallsAt response_due.new (standing_of state) (O.view office.new).register)) }
     ensures err { IfErr result (λ fault. fault ≡ SessionFault.Office) }
     // This needs no clean disk.
     ensures still { IfOk result (λ state. turns_left (standing_of state) ≡ 0) }
 {
-    let item = office.next(&contact, asks)?;
+    let item = office.next(&contact, response_due)?;
     on_item(setting, contact, done, item, office, frame)
 }
 
-/// Executes a command that arrives while RTR is missing.
+// Executes a command that arrives while RTR is missing.
 #[tactic(auto, unfolding(crate::specs::Speaker::came_awaiting_rtr))]
 pub(crate) fn in_awaiting_rtr<O: Office>(
     contact: Contact,
@@ -268,13 +253,13 @@ pub(crate) fn in_awaiting_rtr<O: Office>(
     frame: &mut Frame,
 ) -> Result<State, SessionFault>
     ensures clean { (O.view office.new).clean → (O.view office.old).clean }
-    ensures takes { (O.view office.new).clean → (O.view office.old).stands → IsResponding (O.view office.old).register number
-        → Takes (came_awaiting_rtr contact number command.now) (O.view office.old) (O.view office.new) frame.new result }
+    ensures takes { StepsWhere (λ r. IsResponding r number) (λ r. came_awaiting_rtr contact number command.now)
+        (O.view office.old) (O.view office.new) frame.new result }
     ensures err { IfErr result (λ fault. fault ≡ SessionFault.Office) }
 {
     match command {
         Command::Rtr => {
-            frame.hush();
+            frame.clear();
             make(office, Change::Send { no: number })?;
             Ok(State::SpeakerIdle(contact, WhenDone::ChangeDirection))
         }

@@ -10,13 +10,13 @@ ghost use Rattle.oftp_session.specs.Inside.{Goes};
 use crate::commands::esid;
 use crate::frame::Frame;
 use crate::link::{Link, WhenDone};
-use crate::receiving::Reception;
-use crate::sending::{Offering, Shipment};
+use crate::receiving::IncomingTransfer;
+use crate::sending::{OutgoingOffer, OutgoingTransfer};
 use crate::session::Ending;
 use oftp_register::{Cursor, Name};
 use oftp_wire::{Command, Count, SessionReason};
 
-/// The partner of an open session by its code, what is agreed with it, and the numbers up to which responses and files were tried.
+// The partner of an open session by its code, what is agreed with it, and the numbers up to which responses and files were tried.
 #[derive(Drop)]
 pub(crate) struct Contact {
     pub(crate) code: Name<25>,
@@ -24,55 +24,55 @@ pub(crate) struct Contact {
     pub(crate) tried: Cursor,
 }
 
-/// The state of a session (RFC 5024, section 9).
+// The state of a session (RFC 5024, section 9).
 #[derive(Drop)]
 pub(crate) enum State {
-    /// A responder that has to send SSRM.
+    // A responder that has to send SSRM.
     ResponderOpening,
-    /// An initiator that waits for SSRM.
+    // An initiator that waits for SSRM.
     InitiatorOpening,
-    /// The partner's SSID is missing.
+    // The partner's SSID is missing.
     AwaitingSsid,
-    /// The partner speaks, and no file is being received.
+    // The partner speaks, and no file is being received.
     ListenerIdle(Contact),
-    /// The partner speaks, and this file is being received.
-    Receiving(Contact, Reception),
-    /// The station speaks, and decides what it sends next.
+    // The partner speaks, and this file is being received.
+    Receiving(Contact, IncomingTransfer),
+    // The station speaks, and decides what it sends next.
     SpeakerIdle(Contact, WhenDone),
-    /// The station has to send CD.
+    // The station has to send CD.
     GivingWay(Contact),
-    /// The response to the incoming file with this number was sent, and RTR is missing.
+    // The response to the incoming file with this number was sent, and RTR is missing.
     AwaitingRtr(Contact, u64),
-    /// This file was offered, and the answer to SFID is missing.
-    AwaitingStart(Contact, Offering),
-    /// This file is being sent.
-    Sending(Contact, Shipment),
-    /// The end of the outgoing file with this number was sent, and the answer to EFID is missing.
+    // This file was offered, and the answer to SFID is missing.
+    AwaitingStart(Contact, OutgoingOffer),
+    // This file is being sent.
+    Sending(Contact, OutgoingTransfer),
+    // The end of the outgoing file with this number was sent, and the answer to EFID is missing.
     AwaitingEnd(Contact, u64),
-    /// The station ended the session.
+    // The station ended the session.
     EndedHere(SessionReason),
-    /// The partner ended the session. Its reason code may be one that RFC 5024 doesn't list.
+    // The partner ended the session. Its reason code may be one that RFC 5024 doesn't list.
     EndedThere(Count<2>),
 }
 
 impl State {
-    /// Ends the session with an ESID of this reason.
+    // Ends the session with an ESID of this reason.
     pub(crate) fn ended_here(reason: SessionReason, frame: &mut Frame) -> State
         ensures { Goes (fails reason) result frame.new }
     {
-        frame.say(&esid(reason));
+        frame.set_command(&esid(reason));
         State::EndedHere(reason)
     }
 
-    /// The partner ended the session.
+    // The partner ended the session.
     fn ended_there(reason: Count<2>, frame: &mut Frame) -> State
         ensures { Goes (leaves reason) result frame.new }
     {
-        frame.hush();
+        frame.clear();
         State::EndedThere(reason)
     }
 
-    /// Executes a command that isn't allowed in the current state.
+    // Executes a command that isn't allowed in the current state.
     #[tactic(auto, unfolding(crate::specs::Phases::unexpected))]
     pub(crate) fn unexpected(command: &Command<'_>, frame: &mut Frame) -> State
         ensures { Goes (unexpected command.now) result frame.new }
@@ -83,7 +83,7 @@ impl State {
         }
     }
 
-    /// How the session ended, if it did.
+    // How the session ended, if it did.
     pub(crate) fn ended(&self) -> Option<Ending>
         ensures { result ≡ ended_as (standing_of self.now) }
     {
@@ -104,7 +104,7 @@ impl State {
         }
     }
 
-    /// Whether the session ended.
+    // Whether the session ended.
     #[tactic(auto, using(crate::proofs::Standings::closed_ended))]
     pub(crate) fn is_closed(&self) -> bool
         ensures { result ≡ is_closed (standing_of self.now) }
@@ -112,9 +112,9 @@ impl State {
         self.ended().is_some()
     }
 
-    /// What was looked up, in a state that remembers it: each of an open session, but for the one in which RTR is missing.
-    pub(crate) fn recalled(&self, asks: Option<bool>) -> Option<bool>
-        ensures { result ≡ (if is_some (recalled_of (standing_of self.now)) then asks else None) }
+    // What was looked up, in a state that remembers it: each of an open session, but for the one in which RTR is missing.
+    pub(crate) fn recalled(&self, response_due: Option<bool>) -> Option<bool>
+        ensures { result ≡ (if is_some (recalled_of (standing_of self.now)) then response_due else None) }
     {
         match self {
             State::ListenerIdle(_)
@@ -123,7 +123,7 @@ impl State {
             | State::GivingWay(_)
             | State::AwaitingStart(_, _)
             | State::Sending(_, _)
-            | State::AwaitingEnd(_, _) => asks,
+            | State::AwaitingEnd(_, _) => response_due,
             State::ResponderOpening
             | State::InitiatorOpening
             | State::AwaitingSsid
@@ -133,13 +133,13 @@ impl State {
         }
     }
 
-    /// Whether a command of the station is due.
+    // Whether a command of the station is due.
     pub(crate) fn is_due(&self) -> bool
         ensures { result ≡ is_due (standing_of self.now) }
     {
         match self {
             State::ResponderOpening | State::SpeakerIdle(_, _) | State::GivingWay(_) => true,
-            State::Sending(_, shipment) => shipment.credit > 0,
+            State::Sending(_, outgoing) => outgoing.credit > 0,
             State::InitiatorOpening
             | State::AwaitingSsid
             | State::ListenerIdle(_)
@@ -152,7 +152,7 @@ impl State {
         }
     }
 
-    /// Whether the buffers of a file are being sent.
+    // Whether the buffers of a file are being sent.
     pub(crate) fn is_sending(&self) -> bool
         ensures { result ≡ is_sending (standing_of self.now) }
     {
@@ -173,7 +173,7 @@ impl State {
         }
     }
 
-    /// The code of the partner with whom the session is open, if it is.
+    // The code of the partner with whom the session is open, if it is.
     pub(crate) fn code(&self) -> Option<&Name<25>>
         ensures { option_map (λ name. name.now) result ≡ code_of (standing_of self.now) }
     {

@@ -1,13 +1,12 @@
 //! The commands.
 
-mod residence;
-
 use oftp_command_line::{Line, LineFault, VERSION, help, line_of};
 use oftp_commands as commands;
 use oftp_files::{read_book, show};
 use oftp_outcomes::{
     DONE, FAILED, Fault, Outcome, Output, Reader, is_told, status_where, tell, write_line,
 };
+use oftp_services as services;
 use std::io::{self, ErrorKind, Write};
 
 /// The exit status for a bad command line.
@@ -88,10 +87,10 @@ fn carry_out(
         Line::Backup(backup) => tell(commands::back_up(rt, backup)?, out),
         Line::Feed(feed) => tell(commands::feed(rt, feed)?, out),
         Line::Show { input } => Ok(status_where(show(rt, input, out)?)),
-        Line::Call(call) => tell(commands::call(rt, call)?, out),
-        Line::Run(run) => done(residence::run(rt, run, out)),
-        Line::Listen(listen) => done(commands::listen(rt, listen, out, err)),
-        Line::Http(http) => done(commands::http(rt, http, out, err)),
+        Line::Call(call) => tell(services::call(rt, call)?, out),
+        Line::Run(run) => done(services::run(rt, run, out)),
+        Line::Listen(listen) => done(services::listen(rt, listen, out, err)),
+        Line::Http(http) => done(services::http(rt, http, out, err)),
     }
 }
 

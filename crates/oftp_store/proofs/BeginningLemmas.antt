@@ -4,27 +4,27 @@ use Rattle.std.proofs.lemmas.Bool.{cond-true, cond-false}
 use Rattle.std.proofs.lemmas.Bool.Decides.{nat_tests}
 use Rattle.std.proofs.Math.Seq.{set-append_seam}
 use Rattle.std.specs.Option.{option_map}
-use Rattle.oftp_vfile.specs.declared.format.Format.{Format}
-use Rattle.oftp_wire.specs.declared.field.Text.{Text as Words}
 use Rattle.oftp_register.specs.declared.change.Cause.{Cause}
 use Rattle.oftp_register.specs.declared.change.Cause.TheVariants.{Full, State as Unfit}
-use Rattle.oftp_register.specs.declared.change.Change.TheVariants as change
 use Rattle.oftp_register.specs.declared.entry.Identity.{Identity}
 use Rattle.oftp_register.specs.declared.entry.IncomingState.{IncomingState}
 use Rattle.oftp_register.specs.declared.entry.IncomingState.TheVariants.{Open, Whole}
 use Rattle.oftp_register.specs.declared.entries.IncomingEntry.{IncomingEntry}
 use Rattle.oftp_register.specs.declared.entries.Side.TheVariants as side
 use Rattle.oftp_register.specs.Register.{Register, Incoming}
-use Rattle.oftp_register.specs.Changes.{apply, begun, gone_on, mapped, new_incoming, started}
+use Rattle.oftp_register.specs.Changes.{apply, begun, gone_on, mapped, started}
 use Rattle.oftp_register.specs.LookUps.{entry_at}
 use Rattle.oftp_register.proofs.NameLemmas.{same_identity-true}
 use Rattle.oftp_register.proofs.StartLemmas.{IsNew, StandsAt, where_is}
 use Rattle.oftp_store.specs.Numbers.{file_number}
 use Rattle.oftp_store.specs.Reads.{IsPlaced}
 use Rattle.oftp_store.specs.Allocations.{IsIncomingAllocationOf, goes_on, goes_on_in}
+use Rattle.oftp_store.specs.Edits.{incoming_with, start_of}
 use Rattle.oftp_store.specs.declared.changes.edit.Edit.{Edit}
-use Rattle.oftp_store.specs.declared.changes.edit.Deed.TheVariants.{AddFile, CutRows, SetHeader}
+use Rattle.oftp_store.specs.declared.changes.edit.EditKind.TheVariants.{AddFile, CutRows, SetHeader}
+use Rattle.oftp_store.specs.declared.changes.edit.NewHeader.{NewHeader}
 use Rattle.oftp_store.specs.declared.queries.progress.IncomingProgress.{IncomingProgress}
+use Rattle.oftp_store.specs.declared.queries.allocation.IncomingAllocation.{IncomingAllocation}
 use Rattle.oftp_store.specs.declared.queries.allocation.IncomingAllocation.TheVariants as incoming_allocation
 use Rattle.oftp_store.proofs.CommitLemmas.{IsMadeBy}
 use Rattle.oftp_store.proofs.NumberLemmas.{entry_placed}
@@ -71,31 +71,36 @@ above_first count h = grind (arith, nat_tests, h)
 at_first : (count : ℕ) → count ≤ 0 → nat_lt 0 count ≡ false
 at_first count h = grind (arith, nat_tests, h)
 
-pub late_start : (r : Register) (it : Identity) (format : Format) (longest : ℕ) (description : List ℕ) (count n : ℕ) → IsIncomingAllocationOf r it (incoming_allocation.New n) → 0 < count
-    → apply r (change.Start it format longest description count) ≡ Err Unfit
-unfolding apply
-late_start r it format longest description count n free above =
-    later r (new_incoming it format longest description) count (new_is r.limits (length r.incoming) n (file_number r side.Incoming it) free).0 (above_first count above)
+-- what is known of the incoming file of a header's identity
+abbrev pub IsKnown : Register → NewHeader → IncomingAllocation → Type 0
+IsKnown r header found = IsIncomingAllocationOf r header.identity.now found
 
-pub late_start_full : (r : Register) (it : Identity) (format : Format) (longest : ℕ) (description : List ℕ) (count : ℕ) → IsIncomingAllocationOf r it incoming_allocation.Full → 0 < count
-    → apply r (change.Start it format longest description count) ≡ Err Unfit
+pub late_start : (r : Register) (header : NewHeader) (count n : ℕ) → IsKnown r header (incoming_allocation.New n) → 0 < count → apply r (start_of header count) ≡ Err Unfit
 unfolding apply
-late_start_full r it format longest description count full above =
-    later r (new_incoming it format longest description) count (full_is r.limits (length r.incoming) (file_number r side.Incoming it) full).0 (above_first count above)
+late_start r header count n free above =
+    later r (incoming_with header) count (new_is r.limits (length r.incoming) n (file_number r side.Incoming header.identity.now) free).0 (above_first count above)
 
-pub full_start : (r : Register) (it : Identity) (format : Format) (longest : ℕ) (description : List ℕ) (count : ℕ) → IsIncomingAllocationOf r it incoming_allocation.Full → count ≤ 0
-    → apply r (change.Start it format longest description count) ≡ Err Full
+pub late_start_full : (r : Register) (header : NewHeader) (count : ℕ) → IsKnown r header incoming_allocation.Full → 0 < count → apply r (start_of header count) ≡ Err Unfit
 unfolding apply
-full_start r it format longest description count full first =
-    let is = full_is r.limits (length r.incoming) (file_number r side.Incoming it) full in
-    no_room r (new_incoming it format longest description) count is.0 (at_first count first) is.1
+late_start_full r header count full above =
+    later r (incoming_with header) count (full_is r.limits (length r.incoming) (file_number r side.Incoming header.identity.now) full).0 (above_first count above)
 
-pub made_by_begin : (r : Register) (it : Bor Identity) (format : Format) (longest : ℕ) (description : Bor Words) (count n : ℕ) → IsIncomingAllocationOf r it.now (incoming_allocation.New n) → count ≤ 0
-    → (let edit : Edit = record { no = n; deed = AddFile side.Incoming it format longest description } in IsMadeBy (edit ∷ []) r (change.Start it.now format longest description.now count))
+pub full_start : (r : Register) (header : NewHeader) (count : ℕ) → IsKnown r header incoming_allocation.Full → count ≤ 0 → apply r (start_of header count) ≡ Err Full
 unfolding apply
-made_by_begin r it format longest description count n free first =
-    let is = new_is r.limits (length r.incoming) n (file_number r side.Incoming it.now) free in
-    let f : Incoming = new_incoming it.now format longest description.now in
+full_start r header count full first =
+    let is = full_is r.limits (length r.incoming) (file_number r side.Incoming header.identity.now) full in
+    no_room r (incoming_with header) count is.0 (at_first count first) is.1
+
+-- the edit of a start: a file without rows
+abbrev pub begin_edits : ℕ → Bor NewHeader → List Edit
+begin_edits n header = (record { no = n; kind = AddFile side.Incoming header }) ∷ []
+
+pub made_by_begin : (r : Register) (header : Bor NewHeader) (count n : ℕ) → IsKnown r header.now (incoming_allocation.New n) → count ≤ 0
+    → IsMadeBy (begin_edits n header) r (start_of header.now count)
+unfolding apply
+made_by_begin r header count n free first =
+    let is = new_is r.limits (length r.incoming) n (file_number r side.Incoming header.now.identity.now) free in
+    let f = incoming_with header.now in
     let s : Register = record r { incoming = r.incoming ++ f ∷ [] } in
     record {
       now = s;
@@ -152,29 +157,30 @@ moves_on : (header : Incoming) (count : ℕ) (f : Incoming) (state : IncomingSta
 moves_on header count f Open h = (refl, cond-false (nat_lt (length f.rows) count) _ _ (not_more (length f.rows) count h))
 moves_on header count f Whole h = absurd (let no_such = h in cc)
 
-pub unfit_start : (r : Register) (it : Identity) (format : Format) (longest : ℕ) (description : List ℕ) (count n : ℕ) (progress : IncomingProgress)
-    → IsIncomingAllocationOf r it (incoming_allocation.Known n progress) → goes_on progress count ≡ false
-    → apply r (change.Start it format longest description count) ≡ Err Unfit
+pub unfit_start : (r : Register) (header : NewHeader) (count n : ℕ) (progress : IncomingProgress) → IsKnown r header (incoming_allocation.Known n progress) → goes_on progress count ≡ false
+    → apply r (start_of header count) ≡ Err Unfit
 unfolding apply
-unfit_start r it format longest description count n progress (some, (before, f, after, placed, is)) off =
-    let header = new_incoming it format longest description in
-    (here r header count n before f after some placed).starts
-    ∙ ap (λ (x : Result Incoming Cause). mapped (with_files r) (mapped (λ y. before ++ y ∷ after) x)) (stays_off header count f f.state (sym (ap (λ (p : IncomingProgress). goes_on p count) is) ∙ off))
+unfit_start r header count n progress (some, (before, f, after, placed, is)) off =
+    let began = incoming_with header in
+    (here r began count n before f after some placed).starts
+    ∙ ap (λ (x : Result Incoming Cause). mapped (with_files r) (mapped (λ y. before ++ y ∷ after) x)) (stays_off began count f f.state (sym (ap (λ (p : IncomingProgress). goes_on p count) is) ∙ off))
 
-pub made_by_go_on : (r : Register) (it : Bor Identity) (format : Format) (longest : ℕ) (description : Bor Words) (count n : ℕ) (progress : IncomingProgress)
-    → IsIncomingAllocationOf r it.now (incoming_allocation.Known n progress) → goes_on progress count ≡ true
-    → (let header : Edit = record { no = n; deed = SetHeader format longest description } in let rest : Edit = record { no = n; deed = CutRows count } in
-    IsMadeBy (header ∷ rest ∷ []) r (change.Start it.now format longest description.now count))
+-- the edits of a file that goes on: another header, and no rows but the first
+abbrev pub go_on_edits : ℕ → Bor NewHeader → ℕ → List Edit
+go_on_edits n header count = (record { no = n; kind = SetHeader header }) ∷ (record { no = n; kind = CutRows count }) ∷ []
+
+pub made_by_go_on : (r : Register) (header : Bor NewHeader) (count n : ℕ) (progress : IncomingProgress) → IsKnown r header.now (incoming_allocation.Known n progress)
+    → goes_on progress count ≡ true → IsMadeBy (go_on_edits n header count) r (start_of header.now count)
 unfolding apply
-made_by_go_on r it format longest description count n progress (some, (before, f, after, placed, is)) on =
-    let header = new_incoming it.now format longest description.now in
-    let h = here r header count n before f after some placed in
-    let goes = moves_on header count f f.state (sym (ap (λ (p : IncomingProgress). goes_on p count) is) ∙ on) in
-    let g : Incoming = record f { format = format; longest = longest; description = description.now } in
+made_by_go_on r header count n progress (some, (before, f, after, placed, is)) on =
+    let began = incoming_with header.now in
+    let h = here r began count n before f after some placed in
+    let goes = moves_on began count f f.state (sym (ap (λ (p : IncomingProgress). goes_on p count) is) ∙ on) in
+    let g : Incoming = record f { format = header.now.format; longest = header.now.longest; description = header.now.description.now } in
     let mid : Register = record r { incoming = before ++ g ∷ after } in
     let last : Incoming = record g { rows = take count f.rows } in
     let s : Register = record r { incoming = before ++ last ∷ after } in
-    let as_made : Incoming = record header { rows = take count f.rows; response = f.response } in
+    let as_made : Incoming = record began { rows = take count f.rows; response = f.response } in
     let same : as_made ≡ last =
     ap (λ i. let x : Incoming = record as_made { identity = i } in x) (sym h.same) ∙ ap (λ st. let x : Incoming = record as_made { identity = f.identity; state = st } in x) (sym goes.0) in
     record {

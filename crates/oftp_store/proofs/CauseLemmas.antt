@@ -1,5 +1,5 @@
 -- The cause of a failed store is told by one step after another.
-use Rattle.std.proofs.Common.{◌≡◌, ◌≤◌, ◌<◌, ◌+◌, ◌^◌, ◌⊎◌, ℕ, nat_lt, List, All, length, find, option_map, Bool, true, false, is_some, IsSome, slice_get, Option, Some, None, Result, Ok, Err, IfErr, IsTrue, inl, inr, refl, sym, ap, subst, ◌∙◌, arith}
+use Rattle.std.proofs.Common.{◌≡◌, ◌≤◌, ◌<◌, ◌+◌, ◌^◌, ℕ, nat_lt, List, length, find, option_map, Bool, false, is_some, IsSome, slice_get, Option, Some, None, Result, Ok, Err, IfErr, IsTrue, inl, inr, refl, sym, ap, subst, ◌∙◌, arith}
 use Rattle.std.specs.Prelude.{⊤}
 use Rattle.std.specs.Option.{IsSomeAnd}
 use Rattle.std.specs.Result.{IsErrAnd}
@@ -17,11 +17,8 @@ use Rattle.sqlite.specs.Listing.{understood}
 use Rattle.sqlite.proofs.Callers.{unchanged_then}
 use Rattle.sqlite_trees.specs.declared.store.Store.{Ghosts}
 use Rattle.oftp_vfile.specs.declared.format.Limits.{Limits}
-use Rattle.oftp_register.specs.declared.change.Cause.{Cause}
-use Rattle.oftp_register.specs.declared.change.Cause.TheVariants.{State as Unfit}
-use Rattle.oftp_register.specs.declared.change.Change.{Change}
 use Rattle.oftp_register.specs.declared.office.OfficeFault.{OfficeFault}
-use Rattle.oftp_register.specs.declared.office.OfficeFault.TheVariants.{Store, Memory, Refused}
+use Rattle.oftp_register.specs.declared.office.OfficeFault.TheVariants.{Store, Memory}
 use Rattle.oftp_register.specs.declared.entry.Identity.{Identity}
 use Rattle.oftp_register.specs.declared.entries.IncomingEntry.{IncomingEntry}
 use Rattle.oftp_register.specs.declared.entries.OutgoingEntry.{OutgoingEntry}
@@ -32,17 +29,14 @@ use Rattle.oftp_tables.specs.Schema.{office_schema}
 use Rattle.oftp_tables.specs.Stands.{Stands}
 use Rattle.oftp_tables.specs.Statements.{IsFaultOf, Looks}
 use Rattle.oftp_tables.specs.Tables.{Tables, register_in}
-use Rattle.oftp_store.specs.Causes.{Fits, HasCause, HasCauseWhere, HasCommitCause, HasQueryCause, HasRowCause, IsCause, IsQueryCause, IsRowCause, Misfits, Query, asking, error, misread, number, query, reading, row, size, sql_of, values_of, writing}
-use Rattle.oftp_store.specs.Commits.{AreCarriedOut, Finds, MakesEdits}
-use Rattle.oftp_store.specs.Edits.{IsStorable}
+use Rattle.oftp_store.specs.Causes.{Fits, HasCause, HasCauseWhere, HasQueryCause, HasRowCause, IsCause, IsQueryCause, IsRowCause, Misfits, Query, asking, error, misread, number, query, row, sql_of, values_of}
 use Rattle.oftp_store.specs.FileProgress.{incoming_told, outgoing_told}
 use Rattle.oftp_store.specs.Numbers.{entries_in, file_number}
 use Rattle.oftp_store.specs.Texts.{IsPlainText}
-use Rattle.oftp_store.specs.declared.changes.edit.Edit.{Edit}
 use Rattle.oftp_store.specs.declared.queries.last_number.Table.{Table}
 use Rattle.oftp_store.specs.declared.queries.progress.IncomingProgress.{IncomingProgress}
 use Rattle.oftp_store.specs.declared.queries.progress.OutgoingProgress.{OutgoingProgress}
-use Rattle.oftp_store.proofs.CommitLemmas.{IsMadeBy, IsOfFile, err_passed, made_fit, stands_same}
+use Rattle.oftp_store.proofs.CommitLemmas.{err_passed, stands_same}
 use Rattle.oftp_store.proofs.FirstLemmas.{same_by_number}
 use Rattle.oftp_store.proofs.NumberLemmas.{entry_unknown}
 
@@ -291,59 +285,3 @@ pub number_told : {S : Type 0} (g : Ghosts S) (table : Table) (old new : Held S)
     → (last + 1 < 2 ^ 63 → result ≡ Ok (last + 1)) → IfErr result (HasCause g old new)
 number_told g table old new last (Ok x) answer made = tt
 number_told g table old new last (Err fault) answer made = far_told {A = ℕ} g table old new last (Err fault) answer (far_by last fault made)
-
--- ---- a commit
-
--- a look-up of it failed
-pub passed_told : {S T : Type 0} (g : Ghosts S) (limits : Limits) (change : Change) (old new : Held S) (fault : OfficeFault) (result : Result T OfficeFault) → HasCause g old new fault
-    → IsErrAnd result (λ (passed : OfficeFault). passed ≡ fault) → IfErr result (HasCommitCause g limits change old new)
-passed_told g limits change old new fault result told passed =
-    err_passed (HasCommitCause g limits change old new) fault result passed (record { cause = λ is clean stands. reading (told.cause is clean limits stands) })
-
--- a refusal needs no cause
-
-pub refused : {S : Type 0} (g : Ghosts S) (old new : Held S) (cause : Cause) → HasCause g old new (Refused cause)
-refused g old new cause = record { cause = λ is. absurd (let no_such = is in cc) }
-
-pub refused_told : {S : Type 0} (g : Ghosts S) (limits : Limits) (change : Change) (old new : Held S) (cause : Cause) → HasCommitCause g limits change old new (Refused cause)
-refused_told g limits change old new cause = record { cause = λ is. absurd (let no_such = is in cc) }
-
-pub refusal_passed : {S T : Type 0} {allowed : Bool} (g : Ghosts S) (old new : Held S) (fault : OfficeFault) (result : Result T OfficeFault) → (allowed ≡ false) × (fault ≡ Refused Unfit)
-    → IsErrAnd result (λ (passed : OfficeFault). passed ≡ fault) → IfErr result (HasCause g old new)
-refusal_passed g old new fault result unfit passed = err_passed (HasCause g old new) fault result passed (subst (HasCause g old new) (sym unfit.1) (refused g old new Unfit))
-
-pub refusal_told : {S T : Type 0} {allowed : Bool} (g : Ghosts S) (limits : Limits) (change : Change) (old new : Held S) (fault : OfficeFault) (result : Result T OfficeFault)
-    → (allowed ≡ false) × (fault ≡ Refused Unfit) → IsErrAnd result (λ (passed : OfficeFault). passed ≡ fault) → IfErr result (HasCommitCause g limits change old new)
-refusal_told g limits change old new fault result unfit passed =
-    err_passed (HasCommitCause g limits change old new) fault result passed (subst (HasCommitCause g limits change old new) (sym unfit.1) (refused_told g limits change old new Unfit))
-
--- its edits failed
-pub edits_told : {S A : Type 0} (g : Ghosts S) (edits : List Edit) (limits : Limits) (change : Change) (old mid new : Held S) (x : A) (result : Result (Unit {0}) OfficeFault)
-    → Looks (state g old) (state g mid) (Ok x) → (HasCleanDisk (state g mid) → Stands limits (state g old) → IsMadeBy edits (register_in limits (state g old).now.trees) change)
-    → MakesEdits edits g mid new result → IfErr result (HasCommitCause g limits change old new)
-edits_told {S = S} g edits limits change old mid new x result looks by makes = go result makes.made
-  where
-    go : (r : Result (Unit {0}) OfficeFault) → AreCarriedOut edits g mid new r ⊎ ((¬ All IsStorable edits) × (r ≡ Err Store) × (new ≡ mid)) → IfErr r (HasCommitCause g limits change old new)
-    go (Ok y) did = tt
-    go (Err fault) (inl carried) = record {
-      cause = λ is clean stands.
-          let f = carried.told clean in
-          let m = by (omega (arith, carried.transacts.clean, clean)) stands in
-          writing m.now f.0 m.is f.1 (λ memory. let no_such : Store ≡ Memory = sym is ∙ f.3.1 memory in cc);
-    }
-    go (Err fault) (inr unstored) = record {
-      cause = λ is clean stands. let m = by (subst (λ (h : Held S). HasCleanDisk (state g h)) unstored.2 clean) stands in size edits m.now m.is m.edited unstored.0;
-    }
-
--- its edits failed, after the look-ups of its file
-
-pub fit_told : {S A : Type 0} (g : Ghosts S) (told : Register → ℕ → Option A → Type 0) (fits : A → Bool) (edits : A → List Edit) (n : ℕ) (limits : Limits) (change : Change)
-    (old mid new : Held S) (file : A) (result : Result (Unit {0}) OfficeFault) → IsOfFile told fits edits n change → Finds told n (state g old) (state g mid) file → fits file ≡ true
-    → MakesEdits (edits file) g mid new result → IfErr result (HasCommitCause g limits change old new)
-fit_told g told fits edits n limits change old mid new file result is finds fit makes =
-    edits_told g (edits file) limits change old mid new (Some file) result finds.looks (λ k stands. made_fit is (finds.answer k limits stands) fit stands.holds.sound) makes
-
-pub allowed_told : {S A : Type 0} {g : Ghosts S} {told : Register → ℕ → Option A → Type 0} {fits : A → Bool} {edits : A → List Edit} {n : ℕ} {change : Change} {mid new : Held S} {file : A}
-    {allowed : Bool} {result : Result (Unit {0}) OfficeFault} (limits : Limits) (old : Held S) → IsOfFile told fits edits n change → Finds told n (state g old) (state g mid) file
-    → allowed ≡ fits file → allowed ≡ true → MakesEdits (edits file) g mid new result → IfErr result (HasCommitCause g limits change old new)
-allowed_told {g = g} {mid = mid} {new = new} limits old is finds tested fit makes = fit_told g _ _ _ _ limits _ old mid new _ _ is finds (sym tested ∙ fit) makes

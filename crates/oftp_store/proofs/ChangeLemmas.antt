@@ -1,7 +1,6 @@
 -- What the changes of one file by its number do to a register.
 use Rattle.std.proofs.Common.{◌≡◌, ◌≤◌, ◌+◌, ◌&&◌, ◌||◌, ℕ, zero, suc, nat_le, Bor, Bool, true, false, cond, List, [], ◌∷◌, ◌++◌, length, Option, Some, None, Result, Ok, Err, refl, sym, ap, subst, ◌∙◌, arith}
 use Rattle.std.specs.Option.{option_map}
-use Rattle.oftp_wire.specs.declared.field.Text.{Text as Words}
 use Rattle.oftp_register.specs.declared.change.Cause.{Cause}
 use Rattle.oftp_register.specs.declared.change.Cause.TheVariants.{Unknown, State as Unfit}
 use Rattle.oftp_register.specs.declared.change.Change.{Change}
@@ -13,17 +12,17 @@ use Rattle.oftp_register.specs.declared.entry.IncomingState.{IncomingState}
 use Rattle.oftp_register.specs.declared.entry.IncomingState.TheVariants.{Open, Whole}
 use Rattle.oftp_register.specs.declared.entry.OutgoingState.{OutgoingState}
 use Rattle.oftp_register.specs.declared.entry.OutgoingState.TheVariants.{Closing, Handed, Refused, Waiting}
-use Rattle.oftp_register.specs.declared.entry.ResponseKind.{ResponseKind}
 use Rattle.oftp_register.specs.Register.{Register, Incoming, Issued, Outgoing}
 use Rattle.oftp_register.specs.Changes.{apply, at_number, closed, closing, given_up, handed, if_open, if_unanswered, is_closing, is_waiting, issued, issued_on, kept, mapped, marked, on_incoming, on_outgoing, refused, reopened, sent, sent_as, sent_of}
 use Rattle.oftp_register.specs.LookUps.{entry_at}
 use Rattle.oftp_tables.proofs.SpotLemmas.{Spot, changed_past, changed_there, past, spot, there, zeroth}
-use Rattle.oftp_store.specs.Edits.{AreEdited, IsDone, more, outgoing_edit}
+use Rattle.oftp_store.specs.Edits.{AreEdited, IsDone, issue_of, issued_with, more, outgoing_edit}
 use Rattle.oftp_store.specs.FileProgress.{dispatch_of, incoming_progress_of, incoming_told, is_answerable, is_answerable_in, is_due_response, is_open, is_open_file, is_sendable, is_unanswered, outgoing_progress_of, outgoing_told, response_progress_of, response_told}
 use Rattle.oftp_store.specs.Reads.{IsPlaced, IsToldOf}
 use Rattle.oftp_store.specs.declared.changes.edit.Edit.{Edit}
-use Rattle.oftp_store.specs.declared.changes.edit.Deed.{Deed}
-use Rattle.oftp_store.specs.declared.changes.edit.Deed.TheVariants.{AddIssued, AddRows, CutRows, SetSent, SetWhole}
+use Rattle.oftp_store.specs.declared.changes.edit.EditKind.{EditKind}
+use Rattle.oftp_store.specs.declared.changes.edit.EditKind.TheVariants.{AddIssued, AddRows, CutRows, SetSent, SetWhole}
+use Rattle.oftp_store.specs.declared.changes.edit.NewIssued.{NewIssued}
 use Rattle.oftp_store.specs.declared.queries.progress.OutgoingProgress.{OutgoingProgress}
 use Rattle.oftp_store.specs.declared.queries.progress.ResponseProgress.{ResponseProgress}
 use Rattle.oftp_store.proofs.CommitLemmas.{IsMadeIf, IsOfFile}
@@ -108,10 +107,10 @@ open_is Open h = refl
 open_is Whole h = absurd (let no_such = h in cc)
 
 -- other rows in the progress of a file, in the same state
-rows_edited : (r : Register) (n : ℕ) (deed : Deed) (rows : List (List ℕ)) (before : List Incoming) (f : Incoming) (after : List Incoming) → f.state ≡ Open
-    → IsDone n deed r (record r { incoming = before ++ (record f { rows = rows }) ∷ after })
-    → (let edit : Edit = record { no = n; deed = deed } in AreEdited (edit ∷ []) r (record r { incoming = before ++ (record f { rows = rows; state = Open }) ∷ after }))
-rows_edited r n deed rows before f after is_open done =
+rows_edited : (r : Register) (n : ℕ) (kind : EditKind) (rows : List (List ℕ)) (before : List Incoming) (f : Incoming) (after : List Incoming) → f.state ≡ Open
+    → IsDone n kind r (record r { incoming = before ++ (record f { rows = rows }) ∷ after })
+    → (let edit : Edit = record { no = n; kind = kind } in AreEdited (edit ∷ []) r (record r { incoming = before ++ (record f { rows = rows; state = Open }) ∷ after }))
+rows_edited r n kind rows before f after is_open done =
     (_, done, ap (λ st. let q : Register = record r { incoming = before ++ (record f { rows = rows; state = st }) ∷ after } in q) is_open)
 
 pub keep_is : (n : ℕ) (rows : Bor (List (List ℕ))) → IsOfFile incoming_told is_open_file (λ file. more n file.rows rows ∷ []) n (change.Keep n rows.now)
@@ -128,7 +127,7 @@ keep_is n rows =
 
 -- the last rows of a file, which is then whole
 abbrev pub last_of : ℕ → ℕ → Bor (List (List ℕ)) → List Edit
-last_of n from rows = more n from rows ∷ (record { no = n; deed = SetWhole }) ∷ []
+last_of n from rows = more n from rows ∷ (record { no = n; kind = SetWhole }) ∷ []
 
 pub close_is : (n : ℕ) (rows : Bor (List (List ℕ))) → IsOfFile incoming_told is_open_file (λ file. last_of n file.rows rows) n (change.Close n rows.now)
 unfolding apply
@@ -151,7 +150,7 @@ close_is n rows =
 
 -- all rows of a file are deleted
 abbrev pub none_of : ℕ → Edit
-none_of n = record { no = n; deed = CutRows 0 }
+none_of n = record { no = n; kind = CutRows 0 }
 
 pub give_up_is : (n : ℕ) → IsOfFile incoming_told is_open_file (λ file. none_of n ∷ []) n (change.GiveUp n)
 unfolding apply
@@ -171,22 +170,21 @@ is_of_answered : (fits : ResponseProgress → Bool) (edits : ResponseProgress �
 is_of_answered fits edits n k is = record { unknown = λ r sound none. is.unknown r sound (none sound); known = λ r file sound told. is.known r file sound (told sound) }
 
 -- a response is issued
-abbrev pub issued_of : ℕ → ResponseKind → ℕ → Bor Words → Edit
-issued_of n kind reason text = record { no = n; deed = AddIssued kind reason text }
+abbrev pub issue_edits : ℕ → Bor NewIssued → ResponseProgress → List Edit
+issue_edits n response file = (record { no = n; kind = AddIssued response }) ∷ []
 
-pub issue_is : (n : ℕ) (kind : ResponseKind) (reason : ℕ) (text : Bor Words)
-    → IsOfFile response_told is_answerable (λ file. issued_of n kind reason text ∷ []) n (change.Issue n kind reason text.now)
+pub issue_is : (n : ℕ) (response : Bor NewIssued) → IsOfFile response_told is_answerable (issue_edits n response) n (issue_of n response.now)
 unfolding apply
-issue_is n kind reason text =
-    is_of_answered is_answerable (λ file. issued_of n kind reason text ∷ []) n (change.Issue n kind reason text.now)
-    (is_of_incoming response_progress_of (issued x) is_answerable (λ file. issued_of n kind reason text ∷ []) n (change.Issue n kind reason text.now) (λ r. refl) (λ r before f after placed. record {
+issue_is n response =
+    is_of_answered is_answerable (issue_edits n response) n (issue_of n response.now)
+    (is_of_incoming response_progress_of (issued x) is_answerable (issue_edits n response) n (issue_of n response.now) (λ r. refl) (λ r before f after placed. record {
       now = record f { response = Some x };
       is = answers f f.state;
       edited = λ h. (_, record { before = before; file = f; after = after; here = placed.here; number = placed.number; was = unanswered f.state f.response h; now = refl }, refl);
     }))
   where
     x : Issued
-    x = record { kind = kind; reason = reason; text = text.now; dispatch = Due }
+    x = issued_with response.now
 
     whole : (f : Incoming) (o : Option Issued) → if_unanswered x f o ≡ cond (is_unanswered (option_map dispatch_of o)) (Ok (record f { response = Some x })) (Err Unfit)
     whole f None = refl
@@ -204,7 +202,7 @@ issue_is n kind reason text =
 
 -- a response was sent
 abbrev pub sent_edit : ℕ → Edit
-sent_edit n = record { no = n; deed = SetSent }
+sent_edit n = record { no = n; kind = SetSent }
 
 pub send_is : (n : ℕ) → IsOfFile response_told is_sendable (λ file. sent_edit n ∷ []) n (change.Send n)
 unfolding apply

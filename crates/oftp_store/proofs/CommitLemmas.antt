@@ -24,7 +24,7 @@ use Rattle.oftp_tables.specs.Transactions.{IsSpared, IsUndone, MayLeave}
 use Rattle.oftp_tables.specs.Tables.{Tables, register_in}
 use Rattle.oftp_tables.specs.Stands.{Holds, IsContentOf, Stands}
 use Rattle.oftp_tables.specs.Statements.{IsOffice, Looks, Moves}
-use Rattle.oftp_store.specs.Commits.{AreCarriedOut, CommitsOn, EndsCommit, Finds, MakesEdits, NeedsFile, NeedsFit}
+use Rattle.oftp_store.specs.Commits.{AreCarriedOut, CommitsOn, MakesEdits, NeedsFile, NeedsFit}
 use Rattle.oftp_store.specs.Edits.{AreEdited, IsStorable, MakesAll}
 use Rattle.oftp_store.specs.declared.changes.edit.Edit.{Edit}
 use Rattle.oftp_register.proofs.KeepLemmas.{apply_keeps}
@@ -144,19 +144,10 @@ commits_refused limits change old new x cause looks refuses = record {
   left = λ k stands fit db h. inl (looks.left k stands.holds.schema db h);
 }
 
--- ---- a commit that ends with the look-ups of its file
-
-pub ends_failed : {A : Type 0} (limits : Limits) (Needs : Change → Type 0) (old new : State) (fault : OfficeFault) → Looks {T = A} old new (Err fault) → EndsCommit limits Needs old new fault
-ends_failed limits Needs old new fault looks change needs = commits_failed limits change old new fault looks
-
-pub ends_unknown : {A B : Type 0} (limits : Limits) (told : Register → ℕ → Option A → Type 0) (n : ℕ) (old new : State) (x : B) → Looks old new (Ok x)
-    → (HasCleanDisk new → Stands limits old → told (register_in limits old.now.trees) n None) → EndsCommit limits (NeedsFile told n) old new (Refused Unknown)
-ends_unknown limits told n old new x looks none change needs = commits_refused limits change old new x Unknown looks (λ k stands. needs.unknown _ stands.holds.sound (none k stands))
-
 -- no file has a number of 2^63 or more, and such a change is refused without a query
-pub ends_beyond : {A : Type 0} (limits : Limits) (told : Register → ℕ → Option A → Type 0) (n : ℕ) (s : State)
-    → ((r : Register) (db : Trees) → Tables r db → told r n None) → EndsCommit limits (NeedsFile told n) s s (Refused Unknown)
-ends_beyond limits told n s none change needs = record {
+pub commits_beyond : {A T : Type 0} (limits : Limits) (told : Register → ℕ → Option A → Type 0) (n : ℕ) (change : Change) (s : State)
+    → ((r : Register) (db : Trees) → Tables r db → told r n None) → NeedsFile told n change → CommitsOn {T = T} limits change s s (Err (Refused Unknown))
+commits_beyond limits told n change s none needs = record {
   clean = omega arith;
   mode = λ m. m;
   done = λ clean stands fit. tt;
@@ -165,26 +156,10 @@ ends_beyond limits told n s none change needs = record {
   left = λ clean stands fit db there. inl there;
 }
 
--- the file exists, and what was read of it doesn't fit
-pub ends_unfit : {A : Type 0} (limits : Limits) (told : Register → ℕ → Option A → Type 0) (fits : A → Bool) (n : ℕ) (old new : State) (file : A) (allowed : Bool) (fault : OfficeFault)
-    → Finds told n old new file → allowed ≡ fits file → (allowed ≡ false) × (fault ≡ Refused Unfit) → EndsCommit limits (NeedsFit told fits n) old new fault
-ends_unfit limits told fits n old new file allowed fault finds tested unfit change needs =
-    rw unfit.1 (commits_refused limits change old new (Some file) Unfit finds.looks (λ k stands. needs.unfit _ file stands.holds.sound (finds.answer k limits stands) (sym tested ∙ unfit.0)))
-
-pub ends_unfound : {A : Type 0} (limits : Limits) (told : Register → ℕ → Option A → Type 0) (fits : A → Bool) (n : ℕ) (old new : State) (fault : OfficeFault)
-    → EndsCommit limits (NeedsFile told n) old new fault → EndsCommit limits (NeedsFit told fits n) old new fault
-ends_unfound limits told fits n old new fault ends change needs = ends change (record { unknown = needs.unknown })
-
 -- an error that `?` passes on
-
 pub err_passed : {T : Type 0} (P : OfficeFault → Type 0) (told : OfficeFault) (result : Result T OfficeFault) → IsErrAnd result (λ (x : OfficeFault). x ≡ told) → P told → IfErr result P
 err_passed P told (Ok x) is h = absurd is
 err_passed P told (Err x) is h = subst P (sym is) h
-
-pub passed_on : {T : Type 0} (limits : Limits) (change : Change) (old new : State) (told : OfficeFault) (result : Result T OfficeFault) → IsErrAnd result (λ (x : OfficeFault). x ≡ told)
-    → CommitsOn {T = T} limits change old new (Err told) → CommitsOn limits change old new result
-passed_on limits change old new told (Ok x) is ends = absurd is
-passed_on {T = T} limits change old new told (Err x) is ends = subst (λ (fault : OfficeFault). CommitsOn {T = T} limits change old new (Err fault)) (sym is) ends
 
 -- the database can't store what is to be written
 commits_unstored : {A : Type 0} (limits : Limits) (change : Change) (old new : State) (x : A) → Looks old new (Ok x) → CommitsOn {T = Unit {0}} limits change old new (Err Store)
@@ -321,32 +296,3 @@ pub made_fit : {A : Type 0} {told : Register → ℕ → Option A → Type 0} {f
 made_fit {r = r} {file = file} is here fit sound =
     let m = is.known r file sound here in
     record { now = m.now; is = m.is ∙ ap (λ b. cond b (Ok m.now) (Err Unfit)) fit; limits = m.limits; edited = m.edited fit }
-
-pub commits_fit : {S A : Type 0} (g : Ghosts S) (told : Register → ℕ → Option A → Type 0) (fits : A → Bool) (edits : A → List Edit) (n : ℕ) (limits : Limits) (change : Change)
-    (old mid new : Held S) (file : A) (result : Result (Unit {0}) OfficeFault) → IsOfFile told fits edits n change → Finds told n (state g old) (state g mid) file → fits file ≡ true
-    → MakesEdits (edits file) g mid new result → CommitsOn limits change (state g old) (state g new) result
-commits_fit g told fits edits n limits change old mid new file result is finds fit makes =
-    commits_by g (edits file) limits change old mid new (Some file) result finds.looks (λ k stands. made_fit is (finds.answer k limits stands) fit stands.holds.sound) makes
-
--- How such a change ends: with an error of the look-up, or because there is no such file; the same for look-up and test together; with the
--- refusal of a file that doesn't fit; or with its edits.
-
-pub passed_unfound : {A : Type 0} {limits : Limits} {told : Register → ℕ → Option A → Type 0} {fits : A → Bool} {edits : A → List Edit} {n : ℕ} {change : Change} {old new : State}
-    {fault : OfficeFault} {result : Result (Unit {0}) OfficeFault} → IsOfFile told fits edits n change → EndsCommit limits (NeedsFile told n) old new fault
-    → IsErrAnd result (λ (x : OfficeFault). x ≡ fault) → CommitsOn limits change old new result
-passed_unfound {fault = fault} is ends passed = passed_on _ _ _ _ fault _ passed (ends _ (needs_file _ _ _ _ _ is))
-
-pub passed_unopened : {A : Type 0} {limits : Limits} {told : Register → ℕ → Option A → Type 0} {fits : A → Bool} {edits : A → List Edit} {n : ℕ} {change : Change} {old new : State}
-    {fault : OfficeFault} {result : Result (Unit {0}) OfficeFault} → IsOfFile told fits edits n change → EndsCommit limits (NeedsFit told fits n) old new fault
-    → IsErrAnd result (λ (x : OfficeFault). x ≡ fault) → CommitsOn limits change old new result
-passed_unopened {fault = fault} is ends passed = passed_on _ _ _ _ fault _ passed (ends _ (needs_fit _ _ _ _ _ is))
-
-pub passed_unfit : {A : Type 0} {limits : Limits} {told : Register → ℕ → Option A → Type 0} {fits : A → Bool} {edits : A → List Edit} {n : ℕ} {change : Change} {old new : State} {file : A}
-    {allowed : Bool} {fault : OfficeFault} {result : Result (Unit {0}) OfficeFault} → IsOfFile told fits edits n change → Finds told n old new file → allowed ≡ fits file
-    → (allowed ≡ false) × (fault ≡ Refused Unfit) → IsErrAnd result (λ (x : OfficeFault). x ≡ fault) → CommitsOn limits change old new result
-passed_unfit {fault = fault} is finds tested unfit passed = passed_on _ _ _ _ fault _ passed (ends_unfit _ _ _ _ _ _ _ _ fault finds tested unfit _ (needs_fit _ _ _ _ _ is))
-
-pub commits_allowed : {S A : Type 0} {g : Ghosts S} {told : Register → ℕ → Option A → Type 0} {fits : A → Bool} {edits : A → List Edit} {n : ℕ} {limits : Limits} {change : Change}
-    {mid new : Held S} {file : A} {allowed : Bool} {result : Result (Unit {0}) OfficeFault} (old : Held S) → IsOfFile told fits edits n change
-    → Finds told n (state g old) (state g mid) file → allowed ≡ fits file → allowed ≡ true → MakesEdits (edits file) g mid new result → CommitsOn limits change (state g old) (state g new) result
-commits_allowed {g = g} {mid = mid} {new = new} old is finds tested fit makes = commits_fit g _ _ _ _ _ _ old mid new _ _ is finds (sym tested ∙ fit) makes

@@ -1,26 +1,24 @@
 -- What the statements on one row do to the tables of a register.
 use Rattle.std.proofs.Common.{◌≡◌, ◌+◌, ◌<◌, ◌^◌, ℕ, suc, pos, List, [], ◌∷◌, ◌++◌, length, map, Some, None, codes, append-nil, length-append, refl, sym, ap, subst, ◌∙◌, arith, Ok}
+use Rattle.std.specs.Prelude.{⊤}
 use Rattle.std.specs.List.{AllByRecursion}
 use Rattle.std.specs.List.Sorted.{IsPermutation}
 use Rattle.std.proofs.lemmas.List.{map-append}
 use Rattle.sqlite.specs.declared.types.Value.TheVariants.{Null, Int, Text}
 use Rattle.sqlite.specs.Order.{Row, column}
+use Rattle.sqlite.specs.Cast.{cast_row}
+use Rattle.sqlite.specs.Term.{Term, eval_all}
 use Rattle.sqlite.specs.Tree.{Trees, with_tree}
 use Rattle.sqlite.specs.Table.{Table}
 use Rattle.sqlite.specs.State.{State, ExecutesInside}
-use Rattle.oftp_vfile.specs.declared.format.Format.{Format}
 use Rattle.oftp_tables.specs.Schema.{office_schema, in_file, in_file_tree, in_row_tree, issued, issued_tree, out_file, out_file_tree, out_row_tree}
 use Rattle.oftp_tables.proofs.TermLemmas.{cast_null, cast_int}
-use Rattle.oftp_wire.specs.declared.field.Text.{Text as Words}
-use Rattle.oftp_register.specs.declared.entry.Dispatch.TheVariants.{Due, Sent}
-use Rattle.oftp_register.specs.declared.entry.Identity.{Identity}
+use Rattle.oftp_register.specs.declared.entry.Dispatch.TheVariants.{Sent}
 use Rattle.oftp_register.specs.declared.entry.IncomingState.TheVariants.{Whole}
 use Rattle.oftp_register.specs.declared.entry.OutgoingState.{OutgoingState}
 use Rattle.oftp_register.specs.declared.entries.Side.{Side}
 use Rattle.oftp_register.specs.declared.entries.Side.TheVariants as side
-use Rattle.oftp_register.specs.declared.entry.ResponseKind.{ResponseKind}
 use Rattle.oftp_register.specs.Register.{Register, Incoming, Issued, Outgoing}
-use Rattle.oftp_register.specs.Changes.{new_incoming, new_outgoing}
 use Rattle.oftp_tables.specs.Statements.{Moves}
 use Rattle.oftp_tables.specs.Tables.{HasReason, HasRefusal, Tables, bodies_from, body_rows, format_text, identity_values, in_file_row, issued_from, issued_if_any, issued_row, kind_text, less_rowids, number_value, out_file_row, out_state_text, reason_text, refusal_text, rows_from, rows_in, rows_out}
 use Rattle.oftp_tables.proofs.SplitLemmas.{HaveNumber, IsAmong, IsSplit, among, pieces_below, pieces_from, rows_pieces}
@@ -29,9 +27,11 @@ use Rattle.oftp_tables.proofs.LandLemmas.{lands}
 use Rattle.oftp_tables.proofs.PerformLemmas.{moves_as}
 use Rattle.oftp_tables.proofs.BackLemmas.{at_place}
 use Rattle.std.proofs.Common.{Bor}
-use Rattle.oftp_store.specs.Edits.{Makes, header_params}
+use Rattle.oftp_store.specs.Edits.{ChangesIncoming, Makes, header_params, incoming_with, issued_with, outgoing_with}
 use Rattle.oftp_store.specs.Texts.{add_file_text, add_issued_text, set_header_text, set_outgoing_text, set_sent_text, set_whole_text}
-use Rattle.oftp_store.specs.declared.changes.edit.Deed.TheVariants.{AddFile, AddIssued, SetHeader, SetOutgoing, SetSent, SetWhole}
+use Rattle.oftp_store.specs.declared.changes.edit.EditKind.TheVariants.{AddFile, AddIssued, SetHeader, SetOutgoing, SetSent, SetWhole}
+use Rattle.oftp_store.specs.declared.changes.edit.NewHeader.{NewHeader}
+use Rattle.oftp_store.specs.declared.changes.edit.NewIssued.{NewIssued}
 use Rattle.oftp_store.proofs.EditTexts.{add_file_plain, add_file_terms, add_incoming_is, add_issued_is, add_issued_plain, add_issued_terms, add_outgoing_is, set_header_is, set_header_plain, set_header_terms, set_outgoing_is, set_outgoing_plain, set_outgoing_terms, set_sent_is, set_sent_plain, set_sent_terms, set_whole_is, set_whole_plain, set_whole_terms}
 
 -- ---- one row an entry
@@ -133,6 +133,10 @@ issued_same : (f g : Incoming) → g.response ≡ f.response → (n : ℕ) (befo
 issued_same f g same n [] after = ap (λ o. issued_if_any n o ++ issued_from (n + 1) after) (sym same)
 issued_same f g same n (b ∷ before) after = ap (λ (rows : List Row). issued_if_any n b.response ++ rows) (issued_same f g same (n + 1) before after)
 
+-- the columns of a header behind those of the identity
+abbrev pub header_columns : NewHeader → Row
+header_columns header = Text (format_text header.format) ∷ number_value header.longest ∷ Text header.description.now ∷ []
+
 -- the header of one file is replaced
 header_lands : (r : Register) (n : ℕ) (before : List Incoming) (f g : Incoming) (after : List Incoming) → r.incoming ≡ before ++ f ∷ after → g.rows ≡ f.rows
     → g.response ≡ f.response → (place : Between in_file_row n before f after)
@@ -156,32 +160,32 @@ header_lands r n before f g after here rows response place old new row others ke
       received = kept.received;
     })
 
-makes_header : (n : ℕ) (format : Format) (longest : ℕ) (description : Bor Words) (old new : Trees)
-    → Rewrites n our_in_file set_header_terms (Text (format_text format) ∷ number_value longest ∷ Text description.now ∷ []) old new → Makes n (SetHeader format longest description) old new
-makes_header n format longest description old new made r s did kept =
-    let f = did.file in
-    let g : Incoming = record f { format = format; longest = longest; description = description.now } in
-    let place = between in_file_row (λ k x. refl) n did.before f did.after did.number in
-    let was : old in_file_tree ≡ place.lo ++ in_file_row n f ∷ place.hi = kept.incoming.headers ∙ ap (rows_from in_file_row 1) did.here ∙ place.is f in
-    let row = made.rows place.lo place.hi (in_file_row n f) (in_file_row n g) place.split refl refl (simp (cast_null, cast_int)) was in
-    subst (λ (q : Register). Tables q new) (sym did.now) (header_lands r n did.before f g did.after did.here refl refl place old new row made.others kept)
+-- so a statement that rewrites its row replaces it
+module _ (n : ℕ) (terms : List Term) (params : Row) (change : Incoming → Incoming) (rows : (f : Incoming) → (change f).rows ≡ f.rows)
+    (response : (f : Incoming) → (change f).response ≡ f.response)
+    (computes : (f : Incoming) → cast_row our_in_file (column (in_file_row n f) 0 ∷ eval_all terms ((number_value n ∷ params) ∷ in_file_row n f ∷ [])) ≡ in_file_row n (change f)) where
+  header_rewritten : (old new : Trees) → Rewrites n our_in_file terms params old new → (r s : Register) → ChangesIncoming n (λ f. ⊤) change r s → Tables r old → Tables s new
+  header_rewritten old new made r s did kept =
+      let f = did.file in
+      let place = between in_file_row (λ k x. refl) n did.before f did.after did.number in
+      let was : old in_file_tree ≡ place.lo ++ in_file_row n f ∷ place.hi = kept.incoming.headers ∙ ap (rows_from in_file_row 1) did.here ∙ place.is f in
+      let row = made.rows place.lo place.hi (in_file_row n f) (in_file_row n (change f)) place.split refl refl (computes f) was in
+      subst (λ (q : Register). Tables q new) (sym did.now)
+      (header_lands r n did.before f (change f) did.after did.here (rows f) (response f) place old new row made.others kept)
+
+makes_header : (n : ℕ) (header : Bor NewHeader) (old new : Trees) → Rewrites n our_in_file set_header_terms (header_columns header.now) old new → Makes n (SetHeader header) old new
+makes_header n header =
+    header_rewritten n set_header_terms (header_columns header.now) (λ f. record f { format = header.now.format; longest = header.now.longest; description = header.now.description.now })
+    (λ f. refl) (λ f. refl) (λ f. simp (cast_null, cast_int))
 
 makes_whole : (n : ℕ) (old new : Trees) → Rewrites n our_in_file set_whole_terms [] old new → Makes n SetWhole old new
-makes_whole n old new made r s did kept =
-    let f = did.file in
-    let g : Incoming = record f { state = Whole } in
-    let place = between in_file_row (λ k x. refl) n did.before f did.after did.number in
-    let was : old in_file_tree ≡ place.lo ++ in_file_row n f ∷ place.hi = kept.incoming.headers ∙ ap (rows_from in_file_row 1) did.here ∙ place.is f in
-    let row = made.rows place.lo place.hi (in_file_row n f) (in_file_row n g) place.split refl refl (simp (cast_null, cast_int)) was in
-    subst (λ (q : Register). Tables q new) (sym did.now) (header_lands r n did.before f g did.after did.here refl refl place old new row made.others kept)
+makes_whole n = header_rewritten n set_whole_terms [] (λ f. record f { state = Whole }) (λ f. refl) (λ f. refl) (λ f. simp (cast_null, cast_int))
 
-pub header_set : (old new : State) (n : ℕ) (format : Format) (longest : ℕ) (description : Bor Words) (count : ℕ) → old.now.schema ≡ office_schema
-    → ExecutesInside 0 set_header_text (number_value n ∷ Text (format_text format) ∷ number_value longest ∷ Text description.now ∷ []) old new (Ok count)
-    → Moves (Makes n (SetHeader format longest description)) old.now new.now
-header_set old new n format longest description count has h =
-    moves_as _ _ old.now new.now (makes_header n format longest description)
-    (updates_row old new set_header_text 1 our_in_file set_header_terms
-    (Text (format_text format) ∷ number_value longest ∷ Text description.now ∷ []) n count has set_header_is set_header_plain refl h)
+pub header_set : (old new : State) (n : ℕ) (header : Bor NewHeader) (count : ℕ) → old.now.schema ≡ office_schema
+    → ExecutesInside 0 set_header_text (number_value n ∷ header_columns header.now) old new (Ok count) → Moves (Makes n (SetHeader header)) old.now new.now
+header_set old new n header count has h =
+    moves_as _ _ old.now new.now (makes_header n header)
+    (updates_row old new set_header_text 1 our_in_file set_header_terms (header_columns header.now) n count has set_header_is set_header_plain refl h)
 
 pub whole_set : (old new : State) (n count : ℕ) → old.now.schema ≡ office_schema → ExecutesInside 0 set_whole_text (number_value n ∷ []) old new (Ok count) → Moves (Makes n SetWhole) old.now new.now
 whole_set old new n count has h = moves_as _ _ old.now new.now (makes_whole n) (updates_row old new set_whole_text 1 our_in_file set_whole_terms [] n count has set_whole_is set_whole_plain refl h)
@@ -200,11 +204,20 @@ pub all_and_last : {X : Type 0} (P : X → Type 0) (xs : List X) (x : X) → All
 all_and_last P [] x all last = (last, tt)
 all_and_last P (y ∷ xs) x all last = (all.0, all_and_last P xs x all.1 last)
 
-makes_incoming : (n : ℕ) → n < 2 ^ 63 → (identity : Bor Identity) (format : Format) (longest : ℕ) (description : Bor Words) (old new : Trees)
-    → PutsIn n our_in_file (number_value n ∷ Null ∷ identity_values identity.now ++ Text (format_text format) ∷ number_value longest ∷ Text description.now ∷ Text (codes "open") ∷ []) old new
-    → Makes n (AddFile side.Incoming identity format longest description) old new
-makes_incoming n held identity format longest description old new made r s did kept =
-    let f : Incoming = new_incoming identity.now format longest description.now in
+-- the rows that the statements put in, with no rowid yet
+
+abbrev incoming_source : ℕ → NewHeader → Row
+incoming_source n header =
+    number_value n ∷ Null ∷ identity_values header.identity.now ++ Text (format_text header.format) ∷ number_value header.longest ∷ Text header.description.now ∷ Text (codes "open") ∷ []
+
+abbrev outgoing_source : ℕ → NewHeader → Row
+outgoing_source n header =
+    number_value n ∷ Null ∷ identity_values header.identity.now ++ Text (format_text header.format) ∷ number_value header.longest ∷ Text header.description.now
+    ∷ number_value 0 ∷ Text (codes "waiting") ∷ Text [] ∷ []
+
+makes_incoming : (n : ℕ) → n < 2 ^ 63 → (header : Bor NewHeader) (old new : Trees) → PutsIn n our_in_file (incoming_source n header.now) old new → Makes n (AddFile side.Incoming header) old new
+makes_incoming n held header old new made r s did kept =
+    let f = incoming_with header.now in
     let place = behind in_file_row (λ k x. refl) n r.incoming did.0.number in
     let was : old in_file_tree ≡ place.lo ++ [] = kept.incoming.headers ∙ place.was in
     let row = made.rows place.lo [] (in_file_row n f) place.split refl (simp (cast_null, cast_int)) was in
@@ -224,12 +237,9 @@ makes_incoming n held identity format longest description old new made r s did k
       received = kept.received;
     }))
 
-makes_new_outgoing : (n : ℕ) → n < 2 ^ 63 → (identity : Bor Identity) (format : Format) (longest : ℕ) (description : Bor Words) (old new : Trees)
-    → PutsIn n our_out_file (number_value n ∷ Null ∷ identity_values identity.now ++ Text (format_text format) ∷ number_value longest ∷ Text description.now
-    ∷ number_value 0 ∷ Text (codes "waiting") ∷ Text [] ∷ []) old new
-    → Makes n (AddFile side.Outgoing identity format longest description) old new
-makes_new_outgoing n held identity format longest description old new made r s did kept =
-    let f : Outgoing = new_outgoing identity.now format longest description.now [] in
+makes_new_outgoing : (n : ℕ) → n < 2 ^ 63 → (header : Bor NewHeader) (old new : Trees) → PutsIn n our_out_file (outgoing_source n header.now) old new → Makes n (AddFile side.Outgoing header) old new
+makes_new_outgoing n held header old new made r s did kept =
+    let f = outgoing_with header.now [] in
     let place = behind out_file_row (λ k x. refl) n r.outgoing did.0.number in
     let was : old out_file_tree ≡ place.lo ++ [] = kept.outgoing.headers ∙ place.was in
     let row = made.rows place.lo [] (out_file_row n f) place.split refl (simp (cast_null, cast_int)) was in
@@ -248,18 +258,15 @@ makes_new_outgoing n held identity format longest description old new made r s d
       received = kept.received;
     }))
 
-pub file_added : (which : Side) (old new : State) (n : ℕ) → n < 2 ^ 63 → (identity : Bor Identity) (format : Format) (longest : ℕ) (description : Bor Words) (count : ℕ)
-    → old.now.schema ≡ office_schema → ExecutesInside 0 (add_file_text which) (header_params n identity.now format longest description.now) old new (Ok count)
-    → Moves (Makes n (AddFile which identity format longest description)) old.now new.now
-file_added side.Incoming old new n held identity format longest description count has h =
-    moves_as _ _ old.now new.now (makes_incoming n held identity format longest description)
-    (inserts_row old new (add_file_text side.Incoming) 1 our_in_file (add_file_terms side.Incoming) 11 (header_params n identity.now format longest description.now)
-    (number_value n ∷ Null ∷ identity_values identity.now ++ Text (format_text format) ∷ number_value longest ∷ Text description.now ∷ Text (codes "open") ∷ []) n count
+pub file_added : (which : Side) (old new : State) (n : ℕ) → n < 2 ^ 63 → (header : Bor NewHeader) (count : ℕ) → old.now.schema ≡ office_schema
+    → ExecutesInside 0 (add_file_text which) (header_params n header.now) old new (Ok count) → Moves (Makes n (AddFile which header)) old.now new.now
+file_added side.Incoming old new n held header count has h =
+    moves_as _ _ old.now new.now (makes_incoming n held header)
+    (inserts_row old new (add_file_text side.Incoming) 1 our_in_file (add_file_terms side.Incoming) 11 (header_params n header.now) (incoming_source n header.now) n count
     has add_incoming_is (add_file_plain side.Incoming) refl refl h)
-file_added side.Outgoing old new n held identity format longest description count has h =
-    moves_as _ _ old.now new.now (makes_new_outgoing n held identity format longest description)
-    (inserts_row old new (add_file_text side.Outgoing) 3 our_out_file (add_file_terms side.Outgoing) 13 (header_params n identity.now format longest description.now)
-    (number_value n ∷ Null ∷ identity_values identity.now ++ Text (format_text format) ∷ number_value longest ∷ Text description.now ∷ number_value 0 ∷ Text (codes "waiting") ∷ Text [] ∷ []) n count
+file_added side.Outgoing old new n held header count has h =
+    moves_as _ _ old.now new.now (makes_new_outgoing n held header)
+    (inserts_row old new (add_file_text side.Outgoing) 3 our_out_file (add_file_terms side.Outgoing) 13 (header_params n header.now) (outgoing_source n header.now) n count
     has add_outgoing_is (add_file_plain side.Outgoing) refl refl h)
 
 -- ---- the response to an incoming file
@@ -304,11 +311,19 @@ response_lands r n before f x after here small at old new row others kept =
     rows_same f g k [] after = refl
     rows_same f g k (b ∷ before) after = ap (λ (rows : List Row). in_file_row k b ∷ rows) (rows_same f g (k + 1) before after)
 
-makes_issued : (n : ℕ) (kind : ResponseKind) (reason : ℕ) (text : Bor Words) → reason < 100 → (old new : Trees)
-    → PutsIn n our_issued (number_value n ∷ Null ∷ Text (kind_text kind) ∷ Text (reason_text kind reason) ∷ Text text.now ∷ number_value 0 ∷ []) old new → Makes n (AddIssued kind reason text) old new
-makes_issued n kind reason text small old new made r s did kept =
+-- the parameters of the statement that adds a response, and the row that it puts in
+
+abbrev pub issued_params : ℕ → NewIssued → Row
+issued_params n response = number_value n ∷ Text (kind_text response.kind) ∷ Text (reason_text response.kind response.reason) ∷ Text response.text.now ∷ []
+
+abbrev issued_source : ℕ → NewIssued → Row
+issued_source n response =
+    number_value n ∷ Null ∷ Text (kind_text response.kind) ∷ Text (reason_text response.kind response.reason) ∷ Text response.text.now ∷ number_value 0 ∷ []
+
+makes_issued : (n : ℕ) (response : Bor NewIssued) → response.now.reason < 100 → (old new : Trees) → PutsIn n our_issued (issued_source n response.now) old new → Makes n (AddIssued response) old new
+makes_issued n response small old new made r s did kept =
     let f = did.file in
-    let x : Issued = record { kind = kind; reason = reason; text = text.now; dispatch = Due } in
+    let x = issued_with response.now in
     let place = among issued_piece issued_number n did.before f did.after did.number in
     let was : old issued_tree ≡ pieces_from issued_piece 1 did.before ++ pieces_from issued_piece (n + 1) did.after =
     kept.incoming.responses ∙ ap (issued_from 1) did.here ∙ issued_pieces 1 (did.before ++ f ∷ did.after) ∙ place.rows
@@ -332,13 +347,11 @@ makes_sent n old new made r s done kept =
     (subst (AllByRecursion (λ (y : Incoming). HasReason y.response)) did.here kept.incoming.reasons)) in
     subst (λ (q : Register). Tables q new) (sym did.now) (response_lands r n did.before f x did.after did.here small did.number old new row made.others kept)
 
-pub issued_added : (old new : State) (n : ℕ) (kind : ResponseKind) (reason : ℕ) (text : Bor Words) (count : ℕ) → reason < 100 → old.now.schema ≡ office_schema
-    → ExecutesInside 0 add_issued_text (number_value n ∷ Text (kind_text kind) ∷ Text (reason_text kind reason) ∷ Text text.now ∷ []) old new (Ok count)
-    → Moves (Makes n (AddIssued kind reason text)) old.now new.now
-issued_added old new n kind reason text count small has h =
-    moves_as _ _ old.now new.now (makes_issued n kind reason text small)
-    (inserts_row old new add_issued_text 5 our_issued add_issued_terms 6 (number_value n ∷ Text (kind_text kind) ∷ Text (reason_text kind reason) ∷ Text text.now ∷ [])
-    (number_value n ∷ Null ∷ Text (kind_text kind) ∷ Text (reason_text kind reason) ∷ Text text.now ∷ number_value 0 ∷ []) n count has add_issued_is add_issued_plain refl refl h)
+pub issued_added : (old new : State) (n : ℕ) (response : Bor NewIssued) (count : ℕ) → response.now.reason < 100 → old.now.schema ≡ office_schema
+    → ExecutesInside 0 add_issued_text (issued_params n response.now) old new (Ok count) → Moves (Makes n (AddIssued response)) old.now new.now
+issued_added old new n response count small has h =
+    moves_as _ _ old.now new.now (makes_issued n response small)
+    (inserts_row old new add_issued_text 5 our_issued add_issued_terms 6 (issued_params n response.now) (issued_source n response.now) n count has add_issued_is add_issued_plain refl refl h)
 
 pub sent_set : (old new : State) (n count : ℕ) → old.now.schema ≡ office_schema → ExecutesInside 0 set_sent_text (number_value n ∷ []) old new (Ok count) → Moves (Makes n SetSent) old.now new.now
 sent_set old new n count has h = moves_as _ _ old.now new.now (makes_sent n) (updates_row old new set_sent_text 5 our_issued set_sent_terms [] n count has set_sent_is set_sent_plain refl h)

@@ -2,28 +2,27 @@
 use Rattle.std.proofs.Common.{◌≡◌, ℕ, Bool, true, false, ◌||◌, List, [], ◌∷◌, ◌++◌, map, find, is_some, Some, None, Ok, Err, inl, inr, refl, sym, ap, subst, ◌∙◌, Bor}
 use Rattle.std.specs.List.{list_any}
 use Rattle.std.proofs.lemmas.Bool.{cases_Bool, cond-true, cond-false, or_parts}
-use Rattle.oftp_wire.specs.declared.field.Text.{Text as Words}
 use Rattle.oftp_register.specs.declared.change.Cause.TheVariants.{Duplicate}
-use Rattle.oftp_register.specs.declared.change.Change.TheVariants as change
 use Rattle.oftp_register.specs.declared.entry.Identity.{Identity}
 use Rattle.oftp_register.specs.declared.entry.OutgoingState.{OutgoingState}
 use Rattle.oftp_register.specs.declared.entry.OutgoingState.TheVariants.{Waiting, Closing, Handed, Refused, Delivered, Returned}
 use Rattle.oftp_register.specs.declared.entry.ResponseKind.{ResponseKind}
 use Rattle.oftp_register.specs.declared.entries.OutgoingEntry.{OutgoingEntry}
 use Rattle.oftp_register.specs.declared.entries.Side.TheVariants as side
-use Rattle.oftp_register.specs.declared.name.Name.{Name}
-use Rattle.oftp_register.specs.Register.{Register, Outgoing, Received, has_received, same_identity}
+use Rattle.oftp_register.specs.Register.{Register, Outgoing, has_received, same_identity}
 use Rattle.oftp_register.specs.Changes.{answered, answered_as, apply, settled}
 use Rattle.oftp_register.specs.LookUps.{look_out, outgoing_entry}
 use Rattle.oftp_register.specs.Soundness.{AreNamedOnce, IsSound}
 use Rattle.oftp_register.proofs.ByIdentityLemmas.{same_self}
 use Rattle.oftp_register.proofs.NameLemmas.{same_identity-true}
+use Rattle.oftp_store.specs.Edits.{file_of, outgoing_edit, received_with}
 use Rattle.oftp_store.specs.Numbers.{file_number}
 use Rattle.oftp_store.specs.FileProgress.{outgoing_progress_of}
 use Rattle.oftp_store.specs.Reads.{IsPlaced, IsToldOf}
 use Rattle.oftp_store.specs.ResponseMatches.{IsResponseMatchOf, Settles, is_awaiting}
 use Rattle.oftp_store.specs.declared.changes.edit.Edit.{Edit}
-use Rattle.oftp_store.specs.declared.changes.edit.Deed.TheVariants.{AddReceived, SetOutgoing}
+use Rattle.oftp_store.specs.declared.changes.edit.EditKind.TheVariants.{AddReceived}
+use Rattle.oftp_store.specs.declared.changes.edit.NewReceived.{NewReceived}
 use Rattle.oftp_store.specs.declared.queries.response_match.ResponseMatch.TheVariants as response_match
 use Rattle.oftp_store.specs.declared.queries.response_match.SettledFile.{SettledFile}
 use Rattle.oftp_store.specs.declared.queries.progress.OutgoingProgress.{OutgoingProgress}
@@ -152,41 +151,44 @@ settles_it r it n progress sound some (before, f, after, placed, is) on = (
 
 -- ---- the change
 
-pub duplicate_file : (r : Register) (kind : ResponseKind) (it : Identity) (reason : ℕ) (creator text : List ℕ) → IsResponseMatchOf r kind it response_match.Duplicate
-    → apply r (change.File kind it reason creator text) ≡ Err Duplicate
+pub duplicate_file : (r : Register) (x : NewReceived) → IsResponseMatchOf r x.kind x.identity.now response_match.Duplicate → apply r (file_of x) ≡ Err Duplicate
 unfolding apply
-duplicate_file r kind it reason creator text filed = cond-true (has_received r kind it) _ _ filed
+duplicate_file r x filed = cond-true (has_received r x.kind x.identity.now) _ _ filed
 
-pub made_by_file : (r : Register) (kind : ResponseKind) (it : Bor Identity) (reason : ℕ) (creator : Bor (Name 25)) (text : Bor Words) (n : ℕ)
-    → IsResponseMatchOf r kind it.now (response_match.Unmatched n)
-    → (let response : Edit = record { no = n; deed = AddReceived kind it reason creator text } in IsMadeBy (response ∷ []) r (change.File kind it.now reason creator.now text.now))
+-- the edit that adds the response
+abbrev pub response_edit : ℕ → Bor NewReceived → Edit
+response_edit n response = record { no = n; kind = AddReceived response }
+
+pub made_by_file : (r : Register) (response : Bor NewReceived) (n : ℕ)
+    → (let x = response.now in IsResponseMatchOf r x.kind x.identity.now (response_match.Unmatched n) → IsMadeBy (response_edit n response ∷ []) r (file_of x))
 unfolding apply
-made_by_file r kind it reason creator text n alone =
-    let x : Received = record { kind = kind; identity = it.now; reason = reason; creator = creator.now; text = text.now } in
-    let s : Register = record r { received = r.received ++ x ∷ [] } in
+made_by_file r response n alone =
+    let x = response.now in
+    let all = r.received ++ received_with x ∷ [] in
+    let s : Register = record r { received = all } in
     record {
       now = s;
-      is = cond-false (has_received r kind it.now) _ _ alone.0 ∙ ap (λ files. let q : Register = record r { outgoing = files; received = r.received ++ x ∷ [] } in Ok q) (alone.2 kind);
+      is = cond-false (has_received r x.kind x.identity.now) _ _ alone.0 ∙ ap (λ files. let q : Register = record r { outgoing = files; received = all } in Ok q) (alone.2 x.kind);
       limits = refl;
       edited = (s, (record { number = alone.1 }, refl), refl);
     }
 
-pub made_by_settling : (r : Register) (kind : ResponseKind) (it : Bor Identity) (reason : ℕ) (creator : Bor (Name 25)) (text : Bor Words) (n : ℕ) (found : SettledFile)
-    → IsResponseMatchOf r kind it.now (response_match.Matched n found)
-    → (let file : Edit = record { no = found.no; deed = SetOutgoing found.mark (answered_as kind) } in let response : Edit = record { no = n; deed = AddReceived kind it reason creator text } in
-    IsMadeBy (file ∷ response ∷ []) r (change.File kind it.now reason creator.now text.now))
+pub made_by_settling : (r : Register) (response : Bor NewReceived) (n : ℕ) (found : SettledFile)
+    → (let x = response.now in IsResponseMatchOf r x.kind x.identity.now (response_match.Matched n found)
+    → IsMadeBy (outgoing_edit found.no found.mark (answered_as x.kind) ∷ response_edit n response ∷ []) r (file_of x))
 unfolding apply
-made_by_settling r kind it reason creator text n found (new, number, (before, f, after, placed, mark, settles)) =
-    let x : Received = record { kind = kind; identity = it.now; reason = reason; creator = creator.now; text = text.now } in
-    let g : Outgoing = record f { mark = found.mark; state = answered_as kind } in
+made_by_settling r response n found (new, number, (before, f, after, placed, mark, settles)) =
+    let x = response.now in
+    let all = r.received ++ received_with x ∷ [] in
+    let g : Outgoing = record f { mark = found.mark; state = answered_as x.kind } in
     let mid : Register = record r { outgoing = before ++ g ∷ after } in
-    let s : Register = record r { outgoing = before ++ g ∷ after; received = r.received ++ x ∷ [] } in
+    let s : Register = record r { outgoing = before ++ g ∷ after; received = all } in
     record {
       now = s;
       is =
-          cond-false (has_received r kind it.now) _ _ new
-          ∙ ap (λ files. let q : Register = record r { outgoing = files; received = r.received ++ x ∷ [] } in Ok q)
-          (settles kind ∙ ap (λ m. before ++ (record f { mark = m; state = answered_as kind }) ∷ after) (sym mark));
+          cond-false (has_received r x.kind x.identity.now) _ _ new
+          ∙ ap (λ files. let q : Register = record r { outgoing = files; received = all } in Ok q)
+          (settles x.kind ∙ ap (λ m. before ++ (record f { mark = m; state = answered_as x.kind }) ∷ after) (sym mark));
       limits = refl;
       edited = (
         mid,

@@ -13,7 +13,6 @@ use Rattle.sqlite.specs.Command.TheVariants.{Select}
 use Rattle.sqlite.specs.Listing.{understood}
 use Rattle.oftp_register.specs.declared.entry.IncomingState.{IncomingState}
 use Rattle.oftp_register.specs.declared.entries.IncomingEntry.{IncomingEntry}
-use Rattle.oftp_register.specs.declared.entries.IssuedEntry.{IssuedEntry}
 use Rattle.oftp_register.specs.declared.entries.IssuedResponse.{IssuedResponse}
 use Rattle.oftp_register.specs.declared.entries.Side.TheVariants as side
 use Rattle.oftp_vfile.specs.declared.format.Format.{Format}
@@ -23,11 +22,12 @@ use Rattle.oftp_register.specs.LookUps.{file_rows, incoming_entry, issued_entry,
 use Rattle.oftp_tables.specs.Schema.{in_file_tree, issued_tree}
 use Rattle.oftp_tables.specs.Tables.{HasReason, Tables, in_file_row, in_state_in, in_state_text, issued_if_any, issued_row, rows_in}
 use Rattle.oftp_tables.proofs.BackLemmas.{all_at_place, at_place, format_back, in_state_back, issued_back}
-use Rattle.oftp_store.specs.Reads.{IsPlaced, all_listed, incoming_entry_of, incoming_header_in, numbers_of, paged_entry, paged_file, paged_issued, paged_number, paged_response}
+use Rattle.oftp_store.specs.Reads.{IsPlaced, all_listed, incoming_entry_of, incoming_header_in, incoming_header_of, issued_entry_of, numbers_of, paged_entry, paged_file, paged_issued, paged_number, paged_response}
 use Rattle.oftp_store.specs.declared.queries.header.IncomingHeader.{IncomingHeader}
 use Rattle.oftp_store.specs.Tells.{FindsPages}
 use Rattle.oftp_store.specs.Texts.{in_page_text}
 use Rattle.oftp_store.proofs.EditLemmas.{issued_number, issued_piece, issued_pieces}
+use Rattle.oftp_store.proofs.ListLemmas.{entry_made}
 use Rattle.oftp_store.proofs.ListPageLemmas.{finds_also, finds_by, joins, numbers_same, page_on, page_params, page_query, page_told}
 use Rattle.oftp_store.proofs.ProgressLemmas.{mapped_placed}
 use Rattle.oftp_store.proofs.ReadLemmas.{IsRead}
@@ -90,17 +90,15 @@ file_told row k rows header response header_is response_is number_is =
     ∙ ap (λ n. incoming_entry_of n (incoming_header_in row) rows (paged_response row)) number_is
 
 -- the response that a row has, with its file
-abbrev issued_so : ℕ → IncomingHeader → IssuedResponse → IssuedEntry
-issued_so k header x = record { no = k; identity = header.file.identity; response = x }
 
 pub none_issued : (row : Row) → None ≡ paged_response row → None ≡ paged_issued row
-none_issued row is = ap (option_map (issued_so (paged_number row) (incoming_header_in row))) is
+none_issued row is = ap (option_map (issued_entry_of (paged_number row) (incoming_header_in row))) is
 
 pub issued_told : (row : Row) (k : ℕ) (header : IncomingHeader) (x : IssuedResponse) → header ≡ incoming_header_in row → Some x ≡ paged_response row → k ≡ paged_number row
-    → Some (issued_so k header x) ≡ paged_issued row
+    → Some (issued_entry_of k header x) ≡ paged_issued row
 issued_told row k header x header_is response_is number_is =
-    ap (λ n. Some (issued_so n header x)) number_is ∙ ap (λ h. Some (issued_so (paged_number row) h x)) header_is
-    ∙ ap (option_map (issued_so (paged_number row) (incoming_header_in row))) response_is
+    ap (λ n. Some (issued_entry_of n header x)) number_is ∙ ap (λ h. Some (issued_entry_of (paged_number row) h x)) header_is
+    ∙ ap (option_map (issued_entry_of (paged_number row) (incoming_header_in row))) response_is
 
 -- ---- a page of the files
 
@@ -134,14 +132,7 @@ finds_incoming =
 
 pub finds_issued : FindsPages in_page_text (λ r row. paged_issued row) (λ r. numbered issued_entry 1 r.incoming)
 finds_issued = finds_page (λ r row. paged_issued row) issued_entry (λ r behind n f fit.
-    ap (option_map (so n f)) (answer_back behind n f f.response fit.small fit.right) ∙ twice n f f.response)
-  where
-    so : ℕ → Incoming → IssuedResponse → IssuedEntry
-    so n f x = record { no = n; identity = f.identity; response = x }
-
-    twice : (n : ℕ) (f : Incoming) (o : Option Issued) → option_map (so n f) (option_map issued_response o) ≡ option_map (λ x. so n f (issued_response x)) o
-    twice n f None = refl
-    twice n f (Some x) = refl
+    ap (option_map (issued_entry_of n (incoming_header_of f))) (answer_back behind n f f.response fit.small fit.right) ∙ entry_made n f f.response)
 
 pub numbers_incoming : {E : Type 0} (entry : ℕ → Incoming → E) → FindsPages in_page_text (λ r row. paged_number row) (λ r. numbers_of (numbered entry 1 r.incoming))
 numbers_incoming entry = finds_also _ (finds_page (λ r row. paged_number row) (λ n f. n) (λ r behind n f fit. refl)) (λ r. numbers_same entry r.incoming)

@@ -33,4 +33,5 @@ mod BeginningLemmas
 mod FilingLemmas
 mod AnsweredLemmas
 mod CauseLemmas
+mod MakingLemmas
 mod MisreadLemmas

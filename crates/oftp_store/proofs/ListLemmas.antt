@@ -1,5 +1,5 @@
 -- Lists of entries that grow by one, and what is found by number.
-use Rattle.std.proofs.Common.{◌≡◌, ◌==◌, ◌+◌, ◌<◌, ◌≤◌, ◌++◌, ◌^◌, nat_lt, ℕ, suc, Bool, true, false, cond, if◌then◌else◌, List, [], ◌∷◌, length, map, take, find, get_or, Option, Some, None, inl, inr, refl, sym, ap, subst, ◌∙◌, arith}
+use Rattle.std.proofs.Common.{◌≡◌, ◌==◌, ◌+◌, ◌<◌, ◌≤◌, ◌++◌, ◌^◌, nat_lt, ℕ, suc, Bool, true, false, cond, List, [], ◌∷◌, length, map, take, find, get_or, Option, Some, None, inl, inr, refl, sym, ap, subst, ◌∙◌, arith}
 use Rattle.std.specs.List.{filter_map}
 use Rattle.std.specs.Option.{option_map}
 use Rattle.std.proofs.lemmas.Bool.{cases_Bool}
@@ -9,12 +9,13 @@ use Rattle.std.proofs.lemmas.List.Elements.{filter_map-append}
 use Rattle.oftp_register.specs.declared.entries.Cursor.{Cursor}
 use Rattle.oftp_register.specs.declared.entries.IssuedEntry.{IssuedEntry}
 use Rattle.oftp_register.specs.declared.entries.IssuedResponse.{IssuedResponse}
+use Rattle.oftp_register.specs.declared.entries.Item.{Item}
 use Rattle.oftp_register.specs.declared.entries.Item.TheVariants as item
 use Rattle.oftp_register.specs.declared.entries.OutgoingEntry.{OutgoingEntry}
 use Rattle.oftp_register.specs.Register.{Register, Incoming, Issued, Outgoing}
 use Rattle.oftp_register.specs.LookUps.{entry_at, is_next_file, is_next_response, issued_entry, issued_response, item_of, next_file, next_item, next_response, numbered, outgoing_entry}
 use Rattle.oftp_tables.proofs.SpotLemmas.{Spot, past, spot, there, zeroth}
-use Rattle.oftp_store.specs.Reads.{IsPlaced, IsResponseTo, IsToldOf, incoming_header_of}
+use Rattle.oftp_store.specs.Reads.{IsPlaced, IsResponseTo, IsToldOf, incoming_header_of, issued_entry_of}
 use Rattle.oftp_store.specs.Tells.{issued_by_no, listed}
 use Rattle.oftp_store.specs.declared.queries.header.IncomingHeader.{IncomingHeader}
 use Rattle.oftp_store.proofs.NumberLemmas.{entry_placed}
@@ -53,8 +54,13 @@ number : IssuedEntry → ℕ
 number e = e.no
 
 -- the entry of a response to a file with a number
-abbrev entry_so : ℕ → Incoming → Issued → IssuedEntry
-entry_so n f x = record { no = n; identity = f.identity; response = issued_response x }
+abbrev pub entry_so : ℕ → Incoming → Issued → IssuedEntry
+entry_so n f x = issued_entry_of n (incoming_header_of f) (issued_response x)
+
+-- it is made of the header of the file and of the response
+pub entry_made : (n : ℕ) (f : Incoming) (o : Option Issued) → option_map (issued_entry_of n (incoming_header_of f)) (option_map issued_response o) ≡ option_map (entry_so n f) o
+entry_made n f None = refl
+entry_made n f (Some x) = refl
 
 -- an entry that isn't wanted is skipped
 passed_by : (wanted : IssuedEntry → Bool) (n : ℕ) (f : Incoming) (o : Option Issued) (rest : List (Option IssuedEntry)) → ((x : Issued) → wanted (entry_so n f x) ≡ false)
@@ -173,15 +179,9 @@ file_within r partner tried given few = same_within (next_file r partner) (lengt
 -- ---- the response to one file
 
 issued_placed : (r : Register) (k : ℕ) (o : Option IssuedResponse) (before : List Incoming) (f : Incoming) (after : List Incoming) → IsPlaced r.incoming k before f after
-    → o ≡ option_map issued_response f.response
-    → option_map (λ x. let e : IssuedEntry = record { no = k; identity = f.identity; response = x } in e) o ≡ issued_by_no r k
+    → o ≡ option_map issued_response f.response → option_map (issued_entry_of k (incoming_header_of f)) o ≡ issued_by_no r k
 issued_placed r k o before f after placed is =
-    ap (option_map (λ x. let e : IssuedEntry = record { no = k; identity = f.identity; response = x } in e)) is ∙ twice f.response ∙ sym (issued_known k r.incoming before f after placed)
-  where
-    twice : (o : Option Issued) → option_map (λ x. let e : IssuedEntry = record { no = k; identity = f.identity; response = x } in e) (option_map issued_response o)
-        ≡ option_map (λ x. let e : IssuedEntry = record { no = k; identity = f.identity; response = issued_response x } in e) o
-    twice None = refl
-    twice (Some x) = refl
+    ap (option_map (issued_entry_of k (incoming_header_of f))) is ∙ entry_made k f f.response ∙ sym (issued_known k r.incoming before f after placed)
 
 pub issued_none : (r : Register) (k : ℕ) → IsResponseTo r k None → None ≡ issued_by_no r k
 issued_none r k is = go (spot k r.incoming)
@@ -197,23 +197,31 @@ pub issued_unknown : (r : Register) (k : ℕ) → entry_at k r.incoming ≡ None
 issued_unknown r k unknown = issued_none r k (λ before f after placed. absurd (let no_such = sym unknown ∙ entry_placed k r.incoming before f after placed in cc))
 
 pub issued_some : (r : Register) (k : ℕ) (h : IncomingHeader) (x : IssuedResponse) → IsToldOf incoming_header_of r.incoming k (Some h) → IsResponseTo r k (Some x)
-    → (let e : IssuedEntry = record { no = k; identity = h.file.identity; response = x } in Some e ≡ issued_by_no r k)
+    → Some (issued_entry_of k h x) ≡ issued_by_no r k
 issued_some r k h x (before, f, after, placed, header) is =
-    ap (λ (h : IncomingHeader). let e : IssuedEntry = record { no = k; identity = h.file.identity; response = x } in Some e) header
-    ∙ issued_placed r k (Some x) before f after placed (is before f after placed)
+    ap (λ (h : IncomingHeader). Some (issued_entry_of k h x)) header ∙ issued_placed r k (Some x) before f after placed (is before f after placed)
 
 -- ---- what is next
 
-pub item_nothing : (r : Register) (partner : List ℕ) (cursor : Cursor) (files : Bool) → files ≡ false → None ≡ next_response r partner cursor.response → None ≡ next_item r partner cursor files
-item_nothing r partner cursor true unasked none = absurd (let no_such = unasked in cc)
-item_nothing r partner cursor false unasked none = ap (λ o. item_of o None) none
+pub item_nothing : (r : Register) (partner : List ℕ) (cursor : Cursor) → None ≡ next_response r partner cursor.response → None ≡ next_item r partner cursor false
+item_nothing r partner cursor none = ap (λ o. item_of o None) none
 
-pub item_response : (r : Register) (partner : List ℕ) (cursor : Cursor) (files : Bool) (e : IssuedEntry) → Some e ≡ next_response r partner cursor.response
-    → Some (item.Response e) ≡ next_item r partner cursor files
-item_response r partner cursor files e found = ap (λ o. item_of o (if files then next_file r partner cursor.file else None)) found
+pub item_response : (r : Register) (partner : List ℕ) (cursor : Cursor) (e : IssuedEntry) → Some e ≡ next_response r partner cursor.response
+    → Some (item.Response e) ≡ next_item r partner cursor false
+item_response r partner cursor e found = ap (λ o. item_of o None) found
 
-pub item_file : (r : Register) (partner : List ℕ) (cursor : Cursor) (files : Bool) (file : Option OutgoingEntry) → files ≡ true
-    → None ≡ next_response r partner cursor.response → file ≡ next_file r partner cursor.file
-    → item_of None file ≡ next_item r partner cursor files
-item_file r partner cursor true file asked none found = ap (item_of None) found ∙ ap (λ o. item_of o (next_file r partner cursor.file)) none
-item_file r partner cursor false file asked none found = absurd (let no_such = asked in cc)
+-- a response goes before a file
+pub item_due : (r : Register) (partner : List ℕ) (cursor : Cursor) (found : Item) → Some found ≡ next_item r partner cursor false → Some found ≡ next_item r partner cursor true
+item_due r partner cursor found = go (next_response r partner cursor.response)
+  where
+    go : (o : Option IssuedEntry) → Some found ≡ item_of o None → Some found ≡ item_of o (next_file r partner cursor.file)
+    go (Some e) is = is
+    go None is = absurd (let no_such = is in cc)
+
+pub item_file : (r : Register) (partner : List ℕ) (cursor : Cursor) (file : Option OutgoingEntry) → None ≡ next_item r partner cursor false → file ≡ next_file r partner cursor.file
+    → item_of None file ≡ next_item r partner cursor true
+item_file r partner cursor file none found = go (next_response r partner cursor.response) none
+  where
+    go : (o : Option IssuedEntry) → None ≡ item_of o None → item_of None file ≡ item_of o (next_file r partner cursor.file)
+    go (Some e) is = absurd (let no_such = is in cc)
+    go None is = ap (item_of None) found

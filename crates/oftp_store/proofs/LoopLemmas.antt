@@ -10,7 +10,7 @@ use Rattle.oftp_register.specs.Soundness.{IsSound}
 use Rattle.oftp_tables.specs.Statements.{Looks}
 use Rattle.oftp_tables.specs.Tables.{Tables}
 use Rattle.oftp_tables.proofs.LookupLemmas.{looks_then}
-use Rattle.oftp_store.specs.Tells.{LooksAtMost, Tells}
+use Rattle.oftp_store.specs.Tells.{LooksAtMost, Tells, TellsBetween}
 use Rattle.oftp_store.proofs.CommitLemmas.{looks_both}
 use Rattle.oftp_store.proofs.LookLemmas.{left_by, left_on}
 
@@ -28,7 +28,7 @@ pub begins_known : {T : Type 0} (Known : Register → Type 0) (old now : State) 
 begins_known Known old now x looks told = record { looks = looks_other old now x 0 looks; known = λ k has r kept sound. told k has r kept }
 
 pub goes_on_known : {T : Type 0} (Known Next : Register → Type 0) (says : Register → T → Type 0) (old mid now : State) (x : T) → IsKnown Known old mid
-    → Looks mid now (Ok x) → Tells says mid now (Ok x)
+    → Looks mid now (Ok x) → TellsBetween (λ r x. IsSound r → says r x) mid now (Ok x)
     → ((r : Register) → Tables r old.now.trees → IsSound r → Known r → says r x → Next r) → IsKnown Next old now
 goes_on_known Known Next says old mid now x is looks told next = record {
   looks = looks_both old mid now 0 (Ok 0) is.looks (looks_other mid now x 0 looks);
@@ -49,7 +49,7 @@ module _ {S T : Type 0} (g : Ghosts S) (mid now : Held S) (result : Result T Off
   clean_before (inr looks) clean = omega (arith, looks.clean, clean)
 
 pub goes_on_after : {S T : Type 0} (Known Next : Register → Type 0) (says : Register → T → Type 0) (g : Ghosts S) (old : State) (mid now : Held S) (x : T) → IsKnown Known old (state g mid)
-    → LooksAtMost g mid now (Ok x) → Tells says (state g mid) (state g now) (Ok x)
+    → LooksAtMost g mid now (Ok x) → Tells g says mid now (Ok x)
     → ((r : Register) → Tables r old.now.trees → IsSound r → Known r → says r x → Next r) → IsKnown Next old (state g now)
 goes_on_after Known Next says g old mid now x is looks told next = record {
   looks = looks_other old (state g now) x 0 (looks_after g mid now (Ok x) old is.looks looks);
@@ -59,5 +59,5 @@ goes_on_after Known Next says g old mid now x is looks told next = record {
 }
 
 pub ends_known : {T : Type 0} (Known : Register → Type 0) (says : Register → T → Type 0) (old now : State) (x : T) → IsKnown Known old now
-    → ((r : Register) → Tables r old.now.trees → IsSound r → Known r → says r x) → Tells says old now (Ok x)
+    → ((r : Register) → Tables r old.now.trees → IsSound r → Known r → says r x) → TellsBetween (λ r x. IsSound r → says r x) old now (Ok x)
 ends_known Known says old now x is last k has r kept sound = last r kept sound (is.known k has r kept sound)

@@ -26,7 +26,7 @@ use Rattle.oftp_tables.specs.Statements.{Looks}
 use Rattle.oftp_tables.specs.Tables.{Tables, register_in, rows_in, rows_out}
 use Rattle.oftp_tables.specs.Stands.{IsContentOf, Stands}
 use Rattle.oftp_store.specs.Commits.{CommitsOn}
-use Rattle.oftp_store.specs.Tells.{Tells}
+use Rattle.oftp_store.specs.Tells.{TellsBetween}
 use Rattle.oftp_store.specs.Views.{content_alone, view_of}
 use Rattle.oftp_store.proofs.CommitLemmas.{spared_same, stands_same}
 use Rattle.oftp_store.proofs.NumberLemmas.{entry_beyond}
@@ -47,7 +47,7 @@ same_now limits old new (Ok x) stands same spared is_open = same.0.now_is
 same_now limits old new (Err e) stands same spared is_open = spared_same limits old new stands spared is_open
 
 pub looks_up : {T : Type 0} (says : Register → T → Type 0) (limits : Limits) (m n : ℕ) (old new : State) (result : Result T OfficeFault) → IsAlone limits old → Looks old new result
-    → Tells says old new result → Counts m n result
+    → TellsBetween (λ r x. IsSound r → says r x) old new result → Counts m n result
     → LooksUp says (view_of limits m old) (view_of limits n new) result
 looks_up says limits m n old new result alone looks tells counts = record {
   clean = λ k. omega (arith, looks.clean, k);

@@ -7,8 +7,6 @@ use Rattle.sqlite.specs.Table.{Table}
 use Rattle.sqlite.specs.State.{State, ExecutesInside}
 use Rattle.oftp_tables.specs.Schema.{about_tree, in_file_tree, in_row_tree, issued_tree, note_tree, office_schema, out_file_tree, out_row_tree, received, received_note, received_tree}
 use Rattle.oftp_tables.proofs.TermLemmas.{cast_null, cast_int}
-use Rattle.std.proofs.Common.{Bor}
-use Rattle.oftp_wire.specs.declared.field.Text.{Text as Words}
 use Rattle.oftp_register.specs.declared.entry.Identity.{Identity}
 use Rattle.oftp_register.specs.declared.entry.ResponseKind.{ResponseKind}
 use Rattle.oftp_register.specs.declared.entry.ResponseKind.TheVariants.{EndResponse, NegativeEndResponse}
@@ -18,9 +16,10 @@ use Rattle.oftp_tables.specs.Tables.{HoldIncoming, HoldOutgoing, Tables, about_r
 use Rattle.oftp_tables.proofs.SplitLemmas.{HaveNumber, IsSplit, among, pieces_below, pieces_from}
 use Rattle.oftp_tables.proofs.StatementLemmas.{Others, PutsIn, inserts_row}
 use Rattle.oftp_tables.proofs.PerformLemmas.{moves_as}
-use Rattle.oftp_register.specs.declared.name.Name.{Name}
-use Rattle.oftp_store.specs.Edits.{HoldNoteless, Makes, MakesNote, MakesNoteless}
-use Rattle.oftp_store.specs.declared.changes.edit.Deed.TheVariants.{AddReceived}
+use Rattle.std.proofs.Common.{Bor}
+use Rattle.oftp_store.specs.Edits.{HoldNoteless, Makes, MakesNote, MakesNoteless, received_with}
+use Rattle.oftp_store.specs.declared.changes.edit.EditKind.TheVariants.{AddReceived}
+use Rattle.oftp_store.specs.declared.changes.edit.NewReceived.{NewReceived}
 use Rattle.oftp_store.specs.Texts.{add_note_text, add_received_text}
 use Rattle.oftp_store.proofs.EditTexts.{add_note_is, add_note_plain, add_note_terms, add_received_is, add_received_plain, add_received_terms}
 use Rattle.oftp_store.proofs.EditLemmas.{all_and_last, behind}
@@ -135,14 +134,23 @@ note_added old new n creator text count has h =
 
 -- ---- a response with its note
 
-pub makes_negative : (n : ℕ) (kind : ResponseKind) (identity : Bor Identity) (reason : ℕ) (creator : Bor (Name 25)) (text : Bor Words) → kind ≡ NegativeEndResponse → (a b c : Trees)
-    → MakesNoteless n kind identity.now reason a b → MakesNote n creator.now text.now b c → Makes n (AddReceived kind identity reason creator text) a c
-makes_negative n NegativeEndResponse identity reason creator text negative a b c one two r s did kept =
-    subst (λ (q : Register). Tables q c) (sym did.1) (two r identity.now reason did.0 (one r creator.now text.now did.0 kept))
-makes_negative n EndResponse identity reason creator text negative a b c one two r s did kept = absurd (let no_such = negative in cc)
+-- the response as one of another kind
+abbrev received_as : NewReceived → ResponseKind → Received
+received_as x kind = record (received_with x) { kind = kind }
 
-pub makes_end : (n : ℕ) (kind : ResponseKind) (identity : Bor Identity) (reason : ℕ) (creator : Bor (Name 25)) (text : Bor Words) → kind ≡ EndResponse → (a b : Trees)
-    → MakesNoteless n kind identity.now reason a b → Makes n (AddReceived kind identity reason creator text) a b
-makes_end n kind identity reason creator text end a b one r s did kept =
-    subst (λ (q : Register). Tables q b) (sym did.1)
-    (unnoted r (record { kind = kind; identity = identity.now; reason = reason; creator = creator.now; text = text.now }) b end (one r creator.now text.now did.0 kept))
+abbrev added : Register → Received → Register
+added r x = record r { received = r.received ++ x ∷ [] }
+
+pub makes_negative : (n : ℕ) (response : Bor NewReceived) → (let x = response.now in x.kind ≡ NegativeEndResponse → (a b c : Trees) → MakesNoteless n x.kind x.identity.now x.reason a b
+    → MakesNote n x.creator.now x.text.now b c → Makes n (AddReceived response) a c)
+makes_negative n response negative a b c one two r s did kept =
+    let x = response.now in
+    subst (λ (q : Register). Tables q c) (sym did.1)
+    (subst (λ (kind : ResponseKind). Tables (added r (received_as x kind)) c) (sym negative)
+    (two r x.identity.now x.reason did.0 (subst (λ (kind : ResponseKind). HoldNoteless r (received_as x kind) b) negative (one r x.creator.now x.text.now did.0 kept))))
+
+pub makes_end : (n : ℕ) (response : Bor NewReceived) → (let x = response.now in x.kind ≡ EndResponse → (a b : Trees) → MakesNoteless n x.kind x.identity.now x.reason a b
+    → Makes n (AddReceived response) a b)
+makes_end n response end a b one r s did kept =
+    let x = response.now in
+    subst (λ (q : Register). Tables q b) (sym did.1) (unnoted r (received_with x) b end (one r x.creator.now x.text.now did.0 kept))

@@ -46,7 +46,7 @@ use Rattle.oftp_tables.proofs.RowLemmas.{from_filter, from_passes, from_same, fr
 use Rattle.oftp_tables.proofs.StatementLemmas.{Others}
 use Rattle.oftp_store.specs.Edits.{AddsRowsTo, Makes, MakesRows}
 use Rattle.oftp_store.specs.Texts.{add_row_text, cut_rows_text}
-use Rattle.oftp_store.specs.declared.changes.edit.Deed.TheVariants.{CutRows}
+use Rattle.oftp_store.specs.declared.changes.edit.EditKind.TheVariants.{CutRows}
 use Rattle.oftp_store.proofs.EditLemmas.{all_but, length_but}
 
 -- ---- the table of a side

@@ -34,7 +34,7 @@ ends_with (x ∷ edits) edit r s h = let more = ends_with edits edit h.0 s h.2 i
 
 -- one edit more
 pub edits_more : (edits : List Edit) (i : ℕ) (edit : Edit) → i < length edits → edit ≡ get_or edits i edit → (a b c : Trees) → MakesAll (take i edits) a b
-    → Makes edit.no edit.deed b c → MakesAll (take (i + 1) edits) a c
+    → Makes edit.no edit.kind b c → MakesAll (take (i + 1) edits) a c
 edits_more edits i edit within item a b c one two r s did kept =
     let all : take (i + 1) edits ≡ take i edits ++ edit ∷ [] = take_more edits i edit within ∙ ap (λ e. take i edits ++ e ∷ []) (sym item) in
     let parts = ends_with (take i edits) edit r s (subst (λ edits. AreEdited edits r s) all did) in
@@ -95,11 +95,11 @@ module _ {S : Type 0} (edits : List Edit) (g : Ghosts S) (old begin last end new
 
   -- an edit failed after others, and the transaction was rolled back
   pub edits_rolled_back : (before : Trees → Trees → Type 0) (edit : Edit) (mid : Held S) (e : Error) (fault : OfficeFault) → Performs {T = Unit {0}} before g begin mid (Ok tt)
-      → Performs {T = Unit {0}} (Makes edit.no edit.deed) g mid last (Err e) → (HasCleanDisk (state g end) → IsRolledBack (state g last) (state g end))
+      → Performs {T = Unit {0}} (Makes edit.no edit.kind) g mid last (Err e) → (HasCleanDisk (state g end) → IsRolledBack (state g last) (state g end))
       → Survives (state g last) (state g end) (λ _. ⊥) → IsFailure fault → (fault ≡ Memory) ↔ (e ≡ SqliteFailure OutOfMemory)
       → MakesEdits edits g old new (Err fault)
   edits_rolled_back before edit mid e fault made failed back survives =
-      let both = performs_then g begin mid last before (Makes edit.no edit.deed) (λ a b. Unit {0}) tt (Err e) (λ a b c one two. tt) made failed in
+      let both = performs_then g begin mid last before (Makes edit.no edit.kind) (λ a b. Unit {0}) tt (Err e) (λ a b c one two. tt) made failed in
       let inside = subst (λ h. Performs {T = Unit {0}} (MakesAll edits) g h last (Err e)) begun (performs_fails g begin last (λ a b. Unit {0}) (MakesAll edits) e both) in
       given_up e fault (transacts_fails IsOffice (Moves (MakesAll edits)) (state g old) (state g last) (state g end) e e inside.runs over back survives)
       (λ clean. (last, inl (failed.told (omega (arith, survives.clean, clean)))))

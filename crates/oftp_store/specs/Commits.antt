@@ -18,6 +18,7 @@ use Rattle.oftp_tables.specs.Transactions.{IsTransactionError, Transacts}
 use Rattle.oftp_tables.specs.Statements.{IsFaultOf, IsOffice, Looks, Moves}
 use Rattle.oftp_tables.specs.Tables.{register_in}
 use Rattle.oftp_tables.specs.Stands.{IsContentOf, Stands}
+use Rattle.oftp_store.specs.Causes.{HasCommitCause}
 use Rattle.oftp_store.specs.Edits.{IsStorable, MakesAll}
 use Rattle.oftp_store.specs.declared.changes.edit.Edit.{Edit}
 
@@ -33,6 +34,11 @@ pub record CommitsOn {T : Type 0} (limits : Limits) (change : Change) (old new :
   pub left : HasCleanDisk new → Stands limits old → IsFit (register_in limits old.now.trees) change → (db : Trees) → new.may_leave db
       → old.may_leave db ⊎ ((r : Register) × (apply (register_in limits old.now.trees) change ≡ Ok r) × IsContentOf db r)
 
+-- A change is committed, and if the store failed, there is a cause.
+pub record MakesChange {S : Type 0} (g : Ghosts S) (limits : Limits) (change : Change) (old new : Held S) (result : Result (Unit {0}) OfficeFault) : Type 0 where
+  pub commits : CommitsOn limits change (state g old) (state g new) result
+  pub told : IfErr result (HasCommitCause g limits change old new)
+
 -- Edits run in one transaction: all of them are committed, or none is.
 pub record AreCarriedOut {S : Type 0} (edits : List Edit) (g : Ghosts S) (old new : Held S) (result : Result (Unit {0}) OfficeFault) : Type 0 where
   pub transacts : Transacts IsOffice (Moves (MakesAll edits)) (state g old) (state g new) result
@@ -46,9 +52,9 @@ pub record MakesEdits {S : Type 0} (edits : List Edit) (g : Ghosts S) (old new :
 -- ---- the file that a change names
 
 -- a look-up finds the file with a number, and returns this of it
-pub record Finds {A : Type 0} (told : Register → ℕ → Option A → Type 0) (n : ℕ) (old new : State) (file : A) : Type 0 where
-  pub looks : Looks old new (Ok (Some file))
-  pub answer : HasCleanDisk new → (limits : Limits) → Stands limits old → told (register_in limits old.now.trees) n (Some file)
+pub record Finds {S A : Type 0} (g : Ghosts S) (told : Register → ℕ → Option A → Type 0) (n : ℕ) (old new : Held S) (file : A) : Type 0 where
+  pub looks : Looks (state g old) (state g new) (Ok (Some file))
+  pub answer : HasCleanDisk (state g new) → (limits : Limits) → Stands limits (state g old) → told (register_in limits (state g old).now.trees) n (Some file)
 
 -- a change of a file that doesn't exist is refused as unknown, in a sound register
 pub record NeedsFile {A : Type 0} (told : Register → ℕ → Option A → Type 0) (n : ℕ) (change : Change) : Type 0 where
@@ -60,5 +66,5 @@ pub record NeedsFit {A : Type 0} (told : Register → ℕ → Option A → Type 
   pub unfit : (r : Register) (file : A) → IsSound r → told r n (Some file) → fits file ≡ false → apply r change ≡ Err Unfit
 
 -- the look-ups end, with this error, the commit of every change that needs them
-abbrev pub EndsCommit : Limits → (Change → Type 0) → State → State → OfficeFault → Type 0
-EndsCommit limits Needs old new fault = (change : Change) → Needs change → CommitsOn {T = Unit {0}} limits change old new (Err fault)
+abbrev pub EndsCommit : {S : Type 0} → Ghosts S → Limits → (Change → Type 0) → Held S → Held S → OfficeFault → Type 0
+EndsCommit g limits Needs old new fault = (change : Change) → Needs change → MakesChange g limits change old new (Err fault)

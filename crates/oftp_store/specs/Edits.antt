@@ -3,7 +3,8 @@ use Rattle.std.specs.Prelude.{◌≡◌, ◌+◌, ◌^◌, ◌<◌, ℕ, List, [
 use Rattle.sqlite.specs.declared.types.Value.TheVariants.{Text}
 use Rattle.sqlite.specs.Order.{Row}
 use Rattle.sqlite.specs.Tree.{Trees}
-use Rattle.oftp_vfile.specs.declared.format.Format.{Format}
+use Rattle.oftp_register.specs.declared.change.Change.{Change}
+use Rattle.oftp_register.specs.declared.change.Change.TheVariants.{File, Issue, Start, Submit}
 use Rattle.oftp_register.specs.declared.entry.Dispatch.TheVariants.{Due, Sent}
 use Rattle.oftp_register.specs.declared.entry.IncomingState.TheVariants.{Whole}
 use Rattle.oftp_register.specs.declared.entry.OutgoingState.{OutgoingState}
@@ -18,9 +19,46 @@ use Rattle.oftp_register.specs.declared.entry.ResponseKind.{ResponseKind}
 use Rattle.oftp_register.specs.declared.entry.ResponseKind.TheVariants.{NegativeEndResponse}
 use Rattle.oftp_tables.specs.Schema.{about_tree, in_file_tree, in_row_tree, issued_tree, note_tree, out_file_tree, out_row_tree, received_tree}
 use Rattle.oftp_tables.specs.Tables.{HoldIncoming, HoldOutgoing, Tables, about_row, format_text, notes_from, number_value, received_row, rows_from}
+use Rattle.oftp_store.specs.declared.changes.edit.NewHeader.{NewHeader}
+use Rattle.oftp_store.specs.declared.changes.edit.NewIssued.{NewIssued}
+use Rattle.oftp_store.specs.declared.changes.edit.NewReceived.{NewReceived}
 use Rattle.oftp_store.specs.declared.changes.edit.Edit.{Edit}
-use Rattle.oftp_store.specs.declared.changes.edit.Deed.{Deed}
-use Rattle.oftp_store.specs.declared.changes.edit.Deed.TheVariants.{AddFile, SetHeader, SetWhole, SetOutgoing, AddRows, CutRows, AddIssued, SetSent, AddReceived}
+use Rattle.oftp_store.specs.declared.changes.edit.EditKind.{EditKind}
+use Rattle.oftp_store.specs.declared.changes.edit.EditKind.TheVariants.{AddFile, SetHeader, SetWhole, SetOutgoing, AddRows, CutRows, AddIssued, SetSent, AddReceived}
+
+-- ---- what a change gives
+
+-- the incoming file with this header, which has no rows yet
+abbrev pub incoming_with : NewHeader → Incoming
+incoming_with header = new_incoming header.identity.now header.format header.longest header.description.now
+
+-- the outgoing file with this header and these rows
+abbrev pub outgoing_with : NewHeader → List (List ℕ) → Outgoing
+outgoing_with header rows = new_outgoing header.identity.now header.format header.longest header.description.now rows
+
+-- the response that was received, as the register has it
+abbrev pub received_with : NewReceived → Received
+received_with x = record { kind = x.kind; identity = x.identity.now; reason = x.reason; creator = x.creator.now; text = x.text.now }
+
+-- the response that is issued, and due
+abbrev pub issued_with : NewIssued → Issued
+issued_with x = record { kind = x.kind; reason = x.reason; text = x.text.now; dispatch = Due }
+
+-- the changes that give these to a register
+
+abbrev pub start_of : NewHeader → ℕ → Change
+start_of header count = Start header.identity.now header.format header.longest header.description.now count
+
+abbrev pub submit_of : NewHeader → List (List ℕ) → Change
+submit_of header rows = Submit header.identity.now header.format header.longest header.description.now rows
+
+abbrev pub file_of : NewReceived → Change
+file_of x = File x.kind x.identity.now x.reason x.creator.now x.text.now
+
+abbrev pub issue_of : ℕ → NewIssued → Change
+issue_of n x = Issue n x.kind x.reason x.text.now
+
+-- ---- edits
 
 -- the entry with a number, of which a fact holds, is replaced
 pub record ChangesEntry {X : Type 0} (entries : Register → List X) (with_entries : Register → List X → Register) (n : ℕ) (Was : X → Type 0) (change : X → X) (r s : Register) : Type 0 where
@@ -43,11 +81,9 @@ pub record IsNext {X : Type 0} (n : ℕ) (entries : List X) : Type 0 where
   pub number : n ≡ 1 + length entries
 
 -- a new file without rows: an incoming one is open, an outgoing one waits
-abbrev pub AddsFileTo : Side → ℕ → Identity → Format → ℕ → List ℕ → Register → Register → Type 0
-AddsFileTo side.Incoming n identity format longest description r s =
-    IsNext n r.incoming × (s ≡ record r { incoming = r.incoming ++ new_incoming identity format longest description ∷ [] })
-AddsFileTo side.Outgoing n identity format longest description r s =
-    IsNext n r.outgoing × (s ≡ record r { outgoing = r.outgoing ++ new_outgoing identity format longest description [] ∷ [] })
+abbrev pub AddsFileTo : Side → ℕ → NewHeader → Register → Register → Type 0
+AddsFileTo side.Incoming n header r s = IsNext n r.incoming × (s ≡ record r { incoming = r.incoming ++ incoming_with header ∷ [] })
+AddsFileTo side.Outgoing n header r s = IsNext n r.outgoing × (s ≡ record r { outgoing = r.outgoing ++ outgoing_with header [] ∷ [] })
 
 -- rows are appended to those that the file has
 abbrev pub AddsRowsTo : Side → ℕ → ℕ → List (List ℕ) → Register → Register → Type 0
@@ -55,38 +91,36 @@ AddsRowsTo side.Incoming n from rows = ChangesIncoming n (λ f. length f.rows �
 AddsRowsTo side.Outgoing n from rows = ChangesOutgoing n (λ f. length f.rows ≡ from) (λ f. record f { rows = f.rows ++ rows })
 
 -- the positions of the new rows fit their column
-abbrev pub HasRoom : Deed → Type 0
+abbrev pub HasRoom : EditKind → Type 0
 HasRoom (AddRows which from rows) = from + length rows.now < 2 ^ 32
-HasRoom deed = ⊤
+HasRoom kind = ⊤
 
 -- the edit that appends rows to an incoming file with this many rows
 abbrev pub more : ℕ → ℕ → Bor (List (List ℕ)) → Edit
-more n from rows = record { no = n; deed = AddRows side.Incoming from rows }
+more n from rows = record { no = n; kind = AddRows side.Incoming from rows }
 
 -- the edit that sets mark and state of an outgoing file
 abbrev pub outgoing_edit : ℕ → ℕ → OutgoingState → Edit
-outgoing_edit n mark to = record { no = n; deed = SetOutgoing mark to }
+outgoing_edit n mark to = record { no = n; kind = SetOutgoing mark to }
 
 -- the database can store what an edit writes: its number, and the positions of its rows
 abbrev pub IsStorable : Edit → Type 0
-IsStorable edit = (edit.no < 2 ^ 63) × HasRoom edit.deed
+IsStorable edit = (edit.no < 2 ^ 63) × HasRoom edit.kind
 
 -- what an edit does to the entry with a number
-abbrev pub IsDone : ℕ → Deed → Register → Register → Type 0
-IsDone n (AddFile which identity format longest description) r s = AddsFileTo which n identity.now format longest description.now r s
-IsDone n (SetHeader format longest description) r s = ChangesIncoming n (λ f. ⊤) (λ f. record f { format = format; longest = longest; description = description.now }) r s
+abbrev pub IsDone : ℕ → EditKind → Register → Register → Type 0
+IsDone n (AddFile which header) r s = AddsFileTo which n header.now r s
+IsDone n (SetHeader header) r s = ChangesIncoming n (λ f. ⊤) (λ f. record f { format = header.now.format; longest = header.now.longest; description = header.now.description.now }) r s
 IsDone n SetWhole r s = ChangesIncoming n (λ f. ⊤) (λ f. record f { state = Whole }) r s
 IsDone n (SetOutgoing mark state) r s = ChangesOutgoing n (λ f. ⊤) (λ f. record f { mark = mark; state = state }) r s
 IsDone n (AddRows which from rows) r s = AddsRowsTo which n from rows.now r s
 IsDone n (CutRows count) r s = ChangesIncoming n (λ f. ⊤) (λ f. record f { rows = take count f.rows }) r s
-IsDone n (AddIssued kind reason text) r s =
-    ChangesIncoming n (λ f. f.response ≡ None) (λ f. record f { response = Some (record { kind = kind; reason = reason; text = text.now; dispatch = Due }) }) r s
+IsDone n (AddIssued response) r s = ChangesIncoming n (λ f. f.response ≡ None) (λ f. record f { response = Some (issued_with response.now) }) r s
 IsDone n (SetSent) r s = (answer : Issued) × ChangesIncoming n (λ f. f.response ≡ Some answer) (λ f. record f { response = Some (record answer { dispatch = Sent }) }) r s
-IsDone n (AddReceived kind identity reason creator text) r s =
-    IsNext n r.received × (s ≡ record r { received = r.received ++ (record { kind = kind; identity = identity.now; reason = reason; creator = creator.now; text = text.now }) ∷ [] })
+IsDone n (AddReceived response) r s = IsNext n r.received × (s ≡ record r { received = r.received ++ received_with response.now ∷ [] })
 
 abbrev pub IsEdited : Edit → Register → Register → Type 0
-IsEdited edit r s = IsDone edit.no edit.deed r s
+IsEdited edit r s = IsDone edit.no edit.kind r s
 
 -- edits in order
 abbrev pub AreEdited : List Edit → Register → Register → Type 0
@@ -95,8 +129,8 @@ AreEdited (edit ∷ edits) r s = (mid : Register) × IsEdited edit r mid × AreE
 
 -- the tables of a register become those of the register after one edit, and after edits in order
 
-abbrev pub Makes : ℕ → Deed → Trees → Trees → Type 0
-Makes n deed old new = (r s : Register) → IsDone n deed r s → Tables r old → Tables s new
+abbrev pub Makes : ℕ → EditKind → Trees → Trees → Type 0
+Makes n kind old new = (r s : Register) → IsDone n kind r s → Tables r old → Tables s new
 
 abbrev pub MakesAll : List Edit → Trees → Trees → Type 0
 MakesAll edits old new = (r s : Register) → AreEdited edits r s → Tables r old → Tables s new
@@ -127,7 +161,7 @@ MakesNote n creator text old new =
     → Tables (record r { received = r.received ++ x ∷ [] }) new)
 
 -- the parameters of the statements that add a file: its number, its identity and its header
-abbrev pub header_params : ℕ → Identity → Format → ℕ → List ℕ → Row
-header_params n identity format longest description =
-    number_value n ∷ Text identity.dataset ∷ Text identity.date ∷ Text identity.time ∷ Text identity.originator ∷ Text identity.destination ∷ Text (format_text format)
-    ∷ number_value longest ∷ Text description ∷ []
+abbrev pub header_params : ℕ → NewHeader → Row
+header_params n header =
+    number_value n ∷ Text header.identity.now.dataset ∷ Text header.identity.now.date ∷ Text header.identity.now.time ∷ Text header.identity.now.originator
+    ∷ Text header.identity.now.destination ∷ Text (format_text header.format) ∷ number_value header.longest ∷ Text header.description.now ∷ []

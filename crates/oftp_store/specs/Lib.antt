@@ -2,6 +2,7 @@ pub mod Texts
 pub mod Edits
 pub mod Numbers
 pub mod Reads
+pub mod Causes
 pub mod Commits
 pub mod FileProgress
 pub mod Tells
@@ -11,4 +12,3 @@ pub mod Opens
 pub mod Allocations
 pub mod ResponseMatches
 pub mod Shown
-pub mod Causes

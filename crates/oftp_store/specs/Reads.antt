@@ -209,9 +209,13 @@ paged_file row count = incoming_entry_of (paged_number row) (incoming_header_in 
 abbrev pub paged_entry : Register → Row → IncomingEntry
 paged_entry r row = paged_file row (length (file_rows r side.Incoming (paged_number row)))
 
+-- a response to it as an office returns it
+abbrev pub issued_entry_of : ℕ → IncomingHeader → IssuedResponse → IssuedEntry
+issued_entry_of n header x = record { no = n; identity = header.file.identity; response = x }
+
 -- the response in a row of a page, if there is one, with the number and the identity of its file
 abbrev pub paged_issued : Row → Option IssuedEntry
-paged_issued row = option_map (λ x. record { no = paged_number row; identity = (incoming_header_in row).file.identity; response = x }) (paged_response row)
+paged_issued row = option_map (issued_entry_of (paged_number row) (incoming_header_in row)) (paged_response row)
 
 -- ---- a page of outgoing files
 

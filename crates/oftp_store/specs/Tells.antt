@@ -21,22 +21,31 @@ use Rattle.oftp_store.specs.Reads.{first_told}
 use Rattle.oftp_store.specs.Texts.{IsPlainText}
 use Rattle.oftp_store.specs.declared.queries.lists.TheConstants.{PAGE}
 
+-- a look-up, which only reads
+abbrev pub OnlyLooks : {S T : Type 0} → Ghosts S → Held S → Held S → Result T OfficeFault → Type 0
+OnlyLooks g old new result = Looks (state g old) (state g new) result
+
 -- after an `Ok`, this holds of the result and of the register that the tables represent
-abbrev pub TellsStored : {T : Type 0} → (Register → T → Type 0) → State → State → Result T OfficeFault → Type 0
-TellsStored told old new result = HasCleanDisk new → old.now.schema ≡ office_schema → IfOk result (λ x. (r : Register) → Tables r old.now.trees → told r x)
+abbrev pub TellsBetween : {T : Type 0} → (Register → T → Type 0) → State → State → Result T OfficeFault → Type 0
+TellsBetween told old new result = HasCleanDisk new → old.now.schema ≡ office_schema → IfOk result (λ x. (r : Register) → Tables r old.now.trees → told r x)
+
+abbrev pub TellsStored : {S T : Type 0} → Ghosts S → (Register → T → Type 0) → Held S → Held S → Result T OfficeFault → Type 0
+TellsStored g told old new result = TellsBetween told (state g old) (state g new) result
 
 -- the same, where that register has these limits
-abbrev pub TellsLimited : {T : Type 0} → Limits → (Register → T → Type 0) → State → State → Result T OfficeFault → Type 0
-TellsLimited limits told old new result =
-    HasCleanDisk new → old.now.schema ≡ office_schema → IfOk result (λ x. (r : Register) → r.limits ≡ limits → Tables r old.now.trees → told r x)
+abbrev pub TellsLimited : {S T : Type 0} → Ghosts S → Limits → (Register → T → Type 0) → Held S → Held S → Result T OfficeFault → Type 0
+TellsLimited g limits told old new result =
+    HasCleanDisk (state g new) → (state g old).now.schema ≡ office_schema
+    → IfOk result (λ x. (r : Register) → r.limits ≡ limits → Tables r (state g old).now.trees → told r x)
 
 -- the same, where that register is sound
-abbrev pub Tells : {T : Type 0} → (Register → T → Type 0) → State → State → Result T OfficeFault → Type 0
-Tells told = TellsStored (λ r x. IsSound r → told r x)
+abbrev pub Tells : {S T : Type 0} → Ghosts S → (Register → T → Type 0) → Held S → Held S → Result T OfficeFault → Type 0
+Tells g told = TellsStored g (λ r x. IsSound r → told r x)
 
 -- a query returns rows, and the result says this of the first, if there is one
-abbrev pub TellsFirst : {T : Type 0} → List ℕ → Row → (T → Option Row → Type 0) → State → State → Result T OfficeFault → Type 0
-TellsFirst text params Told old new result = HasCleanDisk new → IfOk result (λ x. (rows : List Row) × Shown text params old new rows × Told x (slice_get rows 0))
+abbrev pub TellsFirst : {S T : Type 0} → Ghosts S → List ℕ → Row → (T → Option Row → Type 0) → Held S → Held S → Result T OfficeFault → Type 0
+TellsFirst g text params Told old new result =
+    HasCleanDisk (state g new) → IfOk result (λ x. (rows : List Row) × Shown text params (state g old) (state g new) rows × Told x (slice_get rows 0))
 
 -- The SQL of a query with a number is plain and doesn't list the schema. The first row of its result says this of the entry with that
 -- number.
@@ -55,7 +64,7 @@ pub record FindsPages {A : Type 0} (text : List ℕ) (told : Register → Row �
 
 -- a step that looks up, or only reads what was returned before
 abbrev pub LooksAtMost : {S T : Type 0} → Ghosts S → Held S → Held S → Result T OfficeFault → Type 0
-LooksAtMost g old new result = ((new ≡ old) × IfErr result IsFailure) ⊎ Looks (state g old) (state g new) result
+LooksAtMost g old new result = ((new ≡ old) × IfErr result IsFailure) ⊎ OnlyLooks g old new result
 
 -- the response to the incoming file with a number, if one was issued
 abbrev pub issued_by_no : Register → ℕ → Option IssuedEntry

@@ -3,7 +3,6 @@
 
 mod changes;
 mod file;
-mod numbers;
 mod office;
 mod open;
 mod path;

@@ -3,9 +3,9 @@
 ghost use Rattle.std.specs.Prelude.{◌≡◌, ◌≤◌, IfOk, IfSome, true};
 ghost use Rattle.oftp_register.specs.Register.{has_received};
 ghost use Rattle.oftp_register.specs.LookUps.{AreRowsWithin, IsIncomingWithin, IsItemWithin, IsOutgoingWithin, files_full, in_by_no, list_answered, list_in, list_issued, list_out, list_received, look_in, look_out, next_item, out_by_no, rows_of, units_of};
-ghost use Rattle.oftp_register.specs.Offices.{Commits, LooksUp};
+ghost use Rattle.oftp_register.specs.Offices.{Commits};
 ghost use Rattle.oftp_register.specs.declared.fit.TheConstants.{MOST_UNITS};
-ghost use Rattle.oftp_life.specs.Looks.{IsSameLife, life_seen};
+ghost use Rattle.oftp_life.specs.Looks.{IsSameLife, LifeLooksUp, life_seen};
 
 use super::Life;
 use crate::stage::{count, has_failed, lost};
@@ -26,7 +26,7 @@ impl<O: Office> Office for Life<O> {
     }
 
     fn look_in(&mut self, identity: &Identity) -> Result<Option<IncomingEntry>, OfficeFault>
-        ensures looks { LooksUp (λ r found. found ≡ look_in r identity.now) (life_seen O.view self.old) (life_seen O.view self.new) result }
+        ensures looks { LifeLooksUp O.view (λ r found. found ≡ look_in r identity.now) self.old self.new result }
         ensures within { IfOk result (λ found. IfSome found IsIncomingWithin) }
         ensures idle { self.old.over ≡ true → result ≡ Err OfficeFault.Store }
         ensures same { IsSameLife self.old self.new }
@@ -41,7 +41,7 @@ impl<O: Office> Office for Life<O> {
     }
 
     fn look_out(&mut self, identity: &Identity) -> Result<Option<OutgoingEntry>, OfficeFault>
-        ensures looks { LooksUp (λ r found. found ≡ look_out r identity.now) (life_seen O.view self.old) (life_seen O.view self.new) result }
+        ensures looks { LifeLooksUp O.view (λ r found. found ≡ look_out r identity.now) self.old self.new result }
         ensures within { IfOk result (λ found. IfSome found IsOutgoingWithin) }
         ensures idle { self.old.over ≡ true → result ≡ Err OfficeFault.Store }
         ensures same { IsSameLife self.old self.new }
@@ -56,7 +56,7 @@ impl<O: Office> Office for Life<O> {
     }
 
     fn in_by_no(&mut self, no: u64) -> Result<Option<IncomingEntry>, OfficeFault>
-        ensures looks { LooksUp (λ r found. found ≡ in_by_no r no) (life_seen O.view self.old) (life_seen O.view self.new) result }
+        ensures looks { LifeLooksUp O.view (λ r found. found ≡ in_by_no r no) self.old self.new result }
         ensures within { IfOk result (λ found. IfSome found IsIncomingWithin) }
         ensures idle { self.old.over ≡ true → result ≡ Err OfficeFault.Store }
         ensures same { IsSameLife self.old self.new }
@@ -71,7 +71,7 @@ impl<O: Office> Office for Life<O> {
     }
 
     fn out_by_no(&mut self, no: u64) -> Result<Option<OutgoingEntry>, OfficeFault>
-        ensures looks { LooksUp (λ r found. found ≡ out_by_no r no) (life_seen O.view self.old) (life_seen O.view self.new) result }
+        ensures looks { LifeLooksUp O.view (λ r found. found ≡ out_by_no r no) self.old self.new result }
         ensures within { IfOk result (λ found. IfSome found IsOutgoingWithin) }
         ensures idle { self.old.over ≡ true → result ≡ Err OfficeFault.Store }
         ensures same { IsSameLife self.old self.new }
@@ -86,7 +86,7 @@ impl<O: Office> Office for Life<O> {
     }
 
     fn files_full(&mut self, side: Side) -> Result<bool, OfficeFault>
-        ensures looks { LooksUp (λ r full. full ≡ files_full r side) (life_seen O.view self.old) (life_seen O.view self.new) result }
+        ensures looks { LifeLooksUp O.view (λ r full. full ≡ files_full r side) self.old self.new result }
         ensures idle { self.old.over ≡ true → result ≡ Err OfficeFault.Store }
         ensures same { IsSameLife self.old self.new }
     {
@@ -100,7 +100,7 @@ impl<O: Office> Office for Life<O> {
     }
 
     fn has_received(&mut self, kind: ResponseKind, identity: &Identity) -> Result<bool, OfficeFault>
-        ensures looks { LooksUp (λ r there. there ≡ has_received r kind identity.now) (life_seen O.view self.old) (life_seen O.view self.new) result }
+        ensures looks { LifeLooksUp O.view (λ r there. there ≡ has_received r kind identity.now) self.old self.new result }
         ensures idle { self.old.over ≡ true → result ≡ Err OfficeFault.Store }
         ensures same { IsSameLife self.old self.new }
     {
@@ -119,7 +119,7 @@ impl<O: Office> Office for Life<O> {
         cursor: Cursor,
         files: bool,
     ) -> Result<Option<Item>, OfficeFault>
-        ensures looks { LooksUp (λ r item. item ≡ next_item r partner.now cursor files) (life_seen O.view self.old) (life_seen O.view self.new) result }
+        ensures looks { LifeLooksUp O.view (λ r item. item ≡ next_item r partner.now cursor files) self.old self.new result }
         ensures within { IfOk result (λ found. IfSome found IsItemWithin) }
         ensures idle { self.old.over ≡ true → result ≡ Err OfficeFault.Store }
         ensures same { IsSameLife self.old self.new }
@@ -134,7 +134,7 @@ impl<O: Office> Office for Life<O> {
     }
 
     fn rows_of(&mut self, side: Side, no: u64, from: u64, most: u64) -> Result<Rows, OfficeFault>
-        ensures looks { LooksUp (λ r rows. rows ≡ rows_of r side no from most) (life_seen O.view self.old) (life_seen O.view self.new) result }
+        ensures looks { LifeLooksUp O.view (λ r rows. rows ≡ rows_of r side no from most) self.old self.new result }
         ensures within { IfOk result (AreRowsWithin from most) }
         ensures idle { self.old.over ≡ true → result ≡ Err OfficeFault.Store }
         ensures same { IsSameLife self.old self.new }
@@ -149,7 +149,7 @@ impl<O: Office> Office for Life<O> {
     }
 
     fn units_of(&mut self, side: Side, no: u64) -> Result<u64, OfficeFault>
-        ensures looks { LooksUp (λ r units. units ≡ units_of r side no) (life_seen O.view self.old) (life_seen O.view self.new) result }
+        ensures looks { LifeLooksUp O.view (λ r units. units ≡ units_of r side no) self.old self.new result }
         ensures within { IfOk result (λ units. units ≤ MOST_UNITS) }
         ensures idle { self.old.over ≡ true → result ≡ Err OfficeFault.Store }
         ensures same { IsSameLife self.old self.new }
@@ -164,7 +164,7 @@ impl<O: Office> Office for Life<O> {
     }
 
     fn list_in(&mut self) -> Result<Vec<IncomingEntry>, OfficeFault>
-        ensures looks { LooksUp (λ r entries. entries.items ≡ list_in r) (life_seen O.view self.old) (life_seen O.view self.new) result }
+        ensures looks { LifeLooksUp O.view (λ r entries. entries.items ≡ list_in r) self.old self.new result }
         ensures idle { self.old.over ≡ true → result ≡ Err OfficeFault.Store }
         ensures same { IsSameLife self.old self.new }
     {
@@ -178,7 +178,7 @@ impl<O: Office> Office for Life<O> {
     }
 
     fn list_out(&mut self) -> Result<Vec<OutgoingEntry>, OfficeFault>
-        ensures looks { LooksUp (λ r entries. entries.items ≡ list_out r) (life_seen O.view self.old) (life_seen O.view self.new) result }
+        ensures looks { LifeLooksUp O.view (λ r entries. entries.items ≡ list_out r) self.old self.new result }
         ensures idle { self.old.over ≡ true → result ≡ Err OfficeFault.Store }
         ensures same { IsSameLife self.old self.new }
     {
@@ -192,7 +192,7 @@ impl<O: Office> Office for Life<O> {
     }
 
     fn list_issued(&mut self) -> Result<Vec<IssuedEntry>, OfficeFault>
-        ensures looks { LooksUp (λ r entries. entries.items ≡ list_issued r) (life_seen O.view self.old) (life_seen O.view self.new) result }
+        ensures looks { LifeLooksUp O.view (λ r entries. entries.items ≡ list_issued r) self.old self.new result }
         ensures idle { self.old.over ≡ true → result ≡ Err OfficeFault.Store }
         ensures same { IsSameLife self.old self.new }
     {
@@ -206,7 +206,7 @@ impl<O: Office> Office for Life<O> {
     }
 
     fn list_received(&mut self) -> Result<Vec<ReceivedEntry>, OfficeFault>
-        ensures looks { LooksUp (λ r entries. entries.items ≡ list_received r) (life_seen O.view self.old) (life_seen O.view self.new) result }
+        ensures looks { LifeLooksUp O.view (λ r entries. entries.items ≡ list_received r) self.old self.new result }
         ensures idle { self.old.over ≡ true → result ≡ Err OfficeFault.Store }
         ensures same { IsSameLife self.old self.new }
     {
@@ -220,7 +220,7 @@ impl<O: Office> Office for Life<O> {
     }
 
     fn list_answered(&mut self) -> Result<Vec<AnsweredEntry>, OfficeFault>
-        ensures looks { LooksUp (λ r entries. entries.items ≡ list_answered r) (life_seen O.view self.old) (life_seen O.view self.new) result }
+        ensures looks { LifeLooksUp O.view (λ r entries. entries.items ≡ list_answered r) self.old self.new result }
         ensures idle { self.old.over ≡ true → result ≡ Err OfficeFault.Store }
         ensures same { IsSameLife self.old self.new }
     {

@@ -3,7 +3,7 @@
 ghost use Rattle.std.specs.Prelude.{◌≡◌, ◌≢◌, [], ◌∷◌, ◌++◌, true, false};
 ghost use Rattle.oftp_engine.specs.Served.{setting_of};
 ghost use Rattle.oftp_life.specs.Acts.{Conversed};
-ghost use Rattle.oftp_life.specs.Lives.{HasLeft, Heard, IsSession, answer_of, has_ceased, is_over_at};
+ghost use Rattle.oftp_life.specs.Lives.{HasLeft, Heard, IsSameButForOut, IsSession, answer_of, has_ceased, is_over_at, life_after};
 ghost use Rattle.oftp_life.specs.Outboxes.{octets_out};
 
 mod admitting;
@@ -149,10 +149,7 @@ impl<O: Office> LifeSession<'_, O> {
         ensures leaves { HasLeft O.view self.new.began self.new.acts (is_over_at self.new.stage) self.new.office }
         ensures clean { (O.view self.new.office).clean → (O.view self.old.office).clean }
     {
-        match self.conversation.hear(octets) {
-            Ok(()) => {}
-            Err(_) => return Err(RunFault::Memory),
-        }
+        self.conversation.hear(octets)?;
         let went = self
             .conversation
             .go_on_in_parts(&mut self.office, &mut self.out);
@@ -166,8 +163,7 @@ impl<O: Office> LifeSession<'_, O> {
         ensures handed { result.items ≡ self.old.out.inner.waiting.items }
         ensures taken { self.new.out.inner.taken.octets ≡ octets_out self.old.out.inner }
         ensures waiting { self.new.out.inner.waiting.items ≡ [] }
-        ensures same { (self.new.office ≡ self.old.office) × (self.new.began ≡ self.old.began) × (self.new.acts ≡ self.old.acts) × (self.new.before ≡ self.old.before)
-            × (self.new.stage ≡ self.old.stage) × (self.new.dialogue ≡ self.old.dialogue) × (self.new.faults ≡ self.old.faults) }
+        ensures same { IsSameButForOut self.old self.new }
     {
         let mut out = self.out.replace(Outbox::new(alloc));
         let taken = out.take(alloc);
@@ -178,7 +174,7 @@ impl<O: Office> LifeSession<'_, O> {
     /// Ends the session where it stands, whatever the cause: it has ended, or its input has, or it is given up. Returns its life, and the
     /// octets that are still to go to the partner.
     pub fn end(self) -> (Life<O>, Outbox)
-        ensures life { result.0 ≡ record { office = self.entry.office; began = self.entry.began; acts = self.entry.acts; faults = self.entry.faults; over = is_over_at self.entry.stage } }
+        ensures life { result.0 ≡ life_after self.entry }
         ensures out { result.1 ≡ self.entry.out.inner }
         // The headline.
         ensures leaves { HasLeft O.view self.entry.began self.entry.acts (is_over_at self.entry.stage) self.entry.office }

@@ -1,12 +1,11 @@
 //! The commit of any change of the register to the database.
 
-ghost use Rattle.std.specs.Prelude.{◌≡◌, false, IfErr};
-ghost use Rattle.sqlite.specs.Held.{state};
-ghost use Rattle.oftp_store.specs.Commits.{CommitsOn};
-ghost use Rattle.oftp_store.specs.Causes.{HasCommitCause};
+ghost use Rattle.std.specs.Prelude.{◌≡◌, false};
+ghost use Rattle.oftp_store.specs.Commits.{MakesChange};
 
+use super::Context;
+use super::edit::{header, issued, received};
 use super::incoming::{close, give_up, keep, start};
-use super::means::Means;
 use super::outgoing::{begin_closing, hand_over, mark, refuse, reopen, submit};
 use super::responses::{file, issue, send};
 use oftp_register::{Change, OfficeFault};
@@ -22,50 +21,49 @@ use sqlite::{Alter, Connection};
 ///
 /// After an error the register is unchanged if the connection is still open.
 pub(crate) fn commit_change<S: Alter>(
-    means: Means,
+    cx: Context,
     conn: &mut Connection<S>,
     change: Change<'_>,
 ) -> Result<(), OfficeFault>
     requires { conn.old.in_transaction ≡ false }
-    ensures commits { CommitsOn means.limits change.entry (state S.Store conn.old) (state S.Store conn.new) result }
-    ensures told { IfErr result (HasCommitCause S.Store means.limits change.entry conn.old conn.new) }
+    ensures { MakesChange S.Store cx.limits change.entry conn.old conn.new result }
 {
     match &change {
         Change::Submit {
             identity,
             format,
             longest,
-            description: words,
+            description: text,
             rows,
-        } => submit(means, conn, identity, *format, *longest, words, rows),
+        } => submit(cx, conn, &header(identity, *format, *longest, text), rows),
         Change::Start {
             identity,
             format,
             longest,
-            description: words,
+            description: text,
             count,
-        } => start(means, conn, identity, *format, *longest, words, *count),
-        Change::Keep { no, rows } => keep(means, conn, *no, rows),
-        Change::Close { no, rows } => close(means, conn, *no, rows),
-        Change::GiveUp { no } => give_up(means, conn, *no),
+        } => start(cx, conn, &header(identity, *format, *longest, text), *count),
+        Change::Keep { no, rows } => keep(cx, conn, *no, rows),
+        Change::Close { no, rows } => close(cx, conn, *no, rows),
+        Change::GiveUp { no } => give_up(cx, conn, *no),
         Change::File {
             kind,
             identity,
             reason,
             creator,
             text,
-        } => file(means, conn, *kind, identity, *reason, creator, text),
+        } => file(cx, conn, &received(*kind, identity, *reason, creator, text)),
         Change::Issue {
             no,
             kind,
             reason,
             text,
-        } => issue(means, conn, *no, *kind, *reason, text),
-        Change::Mark { no, rows } => mark(means, conn, *no, *rows),
-        Change::BeginClosing { no } => begin_closing(means, conn, *no),
-        Change::HandOver { no } => hand_over(means, conn, *no),
-        Change::Refuse { no, reason } => refuse(means, conn, *no, *reason),
-        Change::Reopen { no } => reopen(means, conn, *no),
-        Change::Send { no } => send(means, conn, *no),
+        } => issue(cx, conn, *no, &issued(*kind, *reason, text)),
+        Change::Mark { no, rows } => mark(cx, conn, *no, *rows),
+        Change::BeginClosing { no } => begin_closing(cx, conn, *no),
+        Change::HandOver { no } => hand_over(cx, conn, *no),
+        Change::Refuse { no, reason } => refuse(cx, conn, *no, *reason),
+        Change::Reopen { no } => reopen(cx, conn, *no),
+        Change::Send { no } => send(cx, conn, *no),
     }
 }

@@ -1,55 +1,46 @@
 //! The changes of an outgoing file: `Submit`, `Mark`, `BeginClosing`, `HandOver`, `Refuse` and `Reopen`.
 
-ghost use Rattle.std.specs.Prelude.{◌≡◌, ◌&&◌, ◌||◌, false, nat_le, IfErr};
-ghost use Rattle.sqlite.specs.Held.{state};
-ghost use Rattle.oftp_register.specs.declared.change.Change.TheVariants.{BeginClosing, HandOver, Mark, Refuse, Reopen, Submit};
+ghost use Rattle.std.specs.Prelude.{◌≡◌, ◌&&◌, ◌||◌, false, nat_le};
+ghost use Rattle.oftp_register.specs.declared.change.Change.TheVariants.{BeginClosing, HandOver, Mark, Refuse, Reopen};
 ghost use Rattle.oftp_register.specs.Changes.{is_closing, is_waiting};
-ghost use Rattle.oftp_store.specs.Commits.{CommitsOn};
-ghost use Rattle.oftp_store.specs.Edits.{outgoing_edit};
-ghost use Rattle.oftp_store.specs.Causes.{HasCommitCause};
+ghost use Rattle.oftp_store.specs.Commits.{MakesChange};
+ghost use Rattle.oftp_store.specs.Edits.{outgoing_edit, submit_of};
 
-use super::edit::{Deed, Edit};
-use super::known::{allowed, known};
-use super::means::Means;
+use super::Context;
+use super::edit::{Edit, EditKind, NewHeader};
+use super::known::known;
 use super::transaction::make_edits;
 use crate::queries::allocation::{Allocation, find_allocation};
 use crate::queries::progress::OutgoingProgress;
-use oftp_register::{Cause, Identity, OfficeFault, OutgoingState, Side};
-use oftp_vfile::{Format, Rows};
-use oftp_wire::{Count, Text};
+use oftp_register::{Cause, OfficeFault, OutgoingState, Side};
+use oftp_vfile::Rows;
+use oftp_wire::Count;
 use sqlite::{Alter, Connection};
 
 /// Adds an outgoing file with all its rows.
 pub(crate) fn submit<S: Alter>(
-    means: Means,
+    cx: Context,
     conn: &mut Connection<S>,
-    identity: &Identity,
-    format: Format,
-    longest: u32,
-    description: &Text<'_>,
+    header: &NewHeader<'_>,
     rows: &Rows,
 ) -> Result<(), OfficeFault>
     requires { conn.old.in_transaction ≡ false }
-    ensures commits { CommitsOn means.limits (Submit identity.now format longest description.now rows.now) (state S.Store conn.old) (state S.Store conn.new) result }
-    ensures told { IfErr result (HasCommitCause S.Store means.limits (Submit identity.now format longest description.now rows.now) conn.old conn.new) }
+    ensures { MakesChange S.Store cx.limits (submit_of header.now rows.now) conn.old conn.new result }
 {
-    match find_allocation(conn, means.limits, Side::Outgoing, identity)? {
+    match find_allocation(conn, cx.limits, Side::Outgoing, header.identity)? {
         Allocation::Existing(_) => Err(OfficeFault::Refused(Cause::Duplicate)),
         Allocation::Full => Err(OfficeFault::Refused(Cause::Full)),
         Allocation::New(no) => {
-            let header = Deed::AddFile {
+            let new = EditKind::AddFile {
                 side: Side::Outgoing,
-                identity,
-                format,
-                longest,
-                description,
+                header,
             };
-            let all = Deed::AddRows {
+            let all = EditKind::AddRows {
                 side: Side::Outgoing,
                 from: 0,
                 rows,
             };
-            make_edits(conn, &[Edit { no, deed: header }, Edit { no, deed: all }])
+            make_edits(conn, &[Edit { no, kind: new }, Edit { no, kind: all }])
         }
     }
 }
@@ -58,20 +49,14 @@ pub(crate) fn submit<S: Alter>(
 fn is_waiting(state: &OutgoingState) -> bool
     ensures { result ≡ is_waiting state.now }
 {
-    match state {
-        OutgoingState::Waiting => true,
-        _ => false,
-    }
+    matches!(state, OutgoingState::Waiting)
 }
 
 // Whether the end of the file was sent and its answer is still missing.
 fn is_closing(state: &OutgoingState) -> bool
     ensures { result ≡ is_closing state.now }
 {
-    match state {
-        OutgoingState::Closing => true,
-        _ => false,
-    }
+    matches!(state, OutgoingState::Closing)
 }
 
 // Whether the partner may still refuse the file: it is waiting, or its end was sent.
@@ -88,92 +73,97 @@ fn may_be_covered(file: &OutgoingProgress, rows: u64) -> bool
     is_waiting(&file.state) && rows <= u64::from(file.rows)
 }
 
-// The edit that sets mark and state of a file.
-fn outgoing_edit(no: u64, mark: u32, state: OutgoingState) -> Edit<'static>
+/// The edit that sets mark and state of a file.
+pub(super) fn outgoing_edit(no: u64, mark: u32, state: OutgoingState) -> Edit<'static>
     ensures { result ≡ outgoing_edit no mark state }
 {
-    let deed = Deed::SetOutgoing { mark, state };
-    Edit { no, deed }
+    let kind = EditKind::SetOutgoing { mark, state };
+    Edit { no, kind }
 }
 
 /// Sets the mark of a waiting file: `rows` rows are known to be kept by the partner.
 pub(crate) fn mark<S: Alter>(
-    means: Means,
+    cx: Context,
     conn: &mut Connection<S>,
     no: u64,
     rows: u64,
 ) -> Result<(), OfficeFault>
     requires { conn.old.in_transaction ≡ false }
-    ensures commits { CommitsOn means.limits (Mark no rows) (state S.Store conn.old) (state S.Store conn.new) result }
-    ensures told { IfErr result (HasCommitCause S.Store means.limits (Mark no rows) conn.old conn.new) }
+    ensures { MakesChange S.Store cx.limits (Mark no rows) conn.old conn.new result }
 {
-    let file = known::<OutgoingProgress, S>(means, conn, no)?;
-    allowed(may_be_covered(&file, rows))?;
+    let file = known::<OutgoingProgress, S>(cx, conn, no)?;
+    if !may_be_covered(&file, rows) {
+        return Err(OfficeFault::Refused(Cause::State));
+    }
     let edit = outgoing_edit(no, rows as u32, file.state);
     make_edits(conn, &[edit])
 }
 
 /// Puts a waiting file into the state in which its end is sent next.
 pub(crate) fn begin_closing<S: Alter>(
-    means: Means,
+    cx: Context,
     conn: &mut Connection<S>,
     no: u64,
 ) -> Result<(), OfficeFault>
     requires { conn.old.in_transaction ≡ false }
-    ensures commits { CommitsOn means.limits (BeginClosing no) (state S.Store conn.old) (state S.Store conn.new) result }
-    ensures told { IfErr result (HasCommitCause S.Store means.limits (BeginClosing no) conn.old conn.new) }
+    ensures { MakesChange S.Store cx.limits (BeginClosing no) conn.old conn.new result }
 {
-    let file = known::<OutgoingProgress, S>(means, conn, no)?;
-    allowed(is_waiting(&file.state))?;
+    let file = known::<OutgoingProgress, S>(cx, conn, no)?;
+    if !is_waiting(&file.state) {
+        return Err(OfficeFault::Refused(Cause::State));
+    }
     let edit = outgoing_edit(no, file.mark, OutgoingState::Closing);
     make_edits(conn, &[edit])
 }
 
 /// Marks a file whose end was sent as handed over.
 pub(crate) fn hand_over<S: Alter>(
-    means: Means,
+    cx: Context,
     conn: &mut Connection<S>,
     no: u64,
 ) -> Result<(), OfficeFault>
     requires { conn.old.in_transaction ≡ false }
-    ensures commits { CommitsOn means.limits (HandOver no) (state S.Store conn.old) (state S.Store conn.new) result }
-    ensures told { IfErr result (HasCommitCause S.Store means.limits (HandOver no) conn.old conn.new) }
+    ensures { MakesChange S.Store cx.limits (HandOver no) conn.old conn.new result }
 {
-    let file = known::<OutgoingProgress, S>(means, conn, no)?;
-    allowed(is_closing(&file.state))?;
+    let file = known::<OutgoingProgress, S>(cx, conn, no)?;
+    if !is_closing(&file.state) {
+        return Err(OfficeFault::Refused(Cause::State));
+    }
     let edit = outgoing_edit(no, file.mark, OutgoingState::Handed);
     make_edits(conn, &[edit])
 }
 
 /// Marks a file as refused that is waiting, or whose end was sent.
 pub(crate) fn refuse<S: Alter>(
-    means: Means,
+    cx: Context,
     conn: &mut Connection<S>,
     no: u64,
     reason: Count<2>,
 ) -> Result<(), OfficeFault>
     requires { conn.old.in_transaction ≡ false }
-    ensures commits { CommitsOn means.limits (Refuse no reason) (state S.Store conn.old) (state S.Store conn.new) result }
-    ensures told { IfErr result (HasCommitCause S.Store means.limits (Refuse no reason) conn.old conn.new) }
+    ensures { MakesChange S.Store cx.limits (Refuse no reason) conn.old conn.new result }
 {
-    let file = known::<OutgoingProgress, S>(means, conn, no)?;
-    allowed(is_on_its_way(&file.state))?;
+    let file = known::<OutgoingProgress, S>(cx, conn, no)?;
+    if !is_on_its_way(&file.state) {
+        return Err(OfficeFault::Refused(Cause::State));
+    }
     let edit = outgoing_edit(no, file.mark, OutgoingState::Refused(reason));
     make_edits(conn, &[edit])
 }
 
 /// Reopens a file whose end was sent: it waits again, with mark 0.
 pub(crate) fn reopen<S: Alter>(
-    means: Means,
+    cx: Context,
     conn: &mut Connection<S>,
     no: u64,
 ) -> Result<(), OfficeFault>
     requires { conn.old.in_transaction ≡ false }
-    ensures commits { CommitsOn means.limits (Reopen no) (state S.Store conn.old) (state S.Store conn.new) result }
-    ensures told { IfErr result (HasCommitCause S.Store means.limits (Reopen no) conn.old conn.new) }
+    ensures { MakesChange S.Store cx.limits (Reopen no) conn.old conn.new result }
 {
-    let state = known::<OutgoingProgress, S>(means, conn, no)?.state;
-    allowed(is_closing(&state))?;
+    let state = known::<OutgoingProgress, S>(cx, conn, no)?.state;
+    if !is_closing(&state) {
+        return Err(OfficeFault::Refused(Cause::State));
+    }
     let edit = outgoing_edit(no, 0, OutgoingState::Waiting);
     make_edits(conn, &[edit])
 }

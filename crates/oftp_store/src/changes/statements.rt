@@ -1,20 +1,21 @@
 //! The SQL statements of the changes. Each runs in a transaction, with a number below 2^63.
 
-ghost use Rattle.std.specs.Prelude.{◌≡◌, ◌+◌, ◌<◌, ◌^◌, [], ◌∷◌, length};
+ghost use Rattle.std.specs.Prelude.{◌≡◌, ◌+◌, ◌<◌, ◌^◌, length};
 ghost use Rattle.sqlite.specs.Values.{bound};
 ghost use Rattle.oftp_wire.specs.Octets.{decimal};
 ghost use Rattle.oftp_tables.specs.Statements.{Performs, uncounted};
 ghost use Rattle.oftp_tables.specs.Tables.{HasRefusal, format_text, kind_text, out_state_text, reason_text, refusal_text};
 ghost use Rattle.oftp_store.specs.Edits.{Makes, MakesNote, MakesNoteless, MakesRows, header_params};
 ghost use Rattle.oftp_store.specs.Texts.{add_file_text, add_row_text};
-ghost use Rattle.oftp_store.specs.declared.changes.edit.Deed.TheVariants.{AddFile, AddIssued, AddReceived, AddRows, CutRows, SetHeader, SetOutgoing, SetSent, SetWhole};
+ghost use Rattle.oftp_store.specs.declared.changes.edit.EditKind.TheVariants.{AddFile, AddIssued, AddReceived, CutRows, SetHeader, SetOutgoing, SetSent, SetWhole};
 
+use super::edit::{NewHeader, NewIssued, NewReceived};
 use arrayvec::ArrayVec;
 use oftp_register::{Identity, Name, OutgoingState, ResponseKind, Side};
 use oftp_tables::number;
 use oftp_vfile::{Format, Rows};
 use oftp_wire::{Count, Text};
-use sqlite::types::ValueRef;
+use sqlite::types::{ToSql, ValueRef};
 use sqlite::{Alter, Error, Transaction, params};
 
 // The outcome of a statement, without the number of rows that it changed.
@@ -123,17 +124,20 @@ pub(crate) fn set_outgoing<S: Alter>(
 pub(crate) fn set_header<S: Alter>(
     tx: &mut Transaction<'_, S>,
     no: u64,
-    format: Format,
-    longest: u32,
-    description: &Text<'_>,
+    header: &NewHeader<'_>,
 ) -> Result<(), Error>
     requires { no < 2 ^ 63 }
     ensures same_reference { tx.new.conn.ghost_name ≡ tx.old.conn.ghost_name }
-    ensures performs { Performs (Makes no (SetHeader format longest description.entry)) S.Store tx.old.conn.now tx.new.conn.now result }
+    ensures performs { Performs (Makes no (SetHeader header.entry)) S.Store tx.old.conn.now tx.new.conn.now result }
 {
     done(tx.execute(
         "UPDATE in_file SET format = ?2, longest = ?3, description = ?4 WHERE no = ?1",
-        params![number(no), format_text(format), longest, description.text()],
+        params![
+            number(no),
+            format_text(header.format),
+            header.longest,
+            header.description.text(),
+        ],
     ))
 }
 
@@ -162,16 +166,11 @@ pub(crate) fn set_sent<S: Alter>(tx: &mut Transaction<'_, S>, no: u64) -> Result
 }
 
 // The parameters of the columns that the tables of incoming and outgoing files share.
-fn header_values<'x>(
-    no: u64,
-    identity: &'x Identity,
-    format: Format,
-    longest: u32,
-    description: &'x Text<'x>,
-) -> [ValueRef<'x>; 9]
+fn header_values<'x>(no: u64, header: &NewHeader<'x>) -> [ValueRef<'x>; 9]
     requires { no < 2 ^ 63 }
-    ensures { bound result ≡ header_params no identity.now format longest description.now }
+    ensures { bound result ≡ header_params no header.now }
 {
+    let identity = header.identity;
     [
         ValueRef::Int(number(no)),
         ValueRef::Text(identity.dataset.octets()),
@@ -179,9 +178,9 @@ fn header_values<'x>(
         ValueRef::Text(identity.time.octets()),
         ValueRef::Text(identity.originator.octets()),
         ValueRef::Text(identity.destination.octets()),
-        ValueRef::Text(format_text(format).as_bytes()),
-        ValueRef::Int(i64::from(longest)),
-        ValueRef::Text(description.text().as_bytes()),
+        ValueRef::Text(format_text(header.format).as_bytes()),
+        header.longest.to_sql(),
+        ValueRef::Text(header.description.text().as_bytes()),
     ]
 }
 
@@ -200,45 +199,37 @@ fn add_file_text(side: Side) -> &'static str
 }
 
 /// Adds a file without rows. An incoming file is then open, an outgoing file waits.
-pub(crate) fn add_file<'x, S: Alter>(
+pub(crate) fn add_file<S: Alter>(
     tx: &mut Transaction<'_, S>,
     side: Side,
     no: u64,
-    identity: &'x Identity,
-    format: Format,
-    longest: u32,
-    description: &'x Text<'x>,
+    header: &NewHeader<'_>,
 ) -> Result<(), Error>
     requires { no < 2 ^ 63 }
     ensures same_reference { tx.new.conn.ghost_name ≡ tx.old.conn.ghost_name }
-    ensures performs { Performs (Makes no (AddFile side identity.entry format longest description.entry)) S.Store tx.old.conn.now tx.new.conn.now result }
+    ensures performs { Performs (Makes no (AddFile side header.entry)) S.Store tx.old.conn.now tx.new.conn.now result }
 {
-    done(tx.execute(
-        add_file_text(side),
-        &header_values(no, identity, format, longest, description),
-    ))
+    done(tx.execute(add_file_text(side), &header_values(no, header)))
 }
 
 /// Adds a response, which is due, to an incoming file.
 pub(crate) fn add_issued<S: Alter>(
     tx: &mut Transaction<'_, S>,
     no: u64,
-    kind: ResponseKind,
-    reason: Count<2>,
-    text: &Text<'_>,
+    response: &NewIssued<'_>,
 ) -> Result<(), Error>
     requires { no < 2 ^ 63 }
     ensures same_reference { tx.new.conn.ghost_name ≡ tx.old.conn.ghost_name }
-    ensures performs { Performs (Makes no (AddIssued kind reason text.entry)) S.Store tx.old.conn.now tx.new.conn.now result }
+    ensures performs { Performs (Makes no (AddIssued response.entry)) S.Store tx.old.conn.now tx.new.conn.now result }
 {
-    let digits = reason_text(kind, reason);
+    let digits = reason_text(response.kind, response.reason);
     done(tx.execute(
         "INSERT INTO issued (no, kind, reason, note, sent) VALUES (?1, ?2, ?3, ?4, 0)",
         &[
             ValueRef::Int(number(no)),
-            ValueRef::Text(kind_text(kind).as_bytes()),
+            ValueRef::Text(kind_text(response.kind).as_bytes()),
             ValueRef::Text(digits.as_slice()),
-            ValueRef::Text(text.text().as_bytes()),
+            ValueRef::Text(response.text.text().as_bytes()),
         ],
     ))
 }
@@ -344,19 +335,15 @@ pub(crate) fn add_rows<S: Alter>(
 pub(crate) fn add_received<S: Alter>(
     tx: &mut Transaction<'_, S>,
     no: u64,
-    kind: ResponseKind,
-    identity: &Identity,
-    reason: Count<2>,
-    creator: &Name<25>,
-    text: &Text<'_>,
+    response: &NewReceived<'_>,
 ) -> Result<(), Error>
     requires { no < 2 ^ 63 }
     ensures same_reference { tx.new.conn.ghost_name ≡ tx.old.conn.ghost_name }
-    ensures performs { Performs (Makes no (AddReceived kind identity.entry reason creator.entry text.entry)) S.Store tx.old.conn.now tx.new.conn.now result }
+    ensures performs { Performs (Makes no (AddReceived response.entry)) S.Store tx.old.conn.now tx.new.conn.now result }
 {
-    add_noteless(tx, no, kind, identity, reason)?;
-    match kind {
+    add_noteless(tx, no, response.kind, response.identity, response.reason)?;
+    match response.kind {
         ResponseKind::EndResponse => Ok(()),
-        ResponseKind::NegativeEndResponse => add_note(tx, no, creator, text),
+        ResponseKind::NegativeEndResponse => add_note(tx, no, response.creator, response.text),
     }
 }

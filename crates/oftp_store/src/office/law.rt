@@ -12,9 +12,9 @@ ghost use Rattle.oftp_register.specs.LookUps.{AreRowsWithin, IsIncomingWithin, I
 ghost use Rattle.oftp_register.specs.declared.fit.TheConstants.{MOST_UNITS};
 
 use super::SqlOffice;
+use crate::changes::Context;
 use crate::changes::commit::commit_change;
-use crate::changes::means::Means;
-use crate::numbers::FIRST_FAR;
+use crate::queries::last_number::FIRST_FAR;
 use crate::queries::{
     file_by_identity, file_by_number, identity, last_number, lists, next_item, rows, units,
 };
@@ -127,7 +127,11 @@ impl<S: Alter> Office for SqlOffice<S> {
         ensures within { IfOk result (λ found. IfSome found IsItemWithin) }
         ensures told { IfErr result (HasCause S.Store self.old.conn self.new.conn) }
     {
-        let found = next_item::next_item(self.alloc, &mut self.conn, partner, cursor, files);
+        if !files {
+            let due = next_item::next_due(self.alloc, &mut self.conn, partner, cursor);
+            return counted(&mut self.faults, due);
+        }
+        let found = next_item::next_item(self.alloc, &mut self.conn, partner, cursor);
         counted(&mut self.faults, found)
     }
 
@@ -200,11 +204,11 @@ impl<S: Alter> Office for SqlOffice<S> {
         ensures commits { Commits change.entry (shown S.Store self.old) (shown S.Store self.new) result }
         ensures told { IfErr result (HasCommitCause S.Store self.old.limits change.entry self.old.conn self.new.conn) }
     {
-        let means = Means {
+        let cx = Context {
             alloc: self.alloc,
             limits: self.limits,
         };
-        let made = commit_change(means, &mut self.conn, change);
+        let made = commit_change(cx, &mut self.conn, change);
         counted(&mut self.faults, made)
     }
 

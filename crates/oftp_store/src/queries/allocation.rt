@@ -1,11 +1,9 @@
 //! Whether there is a file of an identity, and else the number of a new one.
 
-ghost use Rattle.std.specs.Prelude.{◌≡◌, ◌+◌, ◌≤◌, ◌<◌, ◌^◌, ⊤, nat_le, if◌then◌else◌, Ok, Err, IfOk, IfErr};
-ghost use Rattle.sqlite.specs.Held.{state};
+ghost use Rattle.std.specs.Prelude.{◌≡◌, ◌+◌, ◌≤◌, ◌^◌, IfOk, IfErr};
 ghost use Rattle.oftp_register.specs.Offices.{IsFailure};
-ghost use Rattle.oftp_tables.specs.Statements.{Looks};
 ghost use Rattle.oftp_store.specs.Allocations.{IsIncomingAllocationOf, IsAllocationOf, HasSmallNumber, allocation_after};
-ghost use Rattle.oftp_store.specs.Tells.{TellsLimited};
+ghost use Rattle.oftp_store.specs.Tells.{OnlyLooks, TellsLimited};
 ghost use Rattle.oftp_store.specs.Causes.{HasCause};
 
 use super::identity::file_number;
@@ -62,8 +60,8 @@ pub(crate) fn find_allocation<S: Alter>(
     side: Side,
     identity: &Identity,
 ) -> Result<Allocation, OfficeFault>
-    ensures looks { Looks (state S.Store conn.old) (state S.Store conn.new) result }
-    ensures answer { TellsLimited limits (λ r found. IsAllocationOf r side identity.now found) (state S.Store conn.old) (state S.Store conn.new) result }
+    ensures looks { OnlyLooks S.Store conn.old conn.new result }
+    ensures answer { TellsLimited S.Store limits (λ r found. IsAllocationOf r side identity.now found) conn.old conn.new result }
     ensures small { IfOk result HasSmallNumber }
     ensures told { IfErr result (HasCause S.Store conn.old conn.new) }
 {
@@ -85,8 +83,8 @@ pub(crate) fn find_incoming_allocation<S: Alter>(
     limits: Limits,
     identity: &Identity,
 ) -> Result<IncomingAllocation, OfficeFault>
-    ensures looks { Looks (state S.Store conn.old) (state S.Store conn.new) result }
-    ensures answer { TellsLimited limits (λ r found. IsIncomingAllocationOf r identity.now found) (state S.Store conn.old) (state S.Store conn.new) result }
+    ensures looks { OnlyLooks S.Store conn.old conn.new result }
+    ensures answer { TellsLimited S.Store limits (λ r found. IsIncomingAllocationOf r identity.now found) conn.old conn.new result }
     ensures told { IfErr result (HasCause S.Store conn.old conn.new) }
 {
     match find_allocation(conn, limits, Side::Incoming, identity)? {

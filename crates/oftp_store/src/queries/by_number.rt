@@ -2,12 +2,10 @@
 
 ghost use Rattle.std.specs.Prelude.{◌≡◌, ◌<◌, ◌^◌, ℕ, List, Option, IfOk, IfErr, IfSome};
 ghost use Rattle.sqlite.specs.declared.types.Value.{Value};
-ghost use Rattle.sqlite.specs.Held.{state};
 ghost use Rattle.oftp_register.specs.Register.{Register};
 ghost use Rattle.oftp_register.specs.Offices.{IsFailure};
-ghost use Rattle.oftp_tables.specs.Statements.{Looks};
 ghost use Rattle.oftp_tables.specs.Tables.{TellsValues};
-ghost use Rattle.oftp_store.specs.Tells.{FindsByNumber, TellsStored};
+ghost use Rattle.oftp_store.specs.Tells.{FindsByNumber, OnlyLooks, TellsStored};
 ghost use Rattle.oftp_store.specs.Causes.{Fits, HasCause, Query, sql_of, values_of};
 
 use super::first_row::first_row;
@@ -55,8 +53,8 @@ pub(crate) fn find<T: ByNumber, S: Alter>(
     no: u64,
 ) -> Result<Option<T>, OfficeFault>
     requires { no < 2 ^ 63 }
-    ensures looks { Looks (state S.Store conn.old) (state S.Store conn.new) result }
-    ensures answer { TellsStored (λ r found. T.is_found r no found) (state S.Store conn.old) (state S.Store conn.new) result }
+    ensures looks { OnlyLooks S.Store conn.old conn.new result }
+    ensures answer { TellsStored S.Store (λ r found. T.is_found r no found) conn.old conn.new result }
     ensures within { IfOk result (λ found. IfSome found T.is_within) }
     ensures told { IfErr result (HasCause S.Store conn.old conn.new) }
 {

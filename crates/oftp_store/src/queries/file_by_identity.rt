@@ -1,10 +1,8 @@
 //! Files by identity, and the next file for a partner.
 
 ghost use Rattle.std.specs.Prelude.{◌≡◌, ◌<◌, ◌^◌, IfOk, IfSome, IfErr};
-ghost use Rattle.sqlite.specs.Held.{state};
 ghost use Rattle.oftp_register.specs.LookUps.{IsIncomingWithin, IsOutgoingWithin, look_in, look_out, next_file};
-ghost use Rattle.oftp_tables.specs.Statements.{Looks};
-ghost use Rattle.oftp_store.specs.Tells.{Tells, TellsStored};
+ghost use Rattle.oftp_store.specs.Tells.{OnlyLooks, Tells, TellsStored};
 ghost use Rattle.oftp_store.specs.Causes.{HasCause};
 
 use super::file_by_number::{find_incoming_file, find_outgoing_file};
@@ -20,8 +18,8 @@ pub(crate) fn look_in<S: Alter>(
     conn: &mut Connection<S>,
     identity: &Identity,
 ) -> Result<Option<IncomingEntry>, OfficeFault>
-    ensures looks { Looks (state S.Store conn.old) (state S.Store conn.new) result }
-    ensures answer { Tells (λ r found. found ≡ look_in r identity.now) (state S.Store conn.old) (state S.Store conn.new) result }
+    ensures looks { OnlyLooks S.Store conn.old conn.new result }
+    ensures answer { Tells S.Store (λ r found. found ≡ look_in r identity.now) conn.old conn.new result }
     ensures within { IfOk result (λ found. IfSome found IsIncomingWithin) }
     ensures told { IfErr result (HasCause S.Store conn.old conn.new) }
 {
@@ -37,8 +35,8 @@ pub(crate) fn look_out<S: Alter>(
     conn: &mut Connection<S>,
     identity: &Identity,
 ) -> Result<Option<OutgoingEntry>, OfficeFault>
-    ensures looks { Looks (state S.Store conn.old) (state S.Store conn.new) result }
-    ensures answer { TellsStored (λ r found. found ≡ look_out r identity.now) (state S.Store conn.old) (state S.Store conn.new) result }
+    ensures looks { OnlyLooks S.Store conn.old conn.new result }
+    ensures answer { TellsStored S.Store (λ r found. found ≡ look_out r identity.now) conn.old conn.new result }
     ensures within { IfOk result (λ found. IfSome found IsOutgoingWithin) }
     ensures told { IfErr result (HasCause S.Store conn.old conn.new) }
 {
@@ -56,8 +54,8 @@ pub(crate) fn next_file<S: Alter>(
     tried: u64,
 ) -> Result<Option<OutgoingEntry>, OfficeFault>
     requires { tried < 2 ^ 63 }
-    ensures looks { Looks (state S.Store conn.old) (state S.Store conn.new) result }
-    ensures answer { TellsStored (λ r found. found ≡ next_file r partner.now tried) (state S.Store conn.old) (state S.Store conn.new) result }
+    ensures looks { OnlyLooks S.Store conn.old conn.new result }
+    ensures answer { TellsStored S.Store (λ r found. found ≡ next_file r partner.now tried) conn.old conn.new result }
     ensures within { IfOk result (λ found. IfSome found IsOutgoingWithin) }
     ensures told { IfErr result (HasCause S.Store conn.old conn.new) }
 {

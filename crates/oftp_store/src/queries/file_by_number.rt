@@ -1,12 +1,10 @@
 //! Entries of files, by number.
 
 ghost use Rattle.std.specs.Prelude.{◌≡◌, ◌≤◌, ◌<◌, ◌^◌, IfOk, IfSome, IfErr};
-ghost use Rattle.sqlite.specs.Held.{state};
 ghost use Rattle.oftp_register.specs.LookUps.{IsIncomingWithin, IsOutgoingWithin, in_by_no, out_by_no};
 ghost use Rattle.oftp_register.specs.Offices.{IsFailure};
-ghost use Rattle.oftp_tables.specs.Statements.{Looks};
 ghost use Rattle.oftp_store.specs.Reads.{incoming_entry_of, outgoing_entry_of};
-ghost use Rattle.oftp_store.specs.Tells.{Tells, TellsStored};
+ghost use Rattle.oftp_store.specs.Tells.{OnlyLooks, Tells, TellsStored};
 ghost use Rattle.oftp_store.specs.Causes.{HasCause};
 
 use super::by_number::find;
@@ -45,8 +43,8 @@ pub(crate) fn find_incoming_file<S: Alter>(
     no: u64,
 ) -> Result<Option<IncomingEntry>, OfficeFault>
     requires { no < 2 ^ 63 }
-    ensures looks { Looks (state S.Store conn.old) (state S.Store conn.new) result }
-    ensures answer { Tells (λ r found. found ≡ in_by_no r no) (state S.Store conn.old) (state S.Store conn.new) result }
+    ensures looks { OnlyLooks S.Store conn.old conn.new result }
+    ensures answer { Tells S.Store (λ r found. found ≡ in_by_no r no) conn.old conn.new result }
     ensures within { IfOk result (λ found. IfSome found IsIncomingWithin) }
     ensures told { IfErr result (HasCause S.Store conn.old conn.new) }
 {
@@ -92,8 +90,8 @@ pub(crate) fn find_outgoing_file<S: Alter>(
     no: u64,
 ) -> Result<Option<OutgoingEntry>, OfficeFault>
     requires { no < 2 ^ 63 }
-    ensures looks { Looks (state S.Store conn.old) (state S.Store conn.new) result }
-    ensures answer { TellsStored (λ r found. found ≡ out_by_no r no) (state S.Store conn.old) (state S.Store conn.new) result }
+    ensures looks { OnlyLooks S.Store conn.old conn.new result }
+    ensures answer { TellsStored S.Store (λ r found. found ≡ out_by_no r no) conn.old conn.new result }
     ensures within { IfOk result (λ found. IfSome found IsOutgoingWithin) }
     ensures told { IfErr result (HasCause S.Store conn.old conn.new) }
 {

@@ -1,18 +1,16 @@
 //! Queries of which only the first row is used.
 
 ghost use Rattle.std.specs.Prelude.{◌≡◌, ◌<◌, ◌^◌, IfOk, IfSome, IfErr, OnErr, ⊤};
-ghost use Rattle.sqlite.specs.Held.{state};
 ghost use Rattle.sqlite.specs.Values.{bound};
 ghost use Rattle.sqlite.specs.Order.{column};
 ghost use Rattle.oftp_register.specs.Offices.{IsFailure};
-ghost use Rattle.oftp_tables.specs.Statements.{Looks};
 ghost use Rattle.oftp_tables.specs.Tables.{number_value};
 ghost use Rattle.oftp_store.specs.Numbers.{TellsNo};
-ghost use Rattle.oftp_store.specs.Tells.{TellsFirst};
+ghost use Rattle.oftp_store.specs.Tells.{OnlyLooks, TellsFirst};
 ghost use Rattle.oftp_store.specs.Texts.{IsPlainText};
 ghost use Rattle.oftp_store.specs.Causes.{HasNumber, HasQueryCause};
 
-use crate::numbers::FIRST_FAR;
+use super::last_number::FIRST_FAR;
 use oftp_register::OfficeFault;
 use oftp_tables::{ask, no_at};
 use sqlite::types::ValueRef;
@@ -25,8 +23,8 @@ pub(crate) fn first_row<S: Alter>(
     params: &[ValueRef<'_>],
 ) -> Result<Option<Row>, OfficeFault>
     requires { IsPlainText sql.now }
-    ensures looks { Looks (state S.Store conn.old) (state S.Store conn.new) result }
-    ensures shown { TellsFirst sql.now (bound params.now) (λ first row. first ≡ row) (state S.Store conn.old) (state S.Store conn.new) result }
+    ensures looks { OnlyLooks S.Store conn.old conn.new result }
+    ensures shown { TellsFirst S.Store sql.now (bound params.now) (λ first row. first ≡ row) conn.old conn.new result }
     ensures told { IfErr result (HasQueryCause S.Store sql.now (bound params.now) (λ _. ⊤) conn.old conn.new) }
 {
     let rows = ask(conn, sql, params)?;
@@ -53,8 +51,8 @@ pub(crate) fn first_number<S: Alter>(
     params: &[ValueRef<'_>],
 ) -> Result<Option<u64>, OfficeFault>
     requires { IsPlainText sql.now }
-    ensures looks { Looks (state S.Store conn.old) (state S.Store conn.new) result }
-    ensures shown { TellsFirst sql.now (bound params.now) TellsNo (state S.Store conn.old) (state S.Store conn.new) result }
+    ensures looks { OnlyLooks S.Store conn.old conn.new result }
+    ensures shown { TellsFirst S.Store sql.now (bound params.now) TellsNo conn.old conn.new result }
     ensures small { IfOk result (λ found. IfSome found (λ no. no < 2 ^ 63)) }
     ensures told { IfErr result (HasQueryCause S.Store sql.now (bound params.now) HasNumber conn.old conn.new) }
 {

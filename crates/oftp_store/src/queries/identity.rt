@@ -1,13 +1,11 @@
 //! Files and received responses by identity.
 
 ghost use Rattle.std.specs.Prelude.{◌≡◌, ◌<◌, ◌^◌, IfOk, IfSome, IfErr};
-ghost use Rattle.sqlite.specs.Held.{state};
 ghost use Rattle.sqlite.specs.Values.{bound};
 ghost use Rattle.oftp_register.specs.Register.{has_received};
-ghost use Rattle.oftp_tables.specs.Statements.{Looks};
 ghost use Rattle.oftp_tables.specs.Tables.{identity_values};
 ghost use Rattle.oftp_store.specs.Numbers.{has_filed_text, file_number, file_number_text};
-ghost use Rattle.oftp_store.specs.Tells.{TellsStored};
+ghost use Rattle.oftp_store.specs.Tells.{OnlyLooks, TellsStored};
 ghost use Rattle.oftp_store.specs.Causes.{HasCause};
 
 use super::first_row::{first_number, first_row};
@@ -58,8 +56,8 @@ pub(crate) fn file_number<S: Alter>(
     side: Side,
     identity: &Identity,
 ) -> Result<Option<u64>, OfficeFault>
-    ensures looks { Looks (state S.Store conn.old) (state S.Store conn.new) result }
-    ensures answer { TellsStored (λ r no. no ≡ file_number r side identity.now) (state S.Store conn.old) (state S.Store conn.new) result }
+    ensures looks { OnlyLooks S.Store conn.old conn.new result }
+    ensures answer { TellsStored S.Store (λ r no. no ≡ file_number r side identity.now) conn.old conn.new result }
     ensures small { IfOk result (λ found. IfSome found (λ no. no < 2 ^ 63)) }
     ensures told { IfErr result (HasCause S.Store conn.old conn.new) }
 {
@@ -72,8 +70,8 @@ pub(crate) fn has_filed<S: Alter>(
     kind: ResponseKind,
     identity: &Identity,
 ) -> Result<bool, OfficeFault>
-    ensures looks { Looks (state S.Store conn.old) (state S.Store conn.new) result }
-    ensures answer { TellsStored (λ r there. there ≡ has_received r kind identity.now) (state S.Store conn.old) (state S.Store conn.new) result }
+    ensures looks { OnlyLooks S.Store conn.old conn.new result }
+    ensures answer { TellsStored S.Store (λ r there. there ≡ has_received r kind identity.now) conn.old conn.new result }
     ensures told { IfErr result (HasCause S.Store conn.old conn.new) }
 {
     let first = first_row(conn, has_filed_text(kind), &identity_values(identity))?;

@@ -10,6 +10,7 @@ ghost use Rattle.oftp_store.specs.Causes.{Fits, HasAnswer, PageIn};
 use super::by_number::ByNumber;
 use super::file_by_number::incoming_of;
 use super::header::IncomingHeader;
+use super::issued::issued_of;
 use super::last_number::Table;
 use super::lists::{Listed, is_null};
 use super::response::response_at;
@@ -64,12 +65,7 @@ fn issued_in(alloc: Global, row: &Row, no: u64) -> Result<Option<IssuedEntry>, O
         return Ok(None);
     };
     let header = IncomingHeader::from_row(alloc, row)?;
-    let file = header.file;
-    Ok(Some(IssuedEntry {
-        no,
-        identity: file.identity,
-        response,
-    }))
+    Ok(Some(issued_of(no, header, response)))
 }
 
 // One statement more counts the rows of each file.

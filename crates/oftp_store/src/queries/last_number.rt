@@ -1,18 +1,18 @@
-//! The last number in a table.
+//! The last number in a table, and the next.
 
 ghost use Rattle.std.specs.Prelude.{◌≡◌, ◌+◌, ◌≤◌, ◌<◌, ◌^◌, nat_le, Ok, Err, IfOk, IfErr};
-ghost use Rattle.sqlite.specs.Held.{state};
 ghost use Rattle.oftp_register.specs.Register.{Register};
 ghost use Rattle.oftp_register.specs.LookUps.{files_full};
-ghost use Rattle.oftp_tables.specs.Statements.{Looks};
 ghost use Rattle.oftp_store.specs.Numbers.{entries_in, last_text, table_of};
-ghost use Rattle.oftp_store.specs.Tells.{Tells, TellsStored};
+ghost use Rattle.oftp_store.specs.Tells.{OnlyLooks, Tells, TellsStored};
 ghost use Rattle.oftp_store.specs.Causes.{HasCause};
 
 use super::first_row::first_number;
-use crate::numbers::FIRST_FAR;
 use oftp_register::{OfficeFault, Side};
 use sqlite::{Alter, Connection};
+
+/// No entry has this number or a greater one, because SQLite's integers end below it.
+pub(crate) const FIRST_FAR: u64 = 1 << 63;
 
 /// A table whose entries are numbered from 1 on without gaps.
 #[derive(Clone, Copy, Debug, Drop, PartialEq, Eq)]
@@ -41,8 +41,8 @@ pub(crate) fn last_number<S: Alter>(
     conn: &mut Connection<S>,
     table: Table,
 ) -> Result<u64, OfficeFault>
-    ensures looks { Looks (state S.Store conn.old) (state S.Store conn.new) result }
-    ensures answer { TellsStored (λ r no. no ≡ entries_in r table) (state S.Store conn.old) (state S.Store conn.new) result }
+    ensures looks { OnlyLooks S.Store conn.old conn.new result }
+    ensures answer { TellsStored S.Store (λ r no. no ≡ entries_in r table) conn.old conn.new result }
     ensures small { IfOk result (λ no. no < 2 ^ 63) }
     ensures told { IfErr result (HasCause S.Store conn.old conn.new) }
 {
@@ -67,8 +67,8 @@ pub(crate) fn is_full<S: Alter>(
     side: Side,
     most: u64,
 ) -> Result<bool, OfficeFault>
-    ensures looks { Looks (state S.Store conn.old) (state S.Store conn.new) result }
-    ensures answer { Tells (λ r full. r.limits.files ≡ most → full ≡ files_full r side) (state S.Store conn.old) (state S.Store conn.new) result }
+    ensures looks { OnlyLooks S.Store conn.old conn.new result }
+    ensures answer { Tells S.Store (λ r full. r.limits.files ≡ most → full ≡ files_full r side) conn.old conn.new result }
     ensures told { IfErr result (HasCause S.Store conn.old conn.new) }
 {
     let last = last_number(conn, table_of(side))?;
@@ -96,8 +96,8 @@ pub(crate) fn new_number<S: Alter>(
     conn: &mut Connection<S>,
     table: Table,
 ) -> Result<u64, OfficeFault>
-    ensures looks { Looks (state S.Store conn.old) (state S.Store conn.new) result }
-    ensures answer { TellsStored (λ r no. no ≡ 1 + entries_in r table) (state S.Store conn.old) (state S.Store conn.new) result }
+    ensures looks { OnlyLooks S.Store conn.old conn.new result }
+    ensures answer { TellsStored S.Store (λ r no. no ≡ 1 + entries_in r table) conn.old conn.new result }
     ensures small { IfOk result (λ no. no < 2 ^ 63) }
     ensures told { IfErr result (HasCause S.Store conn.old conn.new) }
 {

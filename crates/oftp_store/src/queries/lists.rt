@@ -10,17 +10,15 @@ ghost use Rattle.sqlite.specs.State.{HasCleanDisk, Shown};
 ghost use Rattle.oftp_register.specs.Register.{Register};
 ghost use Rattle.oftp_register.specs.LookUps.{entry_at};
 ghost use Rattle.oftp_register.specs.Offices.{IsFailure};
-ghost use Rattle.oftp_tables.specs.Statements.{Looks};
 ghost use Rattle.oftp_tables.specs.Tables.{number_in, number_value};
 ghost use Rattle.oftp_store.specs.Numbers.{entries_in};
 ghost use Rattle.oftp_store.specs.Reads.{numbers_of};
-ghost use Rattle.oftp_store.specs.Tells.{FindsPages, LooksAtMost, Tells, listed};
+ghost use Rattle.oftp_store.specs.Tells.{FindsPages, LooksAtMost, OnlyLooks, Tells, listed};
 ghost use Rattle.oftp_store.specs.Texts.{IsPlainText};
 ghost use Rattle.oftp_store.specs.Causes.{HasCause, HasCauseWhere, HasRowCause, Query, sql_of, values_of};
 ghost use Rattle.oftp_store.specs.declared.queries.lists.TheConstants.{PAGE};
 
-use super::last_number::{Table, last_number};
-use crate::numbers::FIRST_FAR;
+use super::last_number::{FIRST_FAR, Table, last_number};
 use oftp_register::OfficeFault;
 use oftp_tables::{ask, no_at, number};
 use sqlite::types::ValueRef;
@@ -70,7 +68,7 @@ pub(crate) trait Listed: Sized {
     ) -> Result<Option<Self>, OfficeFault>
         requires { no < 2 ^ 63 }
         ensures looks { LooksAtMost S.Store conn.old conn.new result }
-        ensures answer { Tells (λ r found. no ≡ number_in (column row.now NUMBER) → found ≡ told r row.now) (state S.Store conn.old) (state S.Store conn.new) result }
+        ensures answer { Tells S.Store (λ r found. no ≡ number_in (column row.now NUMBER) → found ≡ told r row.now) conn.old conn.new result }
         ensures told { no ≡ number_in (column row.now NUMBER)
             → IfErr result (HasRowCause S.Store asked (λ r. entry_at no (items r) ≡ Some (told r row.now)) row.now conn.old conn.new) };
 }
@@ -119,10 +117,9 @@ fn find_page<E: Listed, S: Alter>(
     behind: u64,
 ) -> Result<Vec<Row>, OfficeFault>
     requires { behind < 2 ^ 63 }
-    ensures looks { Looks (state S.Store conn.old) (state S.Store conn.new) result }
-    ensures answer { Tells (λ r rows. map (E.told r) rows.items ≡ take PAGE (drop behind (E.items r))) (state S.Store conn.old) (state S.Store conn.new) result }
-    ensures numbers { Tells (λ r rows. map (λ row. number_in (column row E.NUMBER)) rows.items ≡ take PAGE (drop behind (numbers_of (E.items r))))
-        (state S.Store conn.old) (state S.Store conn.new) result }
+    ensures looks { OnlyLooks S.Store conn.old conn.new result }
+    ensures answer { Tells S.Store (λ r rows. map (E.told r) rows.items ≡ take PAGE (drop behind (E.items r))) conn.old conn.new result }
+    ensures numbers { Tells S.Store (λ r rows. map (λ row. number_in (column row E.NUMBER)) rows.items ≡ take PAGE (drop behind (numbers_of (E.items r)))) conn.old conn.new result }
     ensures shown { HasCleanDisk (state S.Store conn.new)
         → IfOk result (λ rows. Shown (sql_of E.asked) (number_value behind ∷ number_value PAGE ∷ []) (state S.Store conn.old) (state S.Store conn.new) rows.items) }
     ensures plain { IsPlainText (sql_of E.asked) }
@@ -140,8 +137,8 @@ fn add_page<E: Listed + Drop, S: Alter>(
     entries: &mut Vec<E>,
 ) -> Result<(), OfficeFault>
     requires { behind < 2 ^ 63 }
-    ensures looks { Looks (state S.Store conn.old) (state S.Store conn.new) result }
-    ensures answer { Tells (λ r _. entries.new.items ≡ entries.old.items ++ filter_map (λ item. item) (take PAGE (drop behind (E.items r)))) (state S.Store conn.old) (state S.Store conn.new) result }
+    ensures looks { OnlyLooks S.Store conn.old conn.new result }
+    ensures answer { Tells S.Store (λ r _. entries.new.items ≡ entries.old.items ++ filter_map (λ item. item) (take PAGE (drop behind (E.items r)))) conn.old conn.new result }
     ensures told { IfErr result (HasCauseWhere S.Store (λ r. length (E.items r) < 2 ^ 63) conn.old conn.new) }
 {
     let rows = find_page::<E, S>(conn, behind)?;
@@ -160,8 +157,8 @@ pub(crate) fn list<E: Listed + Drop, S: Alter>(
     alloc: Global,
     conn: &mut Connection<S>,
 ) -> Result<Vec<E>, OfficeFault>
-    ensures looks { Looks (state S.Store conn.old) (state S.Store conn.new) result }
-    ensures answer { Tells (λ r entries. entries.items ≡ E.entries r) (state S.Store conn.old) (state S.Store conn.new) result }
+    ensures looks { OnlyLooks S.Store conn.old conn.new result }
+    ensures answer { Tells S.Store (λ r entries. entries.items ≡ E.entries r) conn.old conn.new result }
     ensures told { IfErr result (HasCause S.Store conn.old conn.new) }
 {
     let last = last_number(conn, E::table())?;

@@ -1,10 +1,8 @@
 //! The number of what is sent next to a partner.
 
 ghost use Rattle.std.specs.Prelude.{◌≡◌, ◌<◌, ◌^◌, IfOk, IfErr, IfSome};
-ghost use Rattle.sqlite.specs.Held.{state};
-ghost use Rattle.oftp_tables.specs.Statements.{Looks};
 ghost use Rattle.oftp_store.specs.Numbers.{next_number, next_text};
-ghost use Rattle.oftp_store.specs.Tells.{TellsStored};
+ghost use Rattle.oftp_store.specs.Tells.{OnlyLooks, TellsStored};
 ghost use Rattle.oftp_store.specs.Causes.{HasCause};
 
 use super::first_row::first_number;
@@ -42,8 +40,8 @@ pub(crate) fn next_number<S: Alter>(
     tried: u64,
 ) -> Result<Option<u64>, OfficeFault>
     requires { tried < 2 ^ 63 }
-    ensures looks { Looks (state S.Store conn.old) (state S.Store conn.new) result }
-    ensures answer { TellsStored (λ r no. no ≡ next_number r what partner.now tried) (state S.Store conn.old) (state S.Store conn.new) result }
+    ensures looks { OnlyLooks S.Store conn.old conn.new result }
+    ensures answer { TellsStored S.Store (λ r no. no ≡ next_number r what partner.now tried) conn.old conn.new result }
     ensures small { IfOk result (λ found. IfSome found (λ no. no < 2 ^ 63)) }
     ensures told { IfErr result (HasCause S.Store conn.old conn.new) }
 {

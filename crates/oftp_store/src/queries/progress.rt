@@ -2,14 +2,12 @@
 
 ghost use Rattle.std.specs.Prelude.{◌≤◌, ◌<◌, ◌^◌, ℕ, ⊤, Option, None, IfOk, IfSome, IfErr};
 ghost use Rattle.sqlite.specs.Tree.{Trees};
-ghost use Rattle.sqlite.specs.Held.{state};
 ghost use Rattle.oftp_vfile.specs.declared.format.TheConstants.{MOST_ROWS};
 ghost use Rattle.oftp_register.specs.Register.{Register};
-ghost use Rattle.oftp_tables.specs.Statements.{Looks};
 ghost use Rattle.oftp_tables.specs.Tables.{Tables};
 ghost use Rattle.oftp_tables.proofs.SpotLemmas.{entry_far};
 ghost use Rattle.oftp_store.specs.FileProgress.{incoming_told, outgoing_told, response_told};
-ghost use Rattle.oftp_store.specs.Tells.{TellsStored};
+ghost use Rattle.oftp_store.specs.Tells.{OnlyLooks, TellsStored};
 ghost use Rattle.oftp_store.specs.Causes.{HasCause};
 
 use super::by_number::find;
@@ -34,8 +32,8 @@ pub(crate) trait Progress: Sized {
         no: u64,
     ) -> Result<Option<Self>, OfficeFault>
         requires { no < 2 ^ 63 }
-        ensures looks { Looks (state S.Store conn.old) (state S.Store conn.new) result }
-        ensures answer { TellsStored (λ r found. told r no found) (state S.Store conn.old) (state S.Store conn.new) result }
+        ensures looks { OnlyLooks S.Store conn.old conn.new result }
+        ensures answer { TellsStored S.Store (λ r found. told r no found) conn.old conn.new result }
         ensures within { IfOk result (λ found. IfSome found is_within) }
         ensures told { IfErr result (HasCause S.Store conn.old conn.new) };
 

@@ -1,9 +1,7 @@
 //! What a received response refers to.
 
 ghost use Rattle.std.specs.Prelude.{◌≡◌, IfErr};
-ghost use Rattle.sqlite.specs.Held.{state};
-ghost use Rattle.oftp_tables.specs.Statements.{Looks};
-ghost use Rattle.oftp_store.specs.Tells.{Tells};
+ghost use Rattle.oftp_store.specs.Tells.{OnlyLooks, Tells};
 ghost use Rattle.oftp_store.specs.ResponseMatches.{IsResponseMatchOf, Settles, is_awaiting};
 ghost use Rattle.oftp_store.specs.Causes.{HasCause};
 
@@ -37,10 +35,7 @@ pub(crate) enum ResponseMatch {
 fn is_awaiting(state: &OutgoingState) -> bool
     ensures { result ≡ is_awaiting state.now }
 {
-    match state {
-        OutgoingState::Closing | OutgoingState::Handed => true,
-        _ => false,
-    }
+    matches!(state, OutgoingState::Closing | OutgoingState::Handed)
 }
 
 /// The outgoing file with this identity, if it awaits a response.
@@ -49,8 +44,8 @@ pub(crate) fn find_settled_file<S: Alter>(
     conn: &mut Connection<S>,
     identity: &Identity,
 ) -> Result<Option<SettledFile>, OfficeFault>
-    ensures looks { Looks (state S.Store conn.old) (state S.Store conn.new) result }
-    ensures answer { Tells (λ r found. Settles r identity.now found) (state S.Store conn.old) (state S.Store conn.new) result }
+    ensures looks { OnlyLooks S.Store conn.old conn.new result }
+    ensures answer { Tells S.Store (λ r found. Settles r identity.now found) conn.old conn.new result }
     ensures told { IfErr result (HasCause S.Store conn.old conn.new) }
 {
     let Some(no) = file_number(conn, Side::Outgoing, identity)? else {
@@ -77,8 +72,8 @@ pub(crate) fn find_response_match<S: Alter>(
     kind: ResponseKind,
     identity: &Identity,
 ) -> Result<ResponseMatch, OfficeFault>
-    ensures looks { Looks (state S.Store conn.old) (state S.Store conn.new) result }
-    ensures answer { Tells (λ r found. IsResponseMatchOf r kind identity.now found) (state S.Store conn.old) (state S.Store conn.new) result }
+    ensures looks { OnlyLooks S.Store conn.old conn.new result }
+    ensures answer { Tells S.Store (λ r found. IsResponseMatchOf r kind identity.now found) conn.old conn.new result }
     ensures told { IfErr result (HasCause S.Store conn.old conn.new) }
 {
     if has_filed(conn, kind, identity)? {

@@ -2,14 +2,12 @@
 
 ghost use Rattle.std.specs.Prelude.{◌≡◌, ◌≤◌, ◌<◌, ◌^◌, map, take, drop, length, IfOk, IfErr};
 ghost use Rattle.std.specs.Option.{IsSomeAnd};
-ghost use Rattle.sqlite.specs.Held.{state};
 ghost use Rattle.sqlite.specs.Order.{bytes, column};
 ghost use Rattle.oftp_register.specs.LookUps.{AreRowsWithin, file_rows, rows_of};
 ghost use Rattle.oftp_vfile.specs.declared.format.TheConstants.{MOST_ROWS};
 ghost use Rattle.oftp_register.specs.Offices.{IsFailure};
-ghost use Rattle.oftp_tables.specs.Statements.{Looks};
 ghost use Rattle.oftp_store.specs.Reads.{TellsCount};
-ghost use Rattle.oftp_store.specs.Tells.{Tells, TellsStored};
+ghost use Rattle.oftp_store.specs.Tells.{OnlyLooks, Tells, TellsStored};
 ghost use Rattle.oftp_store.specs.Texts.{last_row_text, some_rows_text};
 ghost use Rattle.oftp_store.specs.Causes.{HasBody, HasCause, HasPosition, Misfits};
 
@@ -65,8 +63,8 @@ pub(crate) fn count_rows<S: Alter>(
     no: u64,
 ) -> Result<u32, OfficeFault>
     requires { no < 2 ^ 63 }
-    ensures looks { Looks (state S.Store conn.old) (state S.Store conn.new) result }
-    ensures answer { TellsStored (λ r count. count ≡ length (file_rows r side no)) (state S.Store conn.old) (state S.Store conn.new) result }
+    ensures looks { OnlyLooks S.Store conn.old conn.new result }
+    ensures answer { TellsStored S.Store (λ r count. count ≡ length (file_rows r side no)) conn.old conn.new result }
     ensures few { IfOk result (λ count. count ≤ MOST_ROWS) }
     ensures told { IfErr result (HasCause S.Store conn.old conn.new) }
 {
@@ -98,8 +96,8 @@ pub(crate) fn find_rows<S: Alter>(
     most: u32,
 ) -> Result<Vec<oftp_vfile::Row>, OfficeFault>
     requires { no < 2 ^ 63 }
-    ensures looks { Looks (state S.Store conn.old) (state S.Store conn.new) result }
-    ensures answer { TellsStored (λ r rows. rows.items ≡ take most (drop from (file_rows r side no))) (state S.Store conn.old) (state S.Store conn.new) result }
+    ensures looks { OnlyLooks S.Store conn.old conn.new result }
+    ensures answer { TellsStored S.Store (λ r rows. rows.items ≡ take most (drop from (file_rows r side no))) conn.old conn.new result }
     ensures told { IfErr result (HasCause S.Store conn.old conn.new) }
 {
     let rows = ask(conn, some_rows_text(side), params![number(no), from, most])?;
@@ -118,8 +116,8 @@ pub(crate) fn rows_of<S: Alter>(
 ) -> Result<Rows, OfficeFault>
     requires no { no < 2 ^ 63 }
     requires from { from ≤ MOST_ROWS }
-    ensures looks { Looks (state S.Store conn.old) (state S.Store conn.new) result }
-    ensures answer { Tells (λ r rows. rows ≡ rows_of r side no from most) (state S.Store conn.old) (state S.Store conn.new) result }
+    ensures looks { OnlyLooks S.Store conn.old conn.new result }
+    ensures answer { Tells S.Store (λ r rows. rows ≡ rows_of r side no from most) conn.old conn.new result }
     ensures within { IfOk result (AreRowsWithin from most) }
     ensures told { IfErr result (HasCause S.Store conn.old conn.new) }
 {

@@ -1,15 +1,13 @@
 //! The number of octets of a file.
 
 ghost use Rattle.std.specs.Prelude.{◌≡◌, ◌≤◌, ◌<◌, ◌+◌, ◌*◌, ◌^◌, length, IfOk, IfErr, IfSome};
-ghost use Rattle.sqlite.specs.Held.{state};
 ghost use Rattle.oftp_vfile.specs.declared.format.TheConstants.{LONGEST_RECORD};
 ghost use Rattle.oftp_vfile.specs.VirtualFile.{IsLongest, units_in};
 ghost use Rattle.oftp_register.specs.LookUps.{file_rows, units_of};
 ghost use Rattle.oftp_register.specs.Offices.{IsFailure};
 ghost use Rattle.oftp_register.specs.Units.{file_format, units_in_blocks, units_told};
 ghost use Rattle.oftp_register.specs.declared.fit.TheConstants.{MOST_UNITS};
-ghost use Rattle.oftp_tables.specs.Statements.{Looks};
-ghost use Rattle.oftp_store.specs.Tells.{Tells, TellsStored};
+ghost use Rattle.oftp_store.specs.Tells.{OnlyLooks, Tells, TellsStored};
 ghost use Rattle.oftp_store.specs.Causes.{HasCause, HasCauseWhere};
 
 use super::by_number::find;
@@ -49,8 +47,8 @@ fn count_octets<S: Alter>(
     no: u64,
 ) -> Result<u64, OfficeFault>
     requires { no < 2 ^ 63 }
-    ensures looks { Looks (state S.Store conn.old) (state S.Store conn.new) result }
-    ensures answer { Tells (λ r units. units ≡ units_in (file_rows r side no)) (state S.Store conn.old) (state S.Store conn.new) result }
+    ensures looks { OnlyLooks S.Store conn.old conn.new result }
+    ensures answer { Tells S.Store (λ r units. units ≡ units_in (file_rows r side no)) conn.old conn.new result }
     ensures within { IfOk result (λ units. units ≤ MOST_UNITS) }
     ensures told { IfErr result (HasCause S.Store conn.old conn.new) }
 {
@@ -72,8 +70,8 @@ fn count_records<S: Alter>(
 ) -> Result<u64, OfficeFault>
     requires no { no < 2 ^ 63 }
     requires longest { longest ≤ LONGEST_RECORD }
-    ensures looks { Looks (state S.Store conn.old) (state S.Store conn.new) result }
-    ensures answer { TellsStored (λ r units. units ≡ length (file_rows r side no) * longest) (state S.Store conn.old) (state S.Store conn.new) result }
+    ensures looks { OnlyLooks S.Store conn.old conn.new result }
+    ensures answer { TellsStored S.Store (λ r units. units ≡ length (file_rows r side no) * longest) conn.old conn.new result }
     ensures within { IfOk result (λ units. units ≤ MOST_UNITS) }
     ensures told { IfErr result (HasCause S.Store conn.old conn.new) }
 {
@@ -89,8 +87,8 @@ fn count_blocks<S: Alter>(
     no: u64,
 ) -> Result<u64, OfficeFault>
     requires { no < 2 ^ 63 }
-    ensures looks { Looks (state S.Store conn.old) (state S.Store conn.new) result }
-    ensures answer { TellsStored (λ r units. units ≡ units_in_blocks (file_rows r side no)) (state S.Store conn.old) (state S.Store conn.new) result }
+    ensures looks { OnlyLooks S.Store conn.old conn.new result }
+    ensures answer { TellsStored S.Store (λ r units. units ≡ units_in_blocks (file_rows r side no)) conn.old conn.new result }
     ensures within { IfOk result (λ units. units ≤ MOST_UNITS) }
     ensures told { IfErr result (HasCauseWhere S.Store (λ r. units_in_blocks (file_rows r side no) ≤ MOST_UNITS) conn.old conn.new) }
 {
@@ -111,8 +109,8 @@ fn count_in_format<S: Alter>(
 ) -> Result<u64, OfficeFault>
     requires no { no < 2 ^ 63 }
     requires longest { IsLongest format longest }
-    ensures looks { Looks (state S.Store conn.old) (state S.Store conn.new) result }
-    ensures answer { Tells (λ r units. units ≡ units_told format longest (file_rows r side no)) (state S.Store conn.old) (state S.Store conn.new) result }
+    ensures looks { OnlyLooks S.Store conn.old conn.new result }
+    ensures answer { Tells S.Store (λ r units. units ≡ units_told format longest (file_rows r side no)) conn.old conn.new result }
     ensures within { IfOk result (λ units. units ≤ MOST_UNITS) }
     ensures told { IfErr result (HasCauseWhere S.Store (λ r. units_told format longest (file_rows r side no) ≤ MOST_UNITS) conn.old conn.new) }
 {
@@ -131,8 +129,8 @@ fn find_format<S: Alter>(
     no: u64,
 ) -> Result<Option<(Format, u32)>, OfficeFault>
     requires { no < 2 ^ 63 }
-    ensures looks { Looks (state S.Store conn.old) (state S.Store conn.new) result }
-    ensures answer { TellsStored (λ r found. found ≡ file_format r side no) (state S.Store conn.old) (state S.Store conn.new) result }
+    ensures looks { OnlyLooks S.Store conn.old conn.new result }
+    ensures answer { TellsStored S.Store (λ r found. found ≡ file_format r side no) conn.old conn.new result }
     ensures within { IfOk result (λ found. IfSome found (λ format. IsLongest format.0 format.1)) }
     ensures told { IfErr result (HasCause S.Store conn.old conn.new) }
 {
@@ -157,8 +155,8 @@ pub(crate) fn count_units<S: Alter>(
     no: u64,
 ) -> Result<u64, OfficeFault>
     requires { no < 2 ^ 63 }
-    ensures looks { Looks (state S.Store conn.old) (state S.Store conn.new) result }
-    ensures answer { Tells (λ r units. units ≡ units_of r side no) (state S.Store conn.old) (state S.Store conn.new) result }
+    ensures looks { OnlyLooks S.Store conn.old conn.new result }
+    ensures answer { Tells S.Store (λ r units. units ≡ units_of r side no) conn.old conn.new result }
     ensures within { IfOk result (λ units. units ≤ MOST_UNITS) }
     ensures told { IfErr result (HasCause S.Store conn.old conn.new) }
 {

@@ -5,7 +5,7 @@ use super::hearing::{Line, call, caller, hear};
 use super::noting::Noting;
 use crate::given::{BOOK, FILE};
 use oftp_engine::{End, Operator, Role, RunFault, Submission, Told};
-use oftp_partners::read;
+use oftp_partners::{Book, read};
 use oftp_vfile::Format;
 use oftp_wire::Count;
 use std::alloc::{AllocError, Global};
@@ -149,31 +149,56 @@ fn next_looked_up_once(rt: HostRuntime) -> Result<(), Fail> {
 const ANSWERED: &[u8] =
     b"\x10\0\0\x17IODETTE FTP READY \r\x10\0\0\x41X5O0177CARMAKER            CARPW   00128BNYN002N            \r";
 
-/// However many files a session sends, the next response is looked for once.
-#[test]
-fn response_looked_for_once(rt: HostRuntime) -> Result<(), Fail> {
-    let mut office = Noting::new(rt.alloc(), None);
-    let book = read(rt.alloc(), BOOK)?;
-    let mut octets = ANSWERED.to_vec(rt.alloc())?;
-    for (no, time) in [(1, "1015300001"), (2, "1015300002"), (3, "1015300003")] {
-        let submit = Operator::Submit(Submission { time, ..FILE });
-        let told = call(
-            rt.alloc(),
-            &mut office,
-            &book,
-            &submit,
-            &mut Vec::new(rt.alloc()),
-        );
-        assert!(rt; told == Ok(Told::Done(no)));
+/// The octets of a partner that is called and takes this number of files.
+fn all_taken(alloc: Global, files: usize) -> Result<Vec<u8>, AllocError> {
+    let mut octets = ANSWERED.to_vec(alloc)?;
+    for _ in 0..files {
         octets.extend_from_slice(TAKEN)?;
     }
     octets.extend_from_slice(OVER)?;
-    let role = caller(&book, b"O0177CARMAKER")?;
+    Ok(octets)
+}
+
+/// Submits a file with this time, which gets this number.
+fn submit(
+    alloc: Global,
+    rt: &impl Abort,
+    office: &mut Noting,
+    book: &Book,
+    (no, time): (u64, &'static str),
+) {
+    let submit = Operator::Submit(Submission { time, ..FILE });
+    let told = call(alloc, office, book, &submit, &mut Vec::new(alloc));
+    assert!(rt; told == Ok(Told::Done(no)));
+}
+
+/// Calls the partner, which takes three files.
+fn send_three(
+    alloc: Global,
+    rt: &impl Abort,
+    office: &mut Noting,
+    book: &Book,
+) -> Result<(), Fail> {
+    let octets = all_taken(alloc, 3)?;
+    let role = caller(book, b"O0177CARMAKER")?;
     let line = Line::of(octets.as_slice());
-    let heard = hear(rt.alloc(), &mut office, &book, role, line, 1_000_000);
+    let heard = hear(alloc, office, book, role, line, 1_000_000);
     assert!(rt; heard.end == Ok(End::Partner(Count::new(0))));
     // SSID, three times SFID, DATA and EFID, and CD.
     assert_eq!(rt; heard.moved, 65 + 3 * (178 + 9 + 39) + 5);
+    Ok(())
+}
+
+/// However many files a session sends, the next response is looked for once.
+#[test]
+fn response_looked_for_once(rt: HostRuntime) -> Result<(), Fail> {
+    let alloc = rt.alloc();
+    let mut office = Noting::new(alloc, None);
+    let book = read(alloc, BOOK)?;
+    for file in [(1, "1015300001"), (2, "1015300002"), (3, "1015300003")] {
+        submit(alloc, &rt, &mut office, &book, file);
+    }
+    send_three(alloc, &rt, &mut office, &book)?;
     assert_eq!(rt; office.next, 1);
     Ok(())
 }

@@ -11,6 +11,7 @@ use oftp_partners::{Book, read};
 use oftp_session::Ending;
 use oftp_wire::Count;
 use std::alloc::{AllocError, Global};
+use std::process::Abort;
 use std::test::Fail;
 
 /// The result of a call, and the line that it wrote.
@@ -70,19 +71,35 @@ fn is_ended(talked: &Talked, said: &[u8]) -> bool {
 const HANDED: &str =
     "out 1 Handed 0 of 1 ABC 20240131 1015300001 O0013SUPPLIER O0177CARMAKER Unstructured 0 |ABC\n";
 
+// Submits the file.
+fn does_submit(alloc: Global, rt: &impl Abort, life: &mut Life<Noting>, book: &Book) {
+    let called = submit(alloc, life, book);
+    assert!(rt; is_done(&called, 1, b"done: submit 1\n"));
+}
+
+// Calls the partner, which takes the file.
+fn does_call(
+    alloc: Global,
+    rt: &impl Abort,
+    life: Life<Noting>,
+    book: &Book,
+) -> Result<Life<Noting>, Fail> {
+    let octets = joined(alloc, &[GREETING, TAKES])?;
+    let role = caller(book, b"O0177CARMAKER")?;
+    let (life, talked) = talk(alloc, life, book, role, octets.as_slice())?;
+    let said = joined(alloc, &[OFFER, SENT])?;
+    assert!(rt; is_ended(&talked, said.as_slice()));
+    Ok(life)
+}
+
 /// A file is submitted, and then the partner is called, which takes it.
 #[test]
 fn jobs_as_they_come(rt: HostRuntime) -> Result<(), Fail> {
     let alloc = rt.alloc();
     let book = read(alloc, BOOK)?;
     let mut life = Life::new(Noting::new(alloc, None));
-    let called = submit(alloc, &mut life, &book);
-    assert!(rt; is_done(&called, 1, b"done: submit 1\n"));
-    let octets = joined(alloc, &[GREETING, TAKES])?;
-    let role = caller(&book, b"O0177CARMAKER")?;
-    let (mut life, talked) = talk(alloc, life, &book, role, octets.as_slice())?;
-    let said = joined(alloc, &[OFFER, SENT])?;
-    assert!(rt; is_ended(&talked, said.as_slice()));
+    does_submit(alloc, &rt, &mut life, &book);
+    let mut life = does_call(alloc, &rt, life, &book)?;
     let left = snapshot(alloc, &mut life)?;
     assert_eq!(rt; left.as_str(), HANDED);
     Ok(())

@@ -5,8 +5,10 @@ use super::hearing::{Line, call, caller, hear};
 use super::noting::Noting;
 use super::stations::told;
 use oftp_engine::{End, Operator, Role, Told};
-use oftp_partners::read;
+use oftp_partners::{Book, read};
 use oftp_wire::SessionReason;
+use std::alloc::Global;
+use std::process::Abort;
 use std::test::Fail;
 
 /// The book of a supplier with two partners.
@@ -54,37 +56,42 @@ pub(crate) const SENT_AWAY: &[u8] = b"\x10\0\0\x0bF06000\r";
 /// The file to the car maker is handed over and not delivered. The third partner's own file of its name is there, and so is its response.
 const LEFT: &str = "out Handed 0\nin Whole 1 1\nreceived EndResponse\n";
 
+// Submits the file to the car maker.
+fn submit(alloc: Global, rt: &impl Abort, office: &mut Noting, book: &Book) {
+    let submit = Operator::Submit(THREE_OCTETS);
+    let done = call(alloc, office, book, &submit, &mut Vec::new(alloc));
+    assert!(rt; done == Ok(Told::Done(1)));
+}
+
+// Calls the car maker, which takes the file.
+fn hand_over(alloc: Global, office: &mut Noting, book: &Book) -> Result<(), Fail> {
+    let role = caller(book, b"O0177CARMAKER")?;
+    let octets = joined(alloc, &[GREETING, TAKES])?;
+    let line = Line::of(octets.as_slice());
+    let _ = hear(alloc, office, book, role, line, u64::MAX);
+    Ok(())
+}
+
+// The third partner calls, offers a file of the car maker's and its own, and answers the car maker's.
+fn lie(alloc: Global, rt: &impl Abort, office: &mut Noting, book: &Book) -> Result<(), Fail> {
+    let octets = joined(alloc, &[THIRD, ANOTHERS_FILE, OWN, ANOTHERS_ANSWER])?;
+    let said = joined(alloc, &[NOT_TAKEN, TAKEN, SENT_AWAY])?;
+    let line = Line::of(octets.as_slice());
+    let third = hear(alloc, office, book, Role::Responder, line, u64::MAX);
+    assert!(rt; third.end == Ok(End::Own(SessionReason::InvalidData)));
+    assert!(rt; third.said.as_slice() == said.as_slice());
+    Ok(())
+}
+
 /// A third partner sends no file under another one's code, and answers none that is for another one.
 #[test]
 fn third_partner_between(rt: HostRuntime) -> Result<(), Fail> {
     let alloc = rt.alloc();
     let book = read(alloc, BOOK_OF_TWO)?;
     let mut office = Noting::new(alloc, None);
-    let submit = Operator::Submit(THREE_OCTETS);
-    let done = call(alloc, &mut office, &book, &submit, &mut Vec::new(alloc));
-    assert!(rt; done == Ok(Told::Done(1)));
-    let role = caller(&book, b"O0177CARMAKER")?;
-    let octets = joined(alloc, &[GREETING, TAKES])?;
-    let _ = hear(
-        alloc,
-        &mut office,
-        &book,
-        role,
-        Line::of(octets.as_slice()),
-        u64::MAX,
-    );
-    let octets = joined(alloc, &[THIRD, ANOTHERS_FILE, OWN, ANOTHERS_ANSWER])?;
-    let third = hear(
-        alloc,
-        &mut office,
-        &book,
-        Role::Responder,
-        Line::of(octets.as_slice()),
-        u64::MAX,
-    );
-    assert!(rt; third.end == Ok(End::Own(SessionReason::InvalidData)));
-    let said = joined(alloc, &[NOT_TAKEN, TAKEN, SENT_AWAY])?;
-    assert!(rt; third.said.as_slice() == said.as_slice());
+    submit(alloc, &rt, &mut office, &book);
+    hand_over(alloc, &mut office, &book)?;
+    lie(alloc, &rt, &mut office, &book)?;
     let left = told(alloc, &mut office.office, THREE_OCTETS.content)?;
     assert_eq!(rt; left.as_str(), LEFT);
     Ok(())

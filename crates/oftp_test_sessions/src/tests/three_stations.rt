@@ -96,6 +96,15 @@ impl<O: Office> Station<'_, O> {
     }
 }
 
+// A station with this code and book, and an empty register.
+fn opened<'a>(alloc: Global, code: &'static [u8], book: &'a Book) -> Station<'a, PlainOffice> {
+    Station {
+        code,
+        book,
+        life: Life::new(PlainOffice::new(alloc, LIMITS)),
+    }
+}
+
 // Lets two stations talk until neither says more. At most so many octets go to the one that was called: then the connection breaks.
 fn talk<O: Office>(
     alloc: Global,
@@ -296,21 +305,9 @@ fn three_stations(rt: HostRuntime) -> Result<(), Fail> {
     let book_of_maker = read(alloc, BOOK_OF_MAKER)?;
     let book_of_third = read(alloc, BOOK_OF_THIRD)?;
     let three = Three {
-        supplier: Station {
-            code: b"O0013SUPPLIER",
-            book: &book,
-            life: Life::new(PlainOffice::new(alloc, LIMITS)),
-        },
-        maker: Station {
-            code: b"O0177CARMAKER",
-            book: &book_of_maker,
-            life: Life::new(PlainOffice::new(alloc, LIMITS)),
-        },
-        third: Station {
-            code: b"O0099OTHER",
-            book: &book_of_third,
-            life: Life::new(PlainOffice::new(alloc, LIMITS)),
-        },
+        supplier: opened(alloc, b"O0013SUPPLIER", &book),
+        maker: opened(alloc, b"O0177CARMAKER", &book_of_maker),
+        third: opened(alloc, b"O0099OTHER", &book_of_third),
     };
     play(alloc, &rt, three)
 }

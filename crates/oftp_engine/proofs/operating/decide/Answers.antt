@@ -11,4 +11,4 @@ returns-clause-does g c = λ clean stood fit verb.
     let old = g.O.Office.view c.args.office.now in
     let new = g.O.Office.view c.commit-made.new.self in
     subst (λ (r : Result Told RunFault). Attempts verb (λ (deed : Deed). deed ≡ makes verb c.args.no c.args.change old.register) old new r)
-    (sym c.told_of.ensures) (decides verb c.args.no c.args.change old new c.commit-made.result c.commit-made.ensures.commits clean stood fit)
+    (sym c.call_result.ensures) (decides verb c.args.no c.args.change old new c.commit-made.result c.commit-made.ensures.commits clean stood fit)

@@ -14,7 +14,7 @@ pub returns-clause-operates : goal.returns-clause-operates
 returns-clause-operates g c = λ clean stood.
     let contents = g.W.Write.contents in
     let old = c.args.writer.now in
-    let new = c.tell.new.writer in
-    let sent = subst (λ (verb : List ℕ). Sent contents old new (line_as verb c.in_ok-told.told) (is_ok c.tell.result)) c.verb.ensures.verb c.tell.ensures.sent in
-    operated contents old new (g.O.Office.view c.args.office.now) (g.O.Office.view c.attempt.new.office) c.args.book.now c.args.call.now c.in_ok-told.told c.tell.result
-    (g.met.O.Office.alone c.attempt.new.office clean) (c.in_ok-told.ensures.does clean stood) sent c.tell.ensures.told c.tell.ensures.err
+    let new = c.report_result.new.writer in
+    let sent = subst (λ (verb : List ℕ). Sent contents old new (line_as verb c.in_ok-told.told) (is_ok c.report_result.result)) c.verb.ensures.verb c.report_result.ensures.sent in
+    operated contents old new (g.O.Office.view c.args.office.now) (g.O.Office.view c.attempt.new.office) c.args.book.now c.args.call.now c.in_ok-told.told c.report_result.result
+    (g.met.O.Office.alone c.attempt.new.office clean) (c.in_ok-told.ensures.does clean stood) sent c.report_result.ensures.told c.report_result.ensures.writes.err

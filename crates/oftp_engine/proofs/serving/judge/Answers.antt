@@ -1,5 +1,7 @@
 use Rattle.oftp_wire.specs.declared.reason.SessionReason.TheVariants.{ProtocolViolation}
+use Rattle.oftp_engine.proofs.Behaving.{writes_err, writes_nothing, writes_ok}
 use Rattle.oftp_engine.proofs.Openings.{decided, made_ok, no_frame, sent_refusal, undecided}
+use Rattle.oftp_engine.proofs.Telling.{handed_on}
 use Rattle.oftp_engine.proofs.serving.judge.Goals as goal
 
 pub returns-in-Ok-None-clause-judges : goal.returns-in-Ok-None-clause-judges
@@ -21,3 +23,20 @@ returns-in_ok-end_with-in-Err-clause-judges g c = λ book octets before greeted.
     _ c.in-Err.ensures.value done.new.session done.new.port
     (made_ok done.result _ c.in_ok-end_with-in-Err.was
     (sent_refusal g.W.Write.contents c.args.writer.now done.new.port ProtocolViolation old done.new.session done.result done.ensures.setting done.ensures.over done.ensures.sent))
+
+pub returns-in-Ok-None-clause-writes : goal.returns-in-Ok-None-clause-writes
+returns-in-Ok-None-clause-writes g c = writes_nothing
+
+pub returns-in_ok-judge_octets-in-Ok-Some-clause-writes : goal.returns-in_ok-judge_octets-in-Ok-Some-clause-writes
+returns-in_ok-judge_octets-in-Ok-Some-clause-writes g c = writes_ok c.in_ok-judge_octets-in-Ok-Some.ensures.writes
+
+pub returns-in_err-judge_octets-in-Ok-Some-clause-writes : goal.returns-in_err-judge_octets-in-Ok-Some-clause-writes
+returns-in_err-judge_octets-in-Ok-Some-clause-writes g c =
+    writes_err c.in_err-judge_octets-in-Ok-Some.ensures.writes (handed_on _ _ c.from_residual.ensures.1)
+
+pub returns-in_ok-end_with-in-Err-clause-writes : goal.returns-in_ok-end_with-in-Err-clause-writes
+returns-in_ok-end_with-in-Err-clause-writes g c = writes_ok c.in_ok-end_with-in-Err.ensures.writes
+
+pub returns-in_err-end_with-in-Err-clause-writes : goal.returns-in_err-end_with-in-Err-clause-writes
+returns-in_err-end_with-in-Err-clause-writes g c =
+    writes_err c.in_err-end_with-in-Err.ensures.writes (handed_on _ _ c.from_residual-in_err-end_with-in-Err.ensures.1)

@@ -18,7 +18,7 @@ pieces-init g c =
     let first = scene g.W.Write.contents (g.O.Office.view c.args.office.now) c.args.writer.now in
     record {
       out = puts_none g.W.Write.contents c.args.writer.now;
-      told = refl;
+      faults = refl;
       unbroken = c.new-conversation.ensures.unbroken;
       clean = λ h. h;
       goes = record {
@@ -94,7 +94,7 @@ pieces-preserved g c =
     c.args.writer.now c.pieces.writer c.go_on.new.writer {after = c.go_on.new.self} c.pieces.invariant.goes c.go_on.ensures.clean c.in_ok-ending.ensures.goes in
     record {
       out = puts_on _ _ _ _ c.pieces.invariant.out c.go_on.ensures.out;
-      told = c.in_ok-ending.ensures.told ∙ c.pieces.invariant.told;
+      faults = c.in_ok-ending.ensures.told ∙ c.pieces.invariant.faults;
       unbroken = subst (λ (s : Seen). s.standing ≢ Broken) (sym c.in_ok-hear-in-Some-read.ensures.heard.seen) c.in_ok-ending.ensures.unbroken;
       clean = λ h. c.pieces.invariant.clean (c.go_on.ensures.clean h);
       goes = read_on g.R.Read.remaining c.args.reader.now c.pieces.reader c.read.new.self h.given c.read.new.piece c.in-Some-read.n

@@ -14,4 +14,4 @@ returns-clause-does g c = λ clean stood.
     let new = g.O.Office.view c.look_out-found.new.self in
     let big = cond (is_outgoing old.register c.args.identity.now) (refuses refusal.Duplicate) (refuses refusal.Limit) in
     subst (λ (r : Result Told RunFault). Attempts (codes "done: submit ") (λ (deed : Deed). deed ≡ big) old new r)
-    (sym c.told_of_big.ensures) (decides_big c.args.identity.now old new c.look_out-found.result c.look_out-found.ensures.looks clean stood)
+    (sym c.big_file_result.ensures) (decides_big c.args.identity.now old new c.look_out-found.result c.look_out-found.ensures.looks clean stood)

@@ -13,7 +13,7 @@ returns-in-Ok-clause-does g c = λ clean stood told file.
     let new = g.O.Office.view c.look_out-found.new.self in
     let s = c.args.submission.now in
     subst (λ (r : Result Told RunFault). Attempts (codes "done: submit ") (λ (deed : Deed). deed ≡ registered c.args.identity.now s c.args.rows old.register) old new r)
-    (sym c.told_of_number.ensures)
+    (sym c.new_file_result.ensures)
     (is_registered c.args.identity.now _ s c.args.description c.args.rows c.again.ensures told old mid _ new c.look_out-found.result c.in-Ok.ensures.commits
     c.look_out-found.ensures.looks clean stood file)
 
@@ -23,5 +23,5 @@ returns-in-Err-clause-does g c = λ clean stood told file.
     let mid = g.O.Office.view c.commit.new.self in
     let s = c.args.submission.now in
     subst (λ (r : Result Told RunFault). Attempts (codes "done: submit ") (λ (deed : Deed). deed ≡ registered c.args.identity.now s c.args.rows old.register) old mid r)
-    (sym c.told_of.ensures)
+    (sym c.call_result.ensures)
     (not_registered c.args.identity.now _ s c.args.description c.args.rows c.again.ensures told old mid c.in-Err.fault c.in-Err.ensures.commits clean stood file)

@@ -3,10 +3,10 @@
 ghost use Rattle.std.specs.Prelude.{◌≡◌, ◌≤◌, IfOk, IfSome, true};
 ghost use Rattle.oftp_register.specs.Register.{has_received};
 ghost use Rattle.oftp_register.specs.LookUps.{AreRowsWithin, IsIncomingWithin, IsItemWithin, IsOutgoingWithin, files_full, in_by_no, list_answered, list_in, list_issued, list_out, list_received, look_in, look_out, next_item, out_by_no, rows_of, units_of};
-ghost use Rattle.oftp_register.specs.Offices.{Commits, LooksUp};
+ghost use Rattle.oftp_register.specs.Offices.{Commits};
 ghost use Rattle.oftp_register.specs.declared.fit.TheConstants.{MOST_UNITS};
 ghost use Rattle.oftp_life.specs.Lives.{has_ceased};
-ghost use Rattle.oftp_life.specs.Looks.{IsSameSession, session_seen};
+ghost use Rattle.oftp_life.specs.Looks.{IsSameSession, SessionLooksUp, session_seen};
 
 use super::LifeSession;
 use crate::stage::{after_look, count, lost};
@@ -28,7 +28,7 @@ impl<O: Office> Office for LifeSession<'_, O> {
     }
 
     fn look_in(&mut self, identity: &Identity) -> Result<Option<IncomingEntry>, OfficeFault>
-        ensures looks { LooksUp (λ r found. found ≡ look_in r identity.now) (session_seen O.view self.old) (session_seen O.view self.new) result }
+        ensures looks { SessionLooksUp O.view (λ r found. found ≡ look_in r identity.now) self.old self.new result }
         ensures within { IfOk result (λ found. IfSome found IsIncomingWithin) }
         ensures idle { has_ceased self.old.stage ≡ true → result ≡ Err OfficeFault.Store }
         ensures same { IsSameSession self.old self.new }
@@ -43,7 +43,7 @@ impl<O: Office> Office for LifeSession<'_, O> {
     }
 
     fn look_out(&mut self, identity: &Identity) -> Result<Option<OutgoingEntry>, OfficeFault>
-        ensures looks { LooksUp (λ r found. found ≡ look_out r identity.now) (session_seen O.view self.old) (session_seen O.view self.new) result }
+        ensures looks { SessionLooksUp O.view (λ r found. found ≡ look_out r identity.now) self.old self.new result }
         ensures within { IfOk result (λ found. IfSome found IsOutgoingWithin) }
         ensures idle { has_ceased self.old.stage ≡ true → result ≡ Err OfficeFault.Store }
         ensures same { IsSameSession self.old self.new }
@@ -58,7 +58,7 @@ impl<O: Office> Office for LifeSession<'_, O> {
     }
 
     fn in_by_no(&mut self, no: u64) -> Result<Option<IncomingEntry>, OfficeFault>
-        ensures looks { LooksUp (λ r found. found ≡ in_by_no r no) (session_seen O.view self.old) (session_seen O.view self.new) result }
+        ensures looks { SessionLooksUp O.view (λ r found. found ≡ in_by_no r no) self.old self.new result }
         ensures within { IfOk result (λ found. IfSome found IsIncomingWithin) }
         ensures idle { has_ceased self.old.stage ≡ true → result ≡ Err OfficeFault.Store }
         ensures same { IsSameSession self.old self.new }
@@ -73,7 +73,7 @@ impl<O: Office> Office for LifeSession<'_, O> {
     }
 
     fn out_by_no(&mut self, no: u64) -> Result<Option<OutgoingEntry>, OfficeFault>
-        ensures looks { LooksUp (λ r found. found ≡ out_by_no r no) (session_seen O.view self.old) (session_seen O.view self.new) result }
+        ensures looks { SessionLooksUp O.view (λ r found. found ≡ out_by_no r no) self.old self.new result }
         ensures within { IfOk result (λ found. IfSome found IsOutgoingWithin) }
         ensures idle { has_ceased self.old.stage ≡ true → result ≡ Err OfficeFault.Store }
         ensures same { IsSameSession self.old self.new }
@@ -88,7 +88,7 @@ impl<O: Office> Office for LifeSession<'_, O> {
     }
 
     fn files_full(&mut self, side: Side) -> Result<bool, OfficeFault>
-        ensures looks { LooksUp (λ r full. full ≡ files_full r side) (session_seen O.view self.old) (session_seen O.view self.new) result }
+        ensures looks { SessionLooksUp O.view (λ r full. full ≡ files_full r side) self.old self.new result }
         ensures idle { has_ceased self.old.stage ≡ true → result ≡ Err OfficeFault.Store }
         ensures same { IsSameSession self.old self.new }
     {
@@ -102,7 +102,7 @@ impl<O: Office> Office for LifeSession<'_, O> {
     }
 
     fn has_received(&mut self, kind: ResponseKind, identity: &Identity) -> Result<bool, OfficeFault>
-        ensures looks { LooksUp (λ r there. there ≡ has_received r kind identity.now) (session_seen O.view self.old) (session_seen O.view self.new) result }
+        ensures looks { SessionLooksUp O.view (λ r there. there ≡ has_received r kind identity.now) self.old self.new result }
         ensures idle { has_ceased self.old.stage ≡ true → result ≡ Err OfficeFault.Store }
         ensures same { IsSameSession self.old self.new }
     {
@@ -121,7 +121,7 @@ impl<O: Office> Office for LifeSession<'_, O> {
         cursor: Cursor,
         files: bool,
     ) -> Result<Option<Item>, OfficeFault>
-        ensures looks { LooksUp (λ r item. item ≡ next_item r partner.now cursor files) (session_seen O.view self.old) (session_seen O.view self.new) result }
+        ensures looks { SessionLooksUp O.view (λ r item. item ≡ next_item r partner.now cursor files) self.old self.new result }
         ensures within { IfOk result (λ found. IfSome found IsItemWithin) }
         ensures idle { has_ceased self.old.stage ≡ true → result ≡ Err OfficeFault.Store }
         ensures same { IsSameSession self.old self.new }
@@ -136,7 +136,7 @@ impl<O: Office> Office for LifeSession<'_, O> {
     }
 
     fn rows_of(&mut self, side: Side, no: u64, from: u64, most: u64) -> Result<Rows, OfficeFault>
-        ensures looks { LooksUp (λ r rows. rows ≡ rows_of r side no from most) (session_seen O.view self.old) (session_seen O.view self.new) result }
+        ensures looks { SessionLooksUp O.view (λ r rows. rows ≡ rows_of r side no from most) self.old self.new result }
         ensures within { IfOk result (AreRowsWithin from most) }
         ensures idle { has_ceased self.old.stage ≡ true → result ≡ Err OfficeFault.Store }
         ensures same { IsSameSession self.old self.new }
@@ -151,7 +151,7 @@ impl<O: Office> Office for LifeSession<'_, O> {
     }
 
     fn units_of(&mut self, side: Side, no: u64) -> Result<u64, OfficeFault>
-        ensures looks { LooksUp (λ r units. units ≡ units_of r side no) (session_seen O.view self.old) (session_seen O.view self.new) result }
+        ensures looks { SessionLooksUp O.view (λ r units. units ≡ units_of r side no) self.old self.new result }
         ensures within { IfOk result (λ units. units ≤ MOST_UNITS) }
         ensures idle { has_ceased self.old.stage ≡ true → result ≡ Err OfficeFault.Store }
         ensures same { IsSameSession self.old self.new }
@@ -166,7 +166,7 @@ impl<O: Office> Office for LifeSession<'_, O> {
     }
 
     fn list_in(&mut self) -> Result<Vec<IncomingEntry>, OfficeFault>
-        ensures looks { LooksUp (λ r entries. entries.items ≡ list_in r) (session_seen O.view self.old) (session_seen O.view self.new) result }
+        ensures looks { SessionLooksUp O.view (λ r entries. entries.items ≡ list_in r) self.old self.new result }
         ensures idle { has_ceased self.old.stage ≡ true → result ≡ Err OfficeFault.Store }
         ensures same { IsSameSession self.old self.new }
     {
@@ -180,7 +180,7 @@ impl<O: Office> Office for LifeSession<'_, O> {
     }
 
     fn list_out(&mut self) -> Result<Vec<OutgoingEntry>, OfficeFault>
-        ensures looks { LooksUp (λ r entries. entries.items ≡ list_out r) (session_seen O.view self.old) (session_seen O.view self.new) result }
+        ensures looks { SessionLooksUp O.view (λ r entries. entries.items ≡ list_out r) self.old self.new result }
         ensures idle { has_ceased self.old.stage ≡ true → result ≡ Err OfficeFault.Store }
         ensures same { IsSameSession self.old self.new }
     {
@@ -194,7 +194,7 @@ impl<O: Office> Office for LifeSession<'_, O> {
     }
 
     fn list_issued(&mut self) -> Result<Vec<IssuedEntry>, OfficeFault>
-        ensures looks { LooksUp (λ r entries. entries.items ≡ list_issued r) (session_seen O.view self.old) (session_seen O.view self.new) result }
+        ensures looks { SessionLooksUp O.view (λ r entries. entries.items ≡ list_issued r) self.old self.new result }
         ensures idle { has_ceased self.old.stage ≡ true → result ≡ Err OfficeFault.Store }
         ensures same { IsSameSession self.old self.new }
     {
@@ -208,7 +208,7 @@ impl<O: Office> Office for LifeSession<'_, O> {
     }
 
     fn list_received(&mut self) -> Result<Vec<ReceivedEntry>, OfficeFault>
-        ensures looks { LooksUp (λ r entries. entries.items ≡ list_received r) (session_seen O.view self.old) (session_seen O.view self.new) result }
+        ensures looks { SessionLooksUp O.view (λ r entries. entries.items ≡ list_received r) self.old self.new result }
         ensures idle { has_ceased self.old.stage ≡ true → result ≡ Err OfficeFault.Store }
         ensures same { IsSameSession self.old self.new }
     {
@@ -222,7 +222,7 @@ impl<O: Office> Office for LifeSession<'_, O> {
     }
 
     fn list_answered(&mut self) -> Result<Vec<AnsweredEntry>, OfficeFault>
-        ensures looks { LooksUp (λ r entries. entries.items ≡ list_answered r) (session_seen O.view self.old) (session_seen O.view self.new) result }
+        ensures looks { SessionLooksUp O.view (λ r entries. entries.items ≡ list_answered r) self.old self.new result }
         ensures idle { has_ceased self.old.stage ≡ true → result ≡ Err OfficeFault.Store }
         ensures same { IsSameSession self.old self.new }
     {

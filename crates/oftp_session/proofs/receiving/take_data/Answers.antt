@@ -10,10 +10,10 @@ returns-then-is_too_long-clause-takes g c = λ clean stands f holds at.
 
 pub returns-in-Ok-clause-takes : goal.returns-in-Ok-clause-takes
 returns-in-Ok-clause-takes g c = λ clean stands f holds at.
-    data_takes c.args.contact f c.args.reception c.take.new.self c.args.payload.now _ _ _ _ holds at (sym c.is_too_long.ensures ∙ c.if-is_too_long.false) c.in-Ok.ensures.value
+    data_takes c.args.contact f c.args.incoming c.take.new.self c.args.payload.now _ _ _ _ holds at (sym c.is_too_long.ensures ∙ c.if-is_too_long.false) c.in-Ok.ensures.value
     (c.pass_window.ensures.takes clean stands)
 
 pub returns-in-Err-clause-takes : goal.returns-in-Err-clause-takes
 returns-in-Err-clause-takes g c = λ clean stands f holds at.
-    refused_takes c.args.contact f c.args.reception c.args.payload.now c.in-Err.fault _ _ _ stands holds at (sym c.is_too_long.ensures ∙ c.if-is_too_long.false)
+    refused_takes c.args.contact f c.args.incoming c.args.payload.now c.in-Err.fault _ _ _ stands holds at (sym c.is_too_long.ensures ∙ c.if-is_too_long.false)
     c.in-Err.ensures.refused c.refuse.ensures

@@ -17,15 +17,15 @@ returns-in-ListenerIdle-clause-recalls g c = λ clean stands p holds at so.
     let known = ap (λ (s : State). recalled_of (standing_of s)) c.in-ListenerIdle.is in
     so_after _ contact c.recalled.result old (g.O.Office.view c.in_listener_idle.new.office) c.in_listener_idle.new.frame c.in_listener_idle.result
     (listener_stays (setting_of c.args.setting) contact old.register c.args.command.now)
-    (so_recalled c.args.asks.now c.recalled.result (standing_of c.args.state) contact old.register known c.recalled.ensures so) (c.in_listener_idle.ensures.takes clean stands)
+    (so_recalled c.args.response_due.now c.recalled.result (standing_of c.args.state) contact old.register known c.recalled.ensures so) (c.in_listener_idle.ensures.takes clean stands)
 
 pub returns-in-Receiving-clause-takes : goal.returns-in-Receiving-clause-takes
 returns-in-Receiving-clause-takes g c = λ clean stands p holds at so.
     let old = g.O.Office.view c.args.office.now in
     let contact = c.in-Receiving.contact in
     let known = ap (λ (s : State). recalled_of (standing_of s)) c.in-Receiving.is in
-    let kept = so_recalled c.args.asks.now c.recalled.result (standing_of c.args.state) contact old.register known c.recalled.ensures so in
-    came_received (setting_of c.args.setting) p c.args.state contact c.in-Receiving.reception c.args.command.now old (g.O.Office.view c.in_receiving.new.office) c.in_receiving.new.frame
+    let kept = so_recalled c.args.response_due.now c.recalled.result (standing_of c.args.state) contact old.register known c.recalled.ensures so in
+    came_received (setting_of c.args.setting) p c.args.state contact c.in-Receiving.incoming c.args.command.now old (g.O.Office.view c.in_receiving.new.office) c.in_receiving.new.frame
     c.in_receiving.result c.in-Receiving.is at holds (λ f its tracks. c.in_receiving.ensures.takes kept clean stands f its tracks)
 
 pub returns-in-Receiving-clause-recalls : goal.returns-in-Receiving-clause-recalls
@@ -33,10 +33,10 @@ returns-in-Receiving-clause-recalls g c = λ clean stands p holds at so.
     let old = g.O.Office.view c.args.office.now in
     let contact = c.in-Receiving.contact in
     let known = ap (λ (s : State). recalled_of (standing_of s)) c.in-Receiving.is in
-    let kept = so_recalled c.args.asks.now c.recalled.result (standing_of c.args.state) contact old.register known c.recalled.ensures so in
-    let i = phase_received p contact c.in-Receiving.reception (subst (StandsIn p) (ap standing_of c.in-Receiving.is) at) in
+    let kept = so_recalled c.args.response_due.now c.recalled.result (standing_of c.args.state) contact old.register known c.recalled.ensures so in
+    let i = phase_received p contact c.in-Receiving.incoming (subst (StandsIn p) (ap standing_of c.in-Receiving.is) at) in
     let its = subst (λ (x : Phase). Holds x old.register) (sym i.1) holds in
-    so_after _ contact c.in_receiving.new.asks old (g.O.Office.view c.in_receiving.new.office) c.in_receiving.new.frame c.in_receiving.result
+    so_after _ contact c.in_receiving.new.response_due old (g.O.Office.view c.in_receiving.new.office) c.in_receiving.new.frame c.in_receiving.result
     (receiving_stays contact old.register i.0 c.args.command.now) (c.in_receiving.ensures.recalls clean stands kept) (c.in_receiving.ensures.takes kept clean stands i.0 its i.2)
 
 -- where the station speaks
@@ -45,11 +45,11 @@ returns-in-AwaitingStart-clause-recalls g c = λ clean stands p holds at so.
     let old = g.O.Office.view c.args.office.now in
     let contact = c.in-AwaitingStart.contact in
     let known = ap (λ (s : State). recalled_of (standing_of s)) c.in-AwaitingStart.is in
-    let i = phase_offered p contact c.in-AwaitingStart.offering (subst (StandsIn p) (ap standing_of c.in-AwaitingStart.is) at) in
+    let i = phase_offered p contact c.in-AwaitingStart.offered (subst (StandsIn p) (ap standing_of c.in-AwaitingStart.is) at) in
     let its = subst (λ (x : Phase). Holds x old.register) (sym i.1) holds in
     so_after _ contact c.recalled.result old (g.O.Office.view c.in_awaiting_start.new.office) c.in_awaiting_start.new.frame c.in_awaiting_start.result
     (offered_stays contact old.register i.0 c.args.command.now)
-    (so_recalled c.args.asks.now c.recalled.result (standing_of c.args.state) contact old.register known c.recalled.ensures so)
+    (so_recalled c.args.response_due.now c.recalled.result (standing_of c.args.state) contact old.register known c.recalled.ensures so)
     (c.in_awaiting_start.ensures.takes clean stands i.0 its i.2)
 
 pub returns-in-Sending-clause-recalls : goal.returns-in-Sending-clause-recalls
@@ -57,11 +57,11 @@ returns-in-Sending-clause-recalls g c = λ clean stands p holds at so.
     let old = g.O.Office.view c.args.office.now in
     let contact = c.in-Sending.contact in
     let known = ap (λ (s : State). recalled_of (standing_of s)) c.in-Sending.is in
-    let i = phase_sent p contact c.in-Sending.shipment (subst (StandsIn p) (ap standing_of c.in-Sending.is) at) in
+    let i = phase_sent p contact c.in-Sending.outgoing (subst (StandsIn p) (ap standing_of c.in-Sending.is) at) in
     let its = subst (λ (x : Phase). Holds x old.register) (sym i.1) holds in
     so_after _ contact c.recalled.result old (g.O.Office.view c.in_sending.new.office) c.in_sending.new.frame c.in_sending.result
     (sent_stays contact old.register i.0 c.args.command.now)
-    (so_recalled c.args.asks.now c.recalled.result (standing_of c.args.state) contact old.register known c.recalled.ensures so)
+    (so_recalled c.args.response_due.now c.recalled.result (standing_of c.args.state) contact old.register known c.recalled.ensures so)
     (c.in_sending.ensures.takes clean stands i.0 its i.2)
 
 pub returns-in-AwaitingEnd-clause-recalls : goal.returns-in-AwaitingEnd-clause-recalls
@@ -73,7 +73,7 @@ returns-in-AwaitingEnd-clause-recalls g c = λ clean stands p holds at so.
     let its = subst (λ (x : Phase). Holds x old.register) (sym i.1) holds in
     so_after _ contact c.recalled.result old (g.O.Office.view c.in_awaiting_end.new.office) c.in_awaiting_end.new.frame c.in_awaiting_end.result
     (ended_stays contact old.register i.0 c.args.command.now)
-    (so_recalled c.args.asks.now c.recalled.result (standing_of c.args.state) contact old.register known c.recalled.ensures so)
+    (so_recalled c.args.response_due.now c.recalled.result (standing_of c.args.state) contact old.register known c.recalled.ensures so)
     (c.in_awaiting_end.ensures.takes clean stands i.0 its i.2)
 
 -- where every command ends the session
@@ -84,15 +84,15 @@ returns-in-ResponderOpening-clause-recalls g c = λ clean stands p holds at so.
 -- before the session is open, and while RTR is missing
 pub returns-in-InitiatorOpening-clause-recalls : goal.returns-in-InitiatorOpening-clause-recalls
 returns-in-InitiatorOpening-clause-recalls g c = λ clean stands p holds at so.
-    forgotten_next c.args.asks.now c.recalled.result (standing_of c.args.state) (g.O.Office.view c.args.office.now).register
+    forgotten_next c.args.response_due.now c.recalled.result (standing_of c.args.state) (g.O.Office.view c.args.office.now).register
     (ap (λ (s : State). recalled_of (standing_of s)) c.in-InitiatorOpening.is) c.recalled.ensures (standing_of c.in_initiator_opening.result)
 
 pub returns-in-AwaitingSsid-clause-recalls : goal.returns-in-AwaitingSsid-clause-recalls
 returns-in-AwaitingSsid-clause-recalls g c = λ clean stands p holds at so.
-    forgotten_next c.args.asks.now c.recalled.result (standing_of c.args.state) (g.O.Office.view c.args.office.now).register
+    forgotten_next c.args.response_due.now c.recalled.result (standing_of c.args.state) (g.O.Office.view c.args.office.now).register
     (ap (λ (s : State). recalled_of (standing_of s)) c.in-AwaitingSsid.is) c.recalled.ensures (standing_of c.in_awaiting_ssid.result)
 
 pub returns-in-AwaitingRtr-clause-recalls : goal.returns-in-AwaitingRtr-clause-recalls
 returns-in-AwaitingRtr-clause-recalls g c = λ clean stands p holds at so.
-    forgotten_result c.args.asks.now c.recalled.result (standing_of c.args.state) (g.O.Office.view c.in_awaiting_rtr.new.office).register
+    forgotten_result c.args.response_due.now c.recalled.result (standing_of c.args.state) (g.O.Office.view c.in_awaiting_rtr.new.office).register
     (ap (λ (s : State). recalled_of (standing_of s)) c.in-AwaitingRtr.is) c.recalled.ensures c.in_awaiting_rtr.result

@@ -14,7 +14,7 @@ pub returns-in_err-make-in-Rtr-clause-takes : goal.returns-in_err-make-in-Rtr-cl
 returns-in_err-make-in-Rtr-clause-takes g c = λ clean stands holds.
     let old = g.O.Office.view c.args.office.now in
     let new = g.O.Office.view c.make.new.office in
-    subst (λ (x : Command). Takes (came_awaiting_rtr c.args.contact c.args.number x) old new c.hush.new.self c.from_residual.result) (sym c.in-Rtr.is)
+    subst (λ (x : Command). Takes (came_awaiting_rtr c.args.contact c.args.number x) old new c.clear.new.self c.from_residual.result) (sym c.in-Rtr.is)
     (passed_on _ old new _ c.in_err-make-in-Rtr.field-0.0 _ c.from_residual.ensures.1 (rtr_err c.args.contact c.args.number old new _ holds (c.in_err-make-in-Rtr.ensures.does clean stands)))
 
 pub returns-in_ok-make-in-Rtr-clause-takes : goal.returns-in_ok-make-in-Rtr-clause-takes
@@ -22,5 +22,5 @@ returns-in_ok-make-in-Rtr-clause-takes g c = λ clean stands holds.
     let old = g.O.Office.view c.args.office.now in
     let new = g.O.Office.view c.make.new.office in
     let to : Result State SessionFault = Ok (state.SpeakerIdle c.args.contact ChangeDirection) in
-    subst (λ (x : Command). Takes (came_awaiting_rtr c.args.contact c.args.number x) old new c.hush.new.self to) (sym c.in-Rtr.is)
-    (rtr_ok c.args.contact c.args.number old new c.hush.new.self holds c.hush.ensures (c.in_ok-make-in-Rtr.ensures.does clean stands))
+    subst (λ (x : Command). Takes (came_awaiting_rtr c.args.contact c.args.number x) old new c.clear.new.self to) (sym c.in-Rtr.is)
+    (rtr_ok c.args.contact c.args.number old new c.clear.new.self holds c.clear.ensures (c.in_ok-make-in-Rtr.ensures.does clean stands))

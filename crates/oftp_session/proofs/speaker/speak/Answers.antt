@@ -18,7 +18,7 @@ returns-clause-recalls g c = λ clean stands so.
     let old = view c.args.office.now in
     let before = c.on_item.ensures.clean clean in
     let found = c.in_ok-item.ensures.finds before stands so in
-    so_after (speaks setting c.args.contact c.args.done old.register) c.args.contact c.next.new.asks old (view c.on_item.new.office) c.on_item.new.frame c.on_item.result
+    so_after (speaks setting c.args.contact c.args.done old.register) c.args.contact c.next.new.response_due old (view c.on_item.new.office) c.on_item.new.frame c.on_item.result
     (speaks_stays setting c.args.contact c.args.done old.register) (c.in_ok-item.ensures.recalls before stands so)
     (speaks_takes setting c.args.contact c.args.done c.in_ok-item.item old (view c.next.new.self) (view c.on_item.new.office) c.on_item.new.frame
     c.on_item.result found.0 found.1 (c.on_item.ensures.takes clean found.1.stands))

@@ -1,7 +1,7 @@
 use Rattle.std.proofs.Common.{refl, sym, subst}
 use Rattle.oftp_engine.specs.Conversation.{Dialogue, HasHeard}
 use Rattle.oftp_engine.specs.Serving.{scene}
-use Rattle.oftp_engine.proofs.Served.{comes_failed, comes_whole, has_pumped}
+use Rattle.oftp_engine.proofs.Served.{comes_failed, comes_whole, has_driven}
 use Rattle.oftp_engine.proofs.Telling.{handed_on}
 use Rattle.oftp_engine.proofs.conversation.Conversation.go_on.Goals as goal
 
@@ -11,7 +11,7 @@ returns-clause-goes g c = λ clean first front setting given heard.
     let from = scene g.W.Write.contents (g.O.Office.view first) front in
     let h = subst (λ (talk : Dialogue). HasHeard setting given talk from old) (sym c.self.view_is) heard in
     comes_whole _ _ c.ending.ensures (c.in_ok-going.ensures.whole refl)
-    (has_pumped h (g.met.O.Office.alone c.pump.new.office clean) (c.in_ok-going.ensures.steps clean))
+    (has_driven h (g.met.O.Office.alone c.drive.new.office clean) (c.in_ok-going.ensures.steps clean))
 
 pub returns-in_err-going-clause-goes : goal.returns-in_err-going-clause-goes
 returns-in_err-going-clause-goes g c = λ clean first front setting given heard.
@@ -19,4 +19,4 @@ returns-in_err-going-clause-goes g c = λ clean first front setting given heard.
     let from = scene g.W.Write.contents (g.O.Office.view first) front in
     let h = subst (λ (talk : Dialogue). HasHeard setting given talk from old) (sym c.self.view_is) heard in
     comes_failed _ _ (handed_on _ _ c.from_residual.ensures.1)
-    (has_pumped h (g.met.O.Office.alone c.pump.new.office clean) (c.in_err-going.ensures.steps clean))
+    (has_driven h (g.met.O.Office.alone c.drive.new.office clean) (c.in_err-going.ensures.steps clean))

@@ -1,28 +1,15 @@
+use Rattle.std.proofs.Common.{◌∙◌, sym}
 use Rattle.oftp_store.proofs.ChangeLemmas.{begin_closing_is}
-use Rattle.oftp_store.proofs.CommitLemmas.{commits_allowed, passed_unfit, passed_unfound}
-use Rattle.oftp_store.proofs.CauseLemmas.{allowed_told, passed_told, refusal_told}
+use Rattle.oftp_store.proofs.MakingLemmas.{made_by_edits, made_unfit, made_unfound}
 use Rattle.oftp_store.proofs.changes.outgoing.begin_closing.Goals as goal
 
-pub returns-in_err-file-clause-commits : goal.returns-in_err-file-clause-commits
-returns-in_err-file-clause-commits g c = passed_unfound (begin_closing_is c.args.no) c.in_err-file.ensures.ends c.from_residual.ensures.1
+pub returns-in_err-file : goal.returns-in_err-file
+returns-in_err-file g c = made_unfound (begin_closing_is c.args.no) c.in_err-file.ensures.ends c.from_residual.ensures.1
 
-pub returns-in_err-allowed-clause-commits : goal.returns-in_err-allowed-clause-commits
-returns-in_err-allowed-clause-commits g c =
-    passed_unfit (begin_closing_is c.args.no) c.in_ok-file.ensures.found c.is_waiting.ensures c.in_err-allowed.ensures.err c.from_residual-in_err-allowed.ensures.1
+pub returns-then-not-is_waiting : goal.returns-then-not-is_waiting
+returns-then-not-is_waiting g c = made_unfit (begin_closing_is c.args.no) c.in_ok-file.ensures.found (sym c.is_waiting.ensures ∙ c.if-not-is_waiting.true)
 
-pub returns-clause-commits : goal.returns-clause-commits
-returns-clause-commits g c =
-    commits_allowed c.args.conn.now (begin_closing_is c.args.no) c.in_ok-file.ensures.found c.is_waiting.ensures c.in_ok-allowed.ensures.ok (rw c.outgoing_edit-edit.ensures at c.make_edits.ensures)
-
-pub returns-in_err-file-clause-told : goal.returns-in_err-file-clause-told
-returns-in_err-file-clause-told g c =
-    passed_told g.S.Store _ _ _ _ _ _ c.in_err-file.ensures.told c.from_residual.ensures.1
-
-pub returns-in_err-allowed-clause-told : goal.returns-in_err-allowed-clause-told
-returns-in_err-allowed-clause-told g c =
-    refusal_told g.S.Store _ _ _ _ _ _ c.in_err-allowed.ensures.err c.from_residual-in_err-allowed.ensures.1
-
-pub returns-clause-told : goal.returns-clause-told
-returns-clause-told g c =
-    allowed_told c.args.means.limits c.args.conn.now (begin_closing_is c.args.no) c.in_ok-file.ensures.found c.is_waiting.ensures c.in_ok-allowed.ensures.ok
+pub returns : goal.returns
+returns g c =
+    made_by_edits (begin_closing_is c.args.no) c.in_ok-file.ensures.found (sym c.is_waiting.ensures ∙ c.if-not-is_waiting.false)
     (rw c.outgoing_edit-edit.ensures at c.make_edits.ensures)

@@ -1,27 +1,15 @@
+use Rattle.std.proofs.Common.{◌∙◌, sym}
 use Rattle.oftp_store.proofs.ChangeLemmas.{reopen_is}
-use Rattle.oftp_store.proofs.CommitLemmas.{commits_allowed, passed_unfit, passed_unfound}
-use Rattle.oftp_store.proofs.CauseLemmas.{allowed_told, passed_told, refusal_told}
+use Rattle.oftp_store.proofs.MakingLemmas.{made_by_edits, made_unfit, made_unfound}
 use Rattle.oftp_store.proofs.changes.outgoing.reopen.Goals as goal
 
-pub returns-in_err-state-clause-commits : goal.returns-in_err-state-clause-commits
-returns-in_err-state-clause-commits g c = passed_unfound (reopen_is c.args.no) c.in_err-state.ensures.ends c.from_residual.ensures.1
+pub returns-in_err-state : goal.returns-in_err-state
+returns-in_err-state g c = made_unfound (reopen_is c.args.no) c.in_err-state.ensures.ends c.from_residual.ensures.1
 
-pub returns-in_err-allowed-clause-commits : goal.returns-in_err-allowed-clause-commits
-returns-in_err-allowed-clause-commits g c = passed_unfit (reopen_is c.args.no) c.in_ok-state.ensures.found c.is_closing.ensures c.in_err-allowed.ensures.err c.from_residual-in_err-allowed.ensures.1
+pub returns-then-not-is_closing : goal.returns-then-not-is_closing
+returns-then-not-is_closing g c = made_unfit (reopen_is c.args.no) c.in_ok-state.ensures.found (sym c.is_closing.ensures ∙ c.if-not-is_closing.true)
 
-pub returns-clause-commits : goal.returns-clause-commits
-returns-clause-commits g c =
-    commits_allowed c.args.conn.now (reopen_is c.args.no) c.in_ok-state.ensures.found c.is_closing.ensures c.in_ok-allowed.ensures.ok (rw c.outgoing_edit-edit.ensures at c.make_edits.ensures)
-
-pub returns-in_err-state-clause-told : goal.returns-in_err-state-clause-told
-returns-in_err-state-clause-told g c =
-    passed_told g.S.Store _ _ _ _ _ _ c.in_err-state.ensures.told c.from_residual.ensures.1
-
-pub returns-in_err-allowed-clause-told : goal.returns-in_err-allowed-clause-told
-returns-in_err-allowed-clause-told g c =
-    refusal_told g.S.Store _ _ _ _ _ _ c.in_err-allowed.ensures.err c.from_residual-in_err-allowed.ensures.1
-
-pub returns-clause-told : goal.returns-clause-told
-returns-clause-told g c =
-    allowed_told c.args.means.limits c.args.conn.now (reopen_is c.args.no) c.in_ok-state.ensures.found c.is_closing.ensures c.in_ok-allowed.ensures.ok
+pub returns : goal.returns
+returns g c =
+    made_by_edits (reopen_is c.args.no) c.in_ok-state.ensures.found (sym c.is_closing.ensures ∙ c.if-not-is_closing.false)
     (rw c.outgoing_edit-edit.ensures at c.make_edits.ensures)

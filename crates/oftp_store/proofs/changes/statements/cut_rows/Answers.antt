@@ -2,7 +2,7 @@ use Rattle.oftp_tables.proofs.BindLemmas.{number_bound}
 use Rattle.oftp_tables.proofs.PerformLemmas.{performs}
 use Rattle.oftp_store.specs.Edits.{Makes}
 use Rattle.oftp_store.specs.Texts.{cut_rows_text}
-use Rattle.oftp_store.specs.declared.changes.edit.Deed.TheVariants.{CutRows}
+use Rattle.oftp_store.specs.declared.changes.edit.EditKind.TheVariants.{CutRows}
 use Rattle.oftp_store.proofs.RowEditLemmas.{cut_params, rows_cut}
 use Rattle.oftp_store.proofs.changes.statements.cut_rows.Goals as goal
 

@@ -5,7 +5,7 @@ use Rattle.oftp_tables.proofs.BindLemmas.{count_bound, number_bound}
 use Rattle.oftp_tables.proofs.PerformLemmas.{performs}
 use Rattle.oftp_store.specs.Edits.{Makes}
 use Rattle.oftp_store.specs.Texts.{set_outgoing_text}
-use Rattle.oftp_store.specs.declared.changes.edit.Deed.TheVariants.{SetOutgoing}
+use Rattle.oftp_store.specs.declared.changes.edit.EditKind.TheVariants.{SetOutgoing}
 use Rattle.oftp_store.proofs.EditLemmas.{outgoing_set}
 use Rattle.oftp_store.proofs.changes.statements.set_outgoing.Goals as goal
 

@@ -4,7 +4,7 @@ use Rattle.oftp_tables.proofs.BindLemmas.{number_bound}
 use Rattle.oftp_tables.proofs.PerformLemmas.{performs}
 use Rattle.oftp_store.specs.Edits.{Makes}
 use Rattle.oftp_store.specs.Texts.{set_sent_text}
-use Rattle.oftp_store.specs.declared.changes.edit.Deed.TheVariants.{SetSent}
+use Rattle.oftp_store.specs.declared.changes.edit.EditKind.TheVariants.{SetSent}
 use Rattle.oftp_store.proofs.EditLemmas.{sent_set}
 use Rattle.oftp_store.proofs.changes.statements.set_sent.Goals as goal
 

@@ -4,7 +4,7 @@ use Rattle.oftp_tables.proofs.BindLemmas.{number_bound}
 use Rattle.oftp_tables.proofs.PerformLemmas.{performs}
 use Rattle.oftp_store.specs.Edits.{Makes}
 use Rattle.oftp_store.specs.Texts.{set_whole_text}
-use Rattle.oftp_store.specs.declared.changes.edit.Deed.TheVariants.{SetWhole}
+use Rattle.oftp_store.specs.declared.changes.edit.EditKind.TheVariants.{SetWhole}
 use Rattle.oftp_store.proofs.EditLemmas.{whole_set}
 use Rattle.oftp_store.proofs.changes.statements.set_whole.Goals as goal
 

@@ -1,3 +1,4 @@
+use Rattle.std.proofs.Common.{◌∙◌, Some, ap}
 use Rattle.oftp_store.proofs.CauseLemmas.{passed_after}
 use Rattle.oftp_store.proofs.ListLemmas.{issued_none, issued_some, issued_unknown}
 use Rattle.oftp_store.proofs.LookLemmas.{left_by}
@@ -18,5 +19,6 @@ returns-in_default-2-clause-answer g c clean has r kept sound =
 pub returns-clause-answer : goal.returns-clause-answer
 returns-clause-answer g c clean has r kept sound =
     let mid = left_by r _ _ _ _ _ c.in_ok-header.ensures.looks c.in_ok-response.ensures.looks clean has kept in
-    issued_some r c.args.no c.in-Some.header c.in-Some-2.response (rw c.in-Some.is at (c.in_ok-header.ensures.answer mid.clean has r kept))
+    ap Some c.issued_of.ensures
+    ∙ issued_some r c.args.no c.in-Some.header c.in-Some-2.response (rw c.in-Some.is at (c.in_ok-header.ensures.answer mid.clean has r kept))
     (rw c.in-Some-2.is at (c.in_ok-response.ensures.answer clean mid.schema r mid.tables sound))

@@ -1,8 +1,0 @@
-use Rattle.std.proofs.Common.{take}
-use Rattle.oftp_listing.proofs.ListedUnits.{IsAsked}
-use Rattle.oftp_listing.proofs.units.ask_each.Given as goal
-
--- the office was asked for the files so far
-abbrev pub invariant-loop-file : goal.invariant-loop-file
-invariant-loop-file g l =
-    IsAsked g.F.Measured.kind.entries g.F.Measured.kind.beside (g.O.Office.view l.fn.office) (g.O.Office.view l.office) l.files (take l.file-index l.files) l.numbers.items

@@ -1,0 +1,114 @@
+//! The command `run`, over sockets.
+
+use crate::services::{admission_of, station_of, trace_of};
+use oftp_channel::{Ending, READY};
+use oftp_command_line::Run;
+use oftp_database::{self as database, DatabaseOffice, PATIENCE};
+use oftp_files::read_book_octets;
+use oftp_life::Life;
+use oftp_listing::Site;
+use oftp_outcomes::Fault;
+use oftp_requests::{bare_answer, codes_of};
+use oftp_resident::{Bench, Kept, SessionLines, Start, serve};
+use oftp_schedule::connection::Counted;
+use oftp_sockets::{SocketPlace, Station, bound, socket_fault};
+use std::alloc::Global;
+use std::io::Write;
+use std::os::unix::net::UnixListener;
+
+/// For how many seconds a call is connected at most: the system has sent four SYNs by then.
+const DIALING: u64 = 15;
+
+/// How many commands wait to be accepted at most, as the system is set up by itself.
+const MOST_WAITING: u32 = 4_096;
+
+/// Serves partners and commands over the database, which stays open. Writes a line to `out` when it is ready, and one for each session.
+///
+/// # Errors
+/// [`Fault::Book`], [`Fault::File`], [`Fault::Store`] or [`Fault::Socket`] if the book, the trace, the database or a port can't be opened;
+/// those of [`serve`].
+pub fn run(rt: &HostRuntime, line: &Run<'_>, out: &mut impl Write) -> Result<(), Fault> {
+    let (octets, book) = read_book_octets(rt, line.files.book)?;
+    let life = database::live(rt, line.files.database, PATIENCE)?;
+    let trace = trace_of(rt, &line.files, &line.terms)?;
+    let station = station_of(&book, &line.terms, trace.as_ref());
+    run_over(rt, line, &station, octets.as_slice(), life, out)
+}
+
+/// A copy of a name, if there is one.
+fn name_of(alloc: Global, name: Option<&str>) -> Result<Option<String>, Fault> {
+    match name {
+        Some(name) => Ok(Some(String::from_str(alloc, name)?)),
+        None => Ok(None),
+    }
+}
+
+/// A name as text, if there is one.
+fn text_of(name: &Option<String>) -> Option<&str> {
+    match name {
+        Some(name) => Some(name.as_str()),
+        None => None,
+    }
+}
+
+/// Serves them in a life over the database. `octets` are the book's.
+fn run_over(
+    rt: &HostRuntime,
+    line: &Run<'_>,
+    station: &Station<'_>,
+    octets: &[u8],
+    life: Life<DatabaseOffice>,
+    out: &mut impl Write,
+) -> Result<(), Fault> {
+    let codes = codes_of(rt.alloc(), octets)?;
+    let host = name_of(rt.alloc(), line.host)?;
+    let partners = bound(rt, line.entrance.address, line.entrance.port)?;
+    let requests = match line.http_port {
+        0 => None,
+        port => Some(bound(rt, line.entrance.address, port)?),
+    };
+    let place = SocketPlace::beside(rt, line.files.database).map_err(|error| socket_fault(&error))?;
+    let commands = place.listen(rt).map_err(|error| socket_fault(&error))?;
+    let requests = requests.as_ref();
+    let host = text_of(&host);
+    let bench = Bench {
+        partners: Some(&partners),
+        commands: Some(&commands),
+        requests,
+        site: Site::Page(host),
+        places: u64::MAX,
+        admission: admission_of(&line.entrance, &line.terms),
+        dialing: DIALING,
+        codes: codes.as_slice(),
+        interval: line.interval,
+        start: Start::Waiting,
+        counted: Counted::Jobs,
+        jobs: line.jobs,
+    };
+    let ended = serve(
+        rt,
+        &bench,
+        station,
+        &mut Kept::new(life),
+        &mut SessionLines::new(out),
+    );
+    let _ = place.remove(rt);
+    dismiss(rt.alloc(), &commands);
+    ended
+}
+
+/// Answers each command that was never accepted that the station has ended, so that nothing of it was begun.
+fn dismiss(alloc: Global, commands: &UnixListener) {
+    let answer = bare_answer(alloc, Ending::Failed(Fault::Socket));
+    if commands.set_nonblocking(true).is_err() {
+        return;
+    }
+    for _ in 0..MOST_WAITING {
+        let Ok((socket, _)) = commands.accept() else {
+            return;
+        };
+        let mut socket = &socket;
+        let _ = socket.write(&[READY]);
+        let _ = socket.write(answer.as_slice());
+    }
+}

@@ -1,0 +1,278 @@
+//! The commands `listen`, `call` and `http`, over sockets.
+
+use oftp_channel::{Request, Tracing};
+use oftp_command_line::{Call, Entrance, Files, Http, Listen, SessionTerms};
+use oftp_commands::{Backing, Beside};
+use oftp_database::{self as database, Opened};
+use oftp_engine::{End, Refusal};
+use oftp_files::{Trace, book_of, open_trace, read_book, read_book_octets};
+use oftp_listing::Site;
+use oftp_outcomes::{Fault, Outcome, Trouble, Way, write_line};
+use oftp_partners::Book;
+use oftp_requests::{Backend, outcome_in};
+use oftp_resident::{Bench, Start, serve};
+use oftp_schedule::connection::Counted;
+use oftp_sockets::{Reporter, Station, bound};
+use std::io::{self, Write};
+
+/// The trace that the command line of a service asks for.
+///
+/// # Errors
+/// Those of [`open_trace`].
+pub(crate) fn trace_of<'a>(
+    rt: &'a HostRuntime,
+    files: &Files<'_>,
+    terms: &SessionTerms<'_>,
+) -> Result<Option<Trace<'a>>, Fault> {
+    open_trace(rt, terms.trace, &[files.book], Some(files.database))
+}
+
+/// How many seconds a caller has to be admitted, which is no longer than a session may take.
+pub(crate) fn admission_of(entrance: &Entrance<'_>, terms: &SessionTerms<'_>) -> u64 {
+    entrance.admission.min(terms.longest)
+}
+
+/// The settings for the sessions of a service.
+pub(crate) fn station_of<'a>(
+    book: &'a Book,
+    terms: &SessionTerms<'_>,
+    trace: Option<&'a Trace<'a>>,
+) -> Station<'a> {
+    Station {
+        book,
+        patience: terms.patience,
+        longest: terms.longest,
+        trace,
+    }
+}
+
+/// A service without doors, codes or a clock.
+fn idle_bench<'a>(jobs: u64) -> Bench<'a> {
+    Bench {
+        partners: None,
+        commands: None,
+        requests: None,
+        site: Site::Register,
+        places: 0,
+        admission: 0,
+        dialing: 0,
+        codes: &[],
+        interval: 0,
+        start: Start::Waiting,
+        counted: Counted::Jobs,
+        jobs,
+    }
+}
+
+/// The settings of a service without sessions.
+fn bare_station(book: &Book) -> Station<'_> {
+    Station {
+        book,
+        patience: 0,
+        longest: 0,
+        trace: None,
+    }
+}
+
+/// Serves the sessions of partners that call, and writes a line for each: its end to `out`, or its error to `err`.
+///
+/// # Errors
+/// [`Fault::Book`], [`Fault::File`], [`Fault::Store`] or [`Fault::Socket`] if the book, the trace, the database or the port can't be opened;
+/// those of [`serve`].
+pub fn listen(
+    rt: &HostRuntime,
+    line: &Listen<'_>,
+    out: &mut impl Write,
+    err: &mut impl Write,
+) -> Result<(), Fault> {
+    let book = read_book(rt, line.files.book)?;
+    database::make(rt, line.files.database)?;
+    let trace = trace_of(rt, &line.files, &line.terms)?;
+    let listener = bound(rt, line.entrance.address, line.entrance.port)?;
+    let bench = Bench {
+        partners: Some(&listener),
+        places: line.sessions,
+        admission: admission_of(&line.entrance, &line.terms),
+        ..idle_bench(line.sessions)
+    };
+    let station = station_of(&book, &line.terms, trace.as_ref());
+    serve_each(rt, &bench, &station, line.files.database, out, err)
+}
+
+/// Calls a partner for one session, or has the station call it.
+///
+/// # Errors
+/// [`Fault::Book`], [`Fault::File`], [`Fault::Store`] or [`Fault::Socket`] if the book, the trace, the database or the connection can't be
+/// opened; those of the session; [`Fault::Run`] if the station is gone.
+pub fn call<'a>(rt: &'a HostRuntime, line: &Call<'a>) -> Result<Outcome, Fault> {
+    let (octets, book) = read_book_octets(rt, line.files.book)?;
+    if book.partner(line.partner.as_bytes()).is_none() {
+        return Ok(Outcome::Refused(Refusal::Unknown));
+    }
+    match Backing::opened(rt, line.files.database, None)? {
+        Backing::Own(own) => {
+            drop(own);
+            call_alone(rt, line, &book)
+        }
+        Backing::Station(mut station) => call_by(rt, line, octets.as_slice(), &mut station),
+    }
+}
+
+/// Has the station call the partner.
+fn call_by(
+    rt: &HostRuntime,
+    line: &Call<'_>,
+    book: &[u8],
+    station: &mut Beside<'_>,
+) -> Result<Outcome, Fault> {
+    let trace = trace_of(rt, &line.files, &line.terms)?;
+    let mut lines = TraceLines {
+        trace: trace.as_ref(),
+    };
+    let request = Request::Call {
+        book,
+        partner: line.partner,
+        patience: line.terms.patience,
+        longest: line.terms.longest,
+        tracing: match &trace {
+            Some(_) => Tracing::Kept,
+            None => Tracing::None,
+        },
+    };
+    let asked = station.ask(&request, &mut lines);
+    outcome_in(asked)
+}
+
+/// Calls the partner, with a database that isn't locked.
+fn call_alone(rt: &HostRuntime, line: &Call<'_>, book: &Book) -> Result<Outcome, Fault> {
+    let trace = trace_of(rt, &line.files, &line.terms)?;
+    let station = station_of(book, &line.terms, trace.as_ref());
+    let code = String::from_str(rt.alloc(), line.partner)?;
+    let bench = Bench {
+        dialing: station.longest,
+        codes: &[code],
+        start: Start::Calling,
+        ..idle_bench(1)
+    };
+    let mut keeper = Opened::new(rt, line.files.database);
+    let mut ended = LastEnd { ended: None };
+    serve(rt, &bench, &station, &mut keeper, &mut ended)?;
+    match ended.ended {
+        Some(ended) => ended.map(Outcome::Ended),
+        None => Err(Fault::Socket),
+    }
+}
+
+/// A writer for the lines of a session's trace. Without a trace they are dropped.
+#[derive(Clone, Copy)]
+struct TraceLines<'a> {
+    trace: Option<&'a Trace<'a>>,
+}
+
+impl Write for TraceLines<'_> {
+    fn write(&mut self, lines: &[u8]) -> io::Result<usize> {
+        if let Some(trace) = self.trace {
+            trace.append(lines);
+        }
+        Ok(lines.len())
+    }
+
+    fn flush(&mut self) -> io::Result<()> {
+        Ok(())
+    }
+}
+
+/// A book without partners: nobody is served by it, and nobody called.
+const NOBODY: &[u8] = b"[station]\ncode = 'O'\nbuffer = 128\ncredit = 1\nrestart = false\n";
+
+/// Answers HTTP requests about a database. The error of one client is written to `err`.
+///
+/// # Errors
+/// [`Fault::Store`] or [`Fault::Socket`] if the database or the port can't be opened; those of [`serve`].
+pub fn http(
+    rt: &HostRuntime,
+    line: &Http<'_>,
+    out: &mut impl Write,
+    err: &mut impl Write,
+) -> Result<(), Fault> {
+    database::make(rt, line.database)?;
+    let listener = bound(rt, line.address, line.port)?;
+    let bench = Bench {
+        requests: Some(&listener),
+        counted: Counted::Connections,
+        ..idle_bench(line.requests)
+    };
+    let book = book_of(rt.alloc(), NOBODY)?;
+    serve_each(rt, &bench, &bare_station(&book), line.database, out, err)
+}
+
+/// Serves whoever comes, with a life over the database for each job.
+fn serve_each(
+    rt: &HostRuntime,
+    bench: &Bench<'_>,
+    station: &Station<'_>,
+    database: &str,
+    out: &mut impl Write,
+    err: &mut impl Write,
+) -> Result<(), Fault> {
+    let mut keeper = Opened::new(rt, database);
+    serve(rt, bench, station, &mut keeper, &mut EndLines { out, err })
+}
+
+/// Writes the end of each session to one output, and the error of each session or request to the other. That the error can't be written
+/// doesn't matter.
+#[derive(Drop)]
+struct EndLines<'w, W, E> {
+    out: &'w mut W,
+    err: &'w mut E,
+}
+
+impl<W: Write, E: Write> Reporter for EndLines<'_, W, E> {
+    fn begin(&mut self) -> Result<(), Fault> {
+        Ok(())
+    }
+
+    fn report(
+        &mut self,
+        _code: Option<&str>,
+        _way: Way,
+        ended: Result<End, Trouble>,
+    ) -> Result<(), Fault> {
+        match ended {
+            Ok(end) => write_line(self.out, &Outcome::Ended(end)),
+            Err(Trouble::OfJob(fault)) => {
+                self.refuse(fault);
+                Ok(())
+            }
+            Err(Trouble::OfService(fault)) => Err(fault),
+        }
+    }
+
+    fn refuse(&mut self, fault: Fault) {
+        let _ = write_line(self.err, &fault);
+    }
+}
+
+/// The end of the last session.
+#[derive(Clone, Copy)]
+struct LastEnd {
+    ended: Option<Result<End, Fault>>,
+}
+
+impl Reporter for LastEnd {
+    fn begin(&mut self) -> Result<(), Fault> {
+        Ok(())
+    }
+
+    fn report(
+        &mut self,
+        _code: Option<&str>,
+        _way: Way,
+        ended: Result<End, Trouble>,
+    ) -> Result<(), Fault> {
+        self.ended = Some(ended.map_err(Trouble::fault));
+        Ok(())
+    }
+
+    fn refuse(&mut self, _fault: Fault) {}
+}
