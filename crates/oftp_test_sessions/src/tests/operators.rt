@@ -94,36 +94,41 @@ const THIRD: Submission<'static> = Submission {
     ..FILE
 };
 
+const LIMITED: Told = Told::Refused(Refusal::Limit);
+const DOUBLED: Told = Told::Refused(Refusal::Duplicate);
+
+/// Before the file of very many records, which is made as the test runs, and after it.
+const BEFORE_MANY: [(Operator<'static>, &str, Told); 4] = [
+    (Operator::Submit(BIG), LIMIT, LIMITED),
+    (Operator::Submit(FILE), "done: submit 1\n", Told::Done(1)),
+    (Operator::Submit(BIG), DUPLICATE, DOUBLED),
+    (Operator::Submit(RECORDS), LIMIT, LIMITED),
+];
+
+const AFTER_MANY: [(Operator<'static>, &str, Told); 3] = [
+    (
+        Operator::Submit(VARIABLE),
+        "done: submit 2\n",
+        Told::Done(2),
+    ),
+    (Operator::Submit(VARIABLE), DUPLICATE, DOUBLED),
+    (Operator::Submit(THIRD), LIMIT, LIMITED),
+];
+
 /// The limits of octets, not counting the digits of V, of rows and of files. A duplicate is found before each.
 #[test]
 fn limits_of_files(rt: HostRuntime) -> Result<(), Fail> {
-    let digits = String::from_str(rt.alloc(), "00000")?.repeat(rt.alloc(), 1_000_001)?;
+    let alloc = rt.alloc();
+    let digits = String::from_str(alloc, "00000")?.repeat(alloc, 1_000_001)?;
     let many = Submission {
         content: digits.as_bytes(),
         ..VARIABLE
     };
-    let limit = Told::Refused(Refusal::Limit);
-    let duplicate = Told::Refused(Refusal::Duplicate);
-    let rows = [
-        (Operator::Submit(BIG), LIMIT, limit),
-        (Operator::Submit(FILE), "done: submit 1\n", Told::Done(1)),
-        (Operator::Submit(BIG), DUPLICATE, duplicate),
-        (Operator::Submit(RECORDS), LIMIT, limit),
-        (Operator::Submit(many), LIMIT, limit),
-        (
-            Operator::Submit(VARIABLE),
-            "done: submit 2\n",
-            Told::Done(2),
-        ),
-        (Operator::Submit(VARIABLE), DUPLICATE, duplicate),
-        (Operator::Submit(THIRD), LIMIT, limit),
-    ];
-    tells(
-        rt.alloc(),
-        &rt,
-        &mut Noting::over(PlainOffice::new(rt.alloc(), NARROW)),
-        &rows,
-    )
+    let mut office = Noting::over(PlainOffice::new(alloc, NARROW));
+    tells(alloc, &rt, &mut office, &BEFORE_MANY)?;
+    let rows = [(Operator::Submit(many), LIMIT, LIMITED)];
+    tells(alloc, &rt, &mut office, &rows)?;
+    tells(alloc, &rt, &mut office, &AFTER_MANY)
 }
 
 /// The store fails in the commit of a response or of a file, or in the look-up of a file that is too large. No line is written.

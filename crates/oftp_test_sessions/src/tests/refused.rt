@@ -110,28 +110,33 @@ const SENT: &[u8] = b"\x10\0\0\x41X5O0013SUPPLIER            SUPPW   00128BNYN00
 const HANDED: &str =
     "out 1 Handed 0 of 1 ABC 20240131 1015300001 O0013SUPPLIER O0177CARMAKER Unstructured 0 |abc\n";
 
+// Hands in a file of three octets. Where only its line was cut off, it is refused as a duplicate the second time.
+fn hand_in(alloc: Global, office: &mut Noting, book: &Book) {
+    let submit = Operator::Submit(Submission {
+        description: "",
+        ..FILE
+    });
+    for _ in 0..2 {
+        let _ = call(alloc, office, book, &submit, &mut Vec::new(alloc));
+    }
+}
+
+const THREE_OCTETS: Script<'static> = Script {
+    heard: CALLED,
+    said: SENT,
+    end: End::Partner(Count::new(0)),
+    left: HANDED,
+};
+
 /// A file of three octets goes out.
 #[test]
 fn three_octets_out(rt: HostRuntime) -> Result<(), Fail> {
     let alloc = rt.alloc();
     let book = book_again(alloc)?;
     let mut office = Noting::new(alloc, None);
-    let submit = Operator::Submit(Submission {
-        description: "",
-        ..FILE
-    });
-    // it is refused as a duplicate where only its line was cut off
-    for _ in 0..2 {
-        let _ = call(alloc, &mut office, &book, &submit, &mut Vec::new(alloc));
-    }
+    hand_in(alloc, &mut office, &book);
     let role = caller(&book, b"O0177CARMAKER")?;
-    let script = Script {
-        heard: CALLED,
-        said: SENT,
-        end: End::Partner(Count::new(0)),
-        left: HANDED,
-    };
-    take(alloc, &rt, &mut office, &book, role, &script)
+    take(alloc, &rt, &mut office, &book, role, &THREE_OCTETS)
 }
 
 /// The partner's SSID, and SFID of a file of three blocks up to its restart position.
@@ -213,35 +218,63 @@ fn kept(alloc: Global, state: &str, rows: &[&[u8]]) -> Result<String, AllocError
     Ok(text)
 }
 
-/// A file of 2,500 octets comes. The connection breaks after nine CDT, and the second session goes on at the third row.
-#[test]
-fn broken_and_taken_up(rt: HostRuntime) -> Result<(), Fail> {
-    let alloc = rt.alloc();
-    let book = book_again(alloc)?;
-    let mut office = Noting::new(alloc, None);
-    let content = content_of(alloc)?;
-    let content = content.as_slice();
-    let mut rows = content.chunks(1024);
-    let (Some(first), Some(second), Some(third)) = (rows.next(), rows.next(), rows.next()) else {
-        return Err("the file is too short".into());
-    };
-    let role = Role::Responder;
+// The connection breaks after nine CDT, when two rows are stored.
+fn break_off(
+    alloc: Global,
+    rt: &impl Abort,
+    office: &mut Noting,
+    book: &Book,
+    content: &[u8],
+    rows: &[&[u8]],
+) -> Result<(), Fail> {
     let heard = offer(alloc, FROM_0, content, 18, b"")?;
-    let left = kept(alloc, "Open", &[first, second])?;
+    let left = kept(alloc, "Open", rows)?;
     let script = Script {
         heard: heard.as_slice(),
         said: NINE,
         end: End::Input,
         left: left.as_str(),
     };
-    take(alloc, &rt, &mut office, &book, role, &script)?;
-    let heard = offer(alloc, FROM_2, third, 4, ENDED)?;
-    let left = kept(alloc, "Whole", &[first, second, third])?;
+    take(alloc, rt, office, book, Role::Responder, &script)
+}
+
+// The next session begins at the third row, and the file is whole.
+fn take_up(
+    alloc: Global,
+    rt: &impl Abort,
+    office: &mut Noting,
+    book: &Book,
+    rest: &[u8],
+    rows: &[&[u8]],
+) -> Result<(), Fail> {
+    let heard = offer(alloc, FROM_2, rest, 4, ENDED)?;
+    let left = kept(alloc, "Whole", rows)?;
     let script = Script {
         heard: heard.as_slice(),
         said: TWO,
         end: End::Partner(Count::new(0)),
         left: left.as_str(),
     };
-    take(alloc, &rt, &mut office, &book, role, &script)
+    take(alloc, rt, office, book, Role::Responder, &script)
+}
+
+// Both sessions, over this content of three rows.
+fn play(alloc: Global, rt: &impl Abort, book: &Book, content: &[u8]) -> Result<(), Fail> {
+    let mut rows = content.chunks(1024);
+    let (Some(first), Some(second), Some(third)) = (rows.next(), rows.next(), rows.next()) else {
+        return Err("the file is too short".into());
+    };
+    let mut office = Noting::new(alloc, None);
+    break_off(alloc, rt, &mut office, book, content, &[first, second])?;
+    let rows = [first, second, third];
+    take_up(alloc, rt, &mut office, book, third, &rows)
+}
+
+/// A file of 2,500 octets comes. The connection breaks after nine CDT, and the second session goes on at the third row.
+#[test]
+fn broken_and_taken_up(rt: HostRuntime) -> Result<(), Fail> {
+    let alloc = rt.alloc();
+    let book = book_again(alloc)?;
+    let content = content_of(alloc)?;
+    play(alloc, &rt, &book, content.as_slice())
 }

@@ -140,6 +140,34 @@ impl Station<'_> {
     }
 }
 
+// For each incoming file the state, the number of rows, and how many of them are the content's.
+fn add_incoming(
+    text: &mut String,
+    office: &mut PlainOffice,
+    content: &[u8],
+) -> Result<(), Fail> {
+    for file in office.list_in()? {
+        let rows = office.rows_of(Side::Incoming, file.no, 0, file.rows)?;
+        let mut same = 0u64;
+        for (row, octets) in rows.as_slice().iter().zip(content.chunks(1024)) {
+            same = same.wrapping_add(u64::from(row.octets() == octets));
+        }
+        writeln!(text, "in {:?} {} {same}", file.state, file.rows)?;
+    }
+    Ok(())
+}
+
+fn add_responses(text: &mut String, office: &mut PlainOffice) -> Result<(), Fail> {
+    for issued in office.list_issued()? {
+        let response = issued.response;
+        writeln!(text, "issued {:?} {:?}", response.kind, response.dispatch)?;
+    }
+    for received in office.list_received()? {
+        writeln!(text, "received {:?}", received.response.kind)?;
+    }
+    Ok(())
+}
+
 /// A register as text: for each outgoing file the state and the mark, for each incoming one the state, the number of rows, and how many of
 /// them are the file's.
 pub(crate) fn told(
@@ -151,30 +179,28 @@ pub(crate) fn told(
     for file in office.list_out()? {
         writeln!(text, "out {:?} {}", file.state, file.mark)?;
     }
-    for file in office.list_in()? {
-        let rows = office.rows_of(Side::Incoming, file.no, 0, file.rows)?;
-        let mut same = 0u64;
-        for (row, octets) in rows.as_slice().iter().zip(content.chunks(1024)) {
-            same = same.wrapping_add(u64::from(row.octets() == octets));
-        }
-        writeln!(text, "in {:?} {} {same}", file.state, file.rows)?;
-    }
-    for issued in office.list_issued()? {
-        let response = issued.response;
-        writeln!(text, "issued {:?} {:?}", response.kind, response.dispatch)?;
-    }
-    for received in office.list_received()? {
-        writeln!(text, "received {:?}", received.response.kind)?;
-    }
+    add_incoming(&mut text, office, content)?;
+    add_responses(&mut text, office)?;
     Ok(text)
+}
+
+// What one says where it has heard this, and the other's answer.
+fn exchange(
+    alloc: Global,
+    one: &Station<'_>,
+    other: &Station<'_>,
+    heard: &[u8],
+) -> Result<(Vec<u8>, Vec<u8>), Fail> {
+    let said = one.play(alloc, heard)?.said;
+    let answer = other.play(alloc, said.as_slice())?.said;
+    Ok((said, answer))
 }
 
 /// A session that doesn't break: each station receives the whole output of the other. It is repeated until neither sends more.
 fn converse(alloc: Global, one: &mut Station<'_>, other: &mut Station<'_>) -> Result<(), Fail> {
     let mut heard = Vec::new(alloc);
     for _ in 0..99 {
-        let said = one.play(alloc, heard.as_slice())?.said;
-        let answer = other.play(alloc, said.as_slice())?.said;
+        let (said, answer) = exchange(alloc, one, other, heard.as_slice())?;
         if answer.len() == heard.len() {
             one.heard.push(heard)?;
             other.heard.push(said)?;

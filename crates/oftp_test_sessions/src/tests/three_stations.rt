@@ -27,7 +27,7 @@ const BOOK_OF_THIRD: &str =
       [[partner]]\ncode = 'O0013SUPPLIER'\nexpects = 'SUPPW'\nsends = 'OTHERPW'\nmode = 'B'\naddress = '127.0.0.1:3305'\n";
 
 /// A file of the first car maker's. Its first record fits into one DATA, and its three records into three.
-const LONG: Submission<'static> = Submission {
+const LONG: Operator<'static> = Operator::Submit(Submission {
     to: "O0013SUPPLIER",
     format: Format::Variable,
     longest: 120,
@@ -36,27 +36,27 @@ const LONG: Submission<'static> = Submission {
       00120bbbbbbbbbbbbbbbbbbbbbbbbbbbbbbbbbbbbbbbbbbbbbbbbbbbbbbbbbbbbbbbbbbbbbbbbbbbbbbbbbbbbbbbbbbbbbbbbbbbbbbbbbbbbbbbbbbbbbbbb\
       00020the rest of the file",
     ..FILE
-};
+});
 
-const OF_THIRD: Submission<'static> = Submission {
+const OF_THIRD: Operator<'static> = Operator::Submit(Submission {
     to: "O0013SUPPLIER",
     description: "",
     content: b"of the third",
     ..FILE
-};
+});
 
-const FOR_MAKER: Submission<'static> = Submission {
+const FOR_MAKER: Operator<'static> = Operator::Submit(Submission {
     description: "",
     content: b"for the maker",
     ..FILE
-};
+});
 
-const FOR_THIRD: Submission<'static> = Submission {
+const FOR_THIRD: Operator<'static> = Operator::Submit(Submission {
     to: "O0099OTHER",
     description: "",
     content: b"for the third",
     ..FILE
-};
+});
 
 /// More octets than a session has.
 const ALL: usize = 9_999;
@@ -176,14 +176,10 @@ struct Three<'a, O: Office> {
 
 // Each hands in what it has to send.
 fn submit<O: Office>(alloc: Global, rt: &impl Abort, three: &mut Three<'_, O>) {
-    three
-        .supplier
-        .does(alloc, rt, &Operator::Submit(FOR_MAKER), 1);
-    three
-        .supplier
-        .does(alloc, rt, &Operator::Submit(FOR_THIRD), 2);
-    three.maker.does(alloc, rt, &Operator::Submit(LONG), 1);
-    three.third.does(alloc, rt, &Operator::Submit(OF_THIRD), 1);
+    three.supplier.does(alloc, rt, &FOR_MAKER, 1);
+    three.supplier.does(alloc, rt, &FOR_THIRD, 2);
+    three.maker.does(alloc, rt, &LONG, 1);
+    three.third.does(alloc, rt, &OF_THIRD, 1);
 }
 
 // The supplier gets a part of the first car maker's file. Then the second one lies.
