@@ -1,14 +1,20 @@
 #!/bin/bash
-# Tries the edit of checks/wrong_bodies/oftp_wire/frame_held_over_feed.md on a copy of the repository: the borrow checker must refuse
-# it. As a control, the same edit with the frame used before `feed` must pass the borrow checker.
+# Tries the edit of checks/wrong_bodies/oftp_codec/frame_held_over_feed.md on a copy of what it needs: the borrow checker must refuse it. As a control, the same edit with the frame used before `feed` must pass the borrow checker.
 set -euo pipefail
 root=$(cd "$(dirname "$0")/../.." && pwd)
 room=$(mktemp -d)
 trap 'rm -rf "$room"' EXIT
-echo 'oftp_wire:' > "$room/crates.txt"
-(cd "$root" && find crates/oftp_wire -name out -prune -o -type f -print0 | xargs -0 cp --parents -t "$room")
-cd "$room/crates/oftp_wire"
-edit=$root/checks/wrong_bodies/oftp_wire/frame_held_over_feed.md
+echo 'oftp_codec:' > "$room/crates.txt"
+(
+    cd "$root/crates/oftp_codec"
+    mkdir -p "$room/crates/oftp_codec"
+    # the stream's modules stand on no other crate
+    cp --parents src/{cutting,deframer,frame_fault,headers}.rt specs/{Header,Stream,FrameFaults}.antt "$room/crates/oftp_codec"
+)
+cd "$room/crates/oftp_codec"
+printf '%s\n' '#![tactic(auto)]' 'mod '{cutting,deframer,frame_fault,headers}';' 'pub use cutting::cut;' > src/lib.rt
+printf 'pub mod %s\n' Header Stream FrameFaults > specs/Lib.antt
+edit=$root/checks/wrong_bodies/oftp_codec/frame_held_over_feed.md
 file=$(sed -n 's/^file: //p' "$edit")
 old=$(sed -n 's/^old: //p' "$edit")
 new=$(sed -n 's/^new: //p' "$edit")

@@ -7,11 +7,11 @@ use Rattle.oftp_register.specs.Register.{Register}
 use Rattle.oftp_register.specs.Changes.{apply_all}
 use Rattle.oftp_register.specs.declared.change.Change.{Change}
 use Rattle.oftp_register.proofs.PrefixLemmas.{apply_all-push}
-use Rattle.oftp_wire.specs.Kinds.{command_of}
+use Rattle.oftp_codec.specs.Kinds.{command_of}
 use Rattle.oftp_wire.specs.declared.command.Command.{Command}
-use Rattle.oftp_wire.specs.Stream.{front, command_in, IsWithin}
-use Rattle.oftp_wire.specs.Stream.{Head, Whole, Waits, Bad}
-use Rattle.oftp_wire.proofs.Streams.{front_within}
+use Rattle.oftp_codec.specs.Stream.{front, command_in, IsWithin}
+use Rattle.oftp_codec.specs.Stream.{Head, Whole, Waits, Bad}
+use Rattle.oftp_codec.proofs.Streams.{front_within}
 use Rattle.oftp_register.specs.Soundness.{IsSound}
 use Rattle.oftp_session.specs.Settings.{Setting}
 use Rattle.oftp_session.specs.Phases.{is_over, Phase, Step, frame_of, register_after, fails}

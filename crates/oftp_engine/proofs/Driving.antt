@@ -7,10 +7,10 @@ use Rattle.std.proofs.lemmas.List.{take-append-drop}
 use Rattle.oftp_engine.specs.declared.limits.TheConstants.{MOST_TURNS}
 use Rattle.std.specs.Option.{option_copied}
 use Rattle.std.specs.Borrow.{Bor}
-use Rattle.oftp_wire.proofs.Streams.{next_err, next_none, next_some, past_shorter}
-use Rattle.oftp_wire.specs.Kinds.{command_of}
-use Rattle.oftp_wire.specs.Stream.{Bad, Head, Stream, Waits, Whole, command_in, front, left_of, next_of, past, with_fault}
-use Rattle.oftp_wire.specs.declared.frame_fault.FrameFault.{FrameFault}
+use Rattle.oftp_codec.proofs.Streams.{next_err, next_none, next_some, past_shorter}
+use Rattle.oftp_codec.specs.Kinds.{command_of}
+use Rattle.oftp_codec.specs.Stream.{Bad, Head, Stream, Waits, Whole, command_in, front, left_of, next_of, past, with_fault}
+use Rattle.oftp_codec.specs.declared.frame_fault.FrameFault.{FrameFault}
 use Rattle.oftp_session.specs.declared.session.Ending.{Ending}
 use Rattle.oftp_session.specs.declared.session.Ending.TheVariants.{Own}
 use Rattle.oftp_session.specs.Phases.{Phase, Step, ending_of, fails, is_over}

@@ -1,8 +1,8 @@
 -- What each step of a run preserves, the run preserves.
 use Rattle.std.proofs.Common.{ℕ, zero, suc, Bool, true, false, cond, not, ◌&&◌, ◌||◌, List, drop, length, Option, Result, Ok, Err}
-use Rattle.oftp_wire.specs.Kinds.{command_of}
+use Rattle.oftp_codec.specs.Kinds.{command_of}
 use Rattle.oftp_wire.specs.Reasons.{reason_of}
-use Rattle.oftp_wire.specs.Stream.{Head, Whole, Waits, Bad, front, command_in}
+use Rattle.oftp_codec.specs.Stream.{Head, Whole, Waits, Bad, front, command_in}
 use Rattle.oftp_wire.specs.declared.command.Command.{Command}
 use Rattle.oftp_wire.specs.declared.fault.WireFault.{WireFault}
 use Rattle.oftp_wire.specs.declared.fault.WireFault.TheVariants.{UnknownCommand, WrongLength, BadField, BadText, NoRoom}

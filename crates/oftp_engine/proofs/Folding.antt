@@ -4,10 +4,10 @@ use Rattle.std.proofs.lemmas.List.{drop_at, take_at}
 use Rattle.std.proofs.lemmas.List.Elements.{All-drop}
 use Rattle.std.specs.List.{All, AllByRecursion, flat_map}
 use Rattle.oftp_session.specs.Phases.{is_over}
-use Rattle.oftp_wire.specs.declared.frame_fault.FrameFault.{FrameFault}
-use Rattle.oftp_wire.specs.Header.{frame, header_of, IsCommand}
-use Rattle.oftp_wire.specs.Stream.{Whole, front, command_in, head_of, Reads}
-use Rattle.oftp_wire.proofs.Fronts.{front_frame, front_rest}
+use Rattle.oftp_codec.specs.declared.frame_fault.FrameFault.{FrameFault}
+use Rattle.oftp_codec.specs.Header.{frame, header_of, IsCommand}
+use Rattle.oftp_codec.specs.Stream.{Whole, front, command_in, head_of, Reads}
+use Rattle.oftp_codec.proofs.Fronts.{front_frame, front_rest}
 use Rattle.oftp_engine.specs.declared.limits.TheConstants.{LONGEST_FRAME}
 use Rattle.oftp_engine.specs.Runs.{Course, came_in, is_stopped, settled, on_front, next_in, run_by, run}
 use Rattle.oftp_engine.specs.Frames.{with_fault, over_commands}

@@ -5,16 +5,16 @@ use Rattle.std.specs.Option.{option_copied}
 use Rattle.std.specs.Borrow.{Bor}
 use Rattle.std.proofs.lemmas.Bool.{false≢true}
 use Rattle.std.proofs.lemmas.List.{append-nil, drop-append-le, take-append-drop}
-use Rattle.oftp_wire.proofs.Streams.{IsTold, front_more, front_within, next_err, next_none, next_some}
-use Rattle.oftp_wire.specs.Kinds.{command_of}
+use Rattle.oftp_codec.proofs.Streams.{IsTold, front_more, front_within, next_err, next_none, next_some}
+use Rattle.oftp_codec.specs.Kinds.{command_of}
 use Rattle.oftp_wire.specs.Reasons.{reason_of}
-use Rattle.oftp_wire.specs.Stream.{Bad, Head, IsWithin, Stream, Waits, Whole, command_in, front, left_of, next_of, past, with_fault}
+use Rattle.oftp_codec.specs.Stream.{Bad, Head, IsWithin, Stream, Waits, Whole, command_in, front, left_of, next_of, past, with_fault}
 use Rattle.oftp_wire.specs.declared.command.Command.{Command}
 use Rattle.oftp_wire.specs.declared.command.Command.TheVariants as command
 use Rattle.oftp_wire.specs.declared.command.Mode.{Mode}
 use Rattle.oftp_wire.specs.declared.command.Ssid.{Ssid}
 use Rattle.oftp_wire.specs.declared.fault.WireFault.{WireFault}
-use Rattle.oftp_wire.specs.declared.frame_fault.FrameFault.{FrameFault}
+use Rattle.oftp_codec.specs.declared.frame_fault.FrameFault.{FrameFault}
 use Rattle.oftp_wire.specs.declared.reason.SessionReason.{SessionReason}
 use Rattle.oftp_wire.specs.declared.reason.SessionReason.TheVariants.{ProtocolViolation}
 use Rattle.oftp_partners.specs.Book.{BookData}

@@ -1,11 +1,11 @@
 -- Over a run, and over jobs in order, a file that comes in parts is what its parts carry.
 use Rattle.std.proofs.Common.{◌≡◌, ℕ, zero, suc, ◌+◌, ◌≤◌, ◌&&◌, ◌||◌, not, Bool, true, false, cond, List, [], ◌∷◌, length, take, Option, None, Some, Result, Ok, Err, refl, ap, sym, ◌∙◌, subst, inl, inr, arith}
 use Rattle.std.specs.Prelude.{codes, is_some, nat_le}
-use Rattle.oftp_wire.specs.Kinds.{command_of}
+use Rattle.oftp_codec.specs.Kinds.{command_of}
 use Rattle.oftp_wire.specs.Reasons.{reason_of}
 use Rattle.oftp_wire.specs.declared.command.Command.{Command}
 use Rattle.oftp_wire.specs.declared.fault.WireFault.{WireFault}
-use Rattle.oftp_wire.specs.declared.frame_fault.FrameFault.{FrameFault}
+use Rattle.oftp_codec.specs.declared.frame_fault.FrameFault.{FrameFault}
 use Rattle.oftp_wire.specs.declared.reason.SessionReason.{SessionReason}
 use Rattle.oftp_wire.specs.declared.reason.SessionReason.TheVariants.{CommandNotRecognised, ProtocolViolation}
 use Rattle.oftp_partners.specs.Book.{BookData, partner_at}

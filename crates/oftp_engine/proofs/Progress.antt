@@ -3,10 +3,10 @@ use Rattle.oftp_wire.specs.declared.reason.SessionReason.TheVariants.{ProtocolVi
 use Rattle.std.proofs.Common.{◌≡◌, ℕ, ◌-◌, ◌<◌, ◌≤◌, true, false, List, [], ◌∷◌, ◌++◌, length, take, drop, Option, None, Some, refl, sym, ap, ◌∙◌, subst, arith, append_assoc, length-append, length-drop, inl, inr}
 use Rattle.std.proofs.lemmas.List.{append-nil, take-append-le, drop-append-le}
 use Rattle.oftp_wire.specs.declared.command.Command.{Command}
-use Rattle.oftp_wire.specs.Stream.{front, command_in, IsWithin}
-use Rattle.oftp_wire.specs.Stream.{Head, Whole, Bad}
-use Rattle.oftp_wire.specs.declared.frame_fault.FrameFault.{FrameFault}
-use Rattle.oftp_wire.proofs.Streams.{front_within, front_more, IsTold}
+use Rattle.oftp_codec.specs.Stream.{front, command_in, IsWithin}
+use Rattle.oftp_codec.specs.Stream.{Head, Whole, Bad}
+use Rattle.oftp_codec.specs.declared.frame_fault.FrameFault.{FrameFault}
+use Rattle.oftp_codec.proofs.Streams.{front_within, front_more, IsTold}
 use Rattle.oftp_register.specs.Offices.{next_count}
 use Rattle.oftp_session.specs.Phases.{is_over, Phase, Step, fails, framed, frame_of}
 use Rattle.oftp_session.specs.Steps.{has_turn, turned, Suits}

@@ -7,17 +7,17 @@ use Rattle.std.specs.List.{AllByRecursion, flat_map}
 use Rattle.std.specs.Option.{IfSome}
 use Rattle.oftp_wire.specs.declared.command.Command.{Command}
 use Rattle.oftp_wire.specs.declared.fault.WireFault.{WireFault}
-use Rattle.oftp_wire.specs.declared.frame_fault.FrameFault.TheVariants.{BadHeader, BadLength}
+use Rattle.oftp_codec.specs.declared.frame_fault.FrameFault.TheVariants.{BadHeader, BadLength}
 use Rattle.oftp_wire.specs.declared.reason.SessionReason.{SessionReason}
 use Rattle.oftp_wire.specs.declared.reason.SessionReason.TheVariants.{CommandNotRecognised, ProtocolViolation, ResourcesNotAvailable}
-use Rattle.oftp_wire.specs.Header.{frame, IsCommand}
-use Rattle.oftp_wire.specs.Kinds.{command_of}
+use Rattle.oftp_codec.specs.Header.{frame, IsCommand}
+use Rattle.oftp_codec.specs.Kinds.{command_of}
 use Rattle.oftp_wire.specs.Reasons.{reason_of}
-use Rattle.oftp_wire.specs.Spelling.{Canon}
-use Rattle.oftp_wire.specs.Stream.{Head, Whole, Waits, Bad, Front, NoFrame, front, length_fault, rest_fault, sized}
-use Rattle.oftp_wire.proofs.Fronts.{front_frame, one_front}
-use Rattle.oftp_wire.proofs.Room.{canon_some}
-use Rattle.oftp_wire.proofs.SpellingLaws.{canon_spells, reads_spelled}
+use Rattle.oftp_codec.specs.Spelling.{Canon}
+use Rattle.oftp_codec.specs.Stream.{Head, Whole, Waits, Bad, Front, NoFrame, front, length_fault, rest_fault, sized}
+use Rattle.oftp_codec.proofs.Fronts.{front_frame, one_front}
+use Rattle.oftp_codec.proofs.Room.{canon_some}
+use Rattle.oftp_codec.proofs.SpellingLaws.{canon_spells, reads_spelled}
 use Rattle.oftp_partners.specs.Fields.{IsBufferSize}
 use Rattle.oftp_partners.specs.declared.partner.Partner.{Partner}
 use Rattle.oftp_register.specs.declared.change.Cause.{Cause}

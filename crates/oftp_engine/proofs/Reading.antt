@@ -2,7 +2,7 @@
 use Rattle.std.proofs.Common.{◌≡◌, ℕ, List, [], ◌++◌, take, Option, length, ◌<◌, sym, ap, ◌∙◌, subst, arith, append_assoc, length-append, true, inl, inr}
 use Rattle.std.proofs.lemmas.List.{append-nil, length-take-le}
 use Rattle.std.specs.Io.KnownBytes.{Consumes}
-use Rattle.oftp_wire.specs.Stream.{Stream}
+use Rattle.oftp_codec.specs.Stream.{Stream}
 use Rattle.oftp_session.specs.declared.session.Ending.{Ending}
 use Rattle.oftp_session.specs.Calls.{Seen}
 use Rattle.oftp_session.specs.Standings.{is_sending}

@@ -14,11 +14,11 @@ use Rattle.oftp_wire.specs.declared.reason.StartReason.{StartReason}
 use Rattle.oftp_wire.specs.declared.reason.StartReason.TheVariants as start
 use Rattle.oftp_wire.specs.Octets.{IsName}
 use Rattle.oftp_wire.specs.Reasons.{end_number, session_number, start_number}
-use Rattle.oftp_wire.specs.Row.{EachFits, EachSays, IsSpelled, IsWord, Row, Table}
-use Rattle.oftp_wire.specs.Spelling.{Canon, IsFit, Spells, is_data}
-use Rattle.oftp_wire.specs.Tables.{cdt_table, data_table, eerp_table, efid_table, efna_table, efpa_table, esid_table, nerp_table, sfid_table_of, sfna_table, sfpa_table, single_table, ssid_table, ssrm_table}
-use Rattle.oftp_wire.specs.Tables.{flag_octets, flag_words, format_octets, format_words, is_recorded, longest_of, mode_octets, mode_words}
-use Rattle.oftp_wire.proofs.Room.{canon-data, canon_short}
+use Rattle.oftp_codec.specs.Row.{EachFits, EachSays, IsSpelled, IsWord, Row, Table}
+use Rattle.oftp_codec.specs.Spelling.{Canon, IsFit, Spells, is_data}
+use Rattle.oftp_codec.specs.Tables.{cdt_table, data_table, eerp_table, efid_table, efna_table, efpa_table, esid_table, nerp_table, sfid_table_of, sfna_table, sfpa_table, single_table, ssid_table, ssrm_table}
+use Rattle.oftp_codec.specs.Tables.{flag_octets, flag_words, format_octets, format_words, is_recorded, longest_of, mode_octets, mode_words}
+use Rattle.oftp_codec.proofs.Room.{canon-data, canon_short}
 use Rattle.oftp_vfile.specs.declared.format.Format.{Format}
 use Rattle.oftp_vfile.specs.declared.format.Format.TheVariants.{Fixed, Variable, Unstructured, Text}
 use Rattle.oftp_vfile.specs.declared.format.TheConstants.{MOST_ROWS}

@@ -1,6 +1,6 @@
 -- From what one call of `drive` did to what a conversation has done over all octets that it has heard.
 use Rattle.std.proofs.Common.{◌≡◌, false, ℕ, List, Result, Ok, Err, sym, ap, ◌∙◌, subst, ◌≢◌, refl, Option, None}
-use Rattle.oftp_wire.specs.Stream.{Stream}
+use Rattle.oftp_codec.specs.Stream.{Stream}
 use Rattle.oftp_register.specs.Offices.{Only}
 use Rattle.oftp_session.specs.Phases.{ending_of, is_over}
 use Rattle.oftp_session.specs.Calls.{Seen}

@@ -12,7 +12,7 @@ use Rattle.oftp_wire.specs.declared.reason.SessionReason.TheVariants.{BufferSize
 use Rattle.oftp_wire.specs.declared.reason.StartReason.TheVariants.{DuplicateFile}
 use Rattle.oftp_wire.specs.Octets.{IsName}
 use Rattle.oftp_wire.specs.Reasons.{start_number}
-use Rattle.oftp_wire.specs.Spelling.{IsFit}
+use Rattle.oftp_codec.specs.Spelling.{IsFit}
 use Rattle.oftp_partners.specs.Book.{IsBook, IsPartner}
 use Rattle.oftp_partners.specs.Fields.{IsBufferSize}
 use Rattle.oftp_partners.specs.declared.partner.Partner.{Partner}

@@ -4,7 +4,7 @@ use Rattle.std.proofs.lemmas.List.{length-append, take_all, take-append-le}
 use Rattle.std.proofs.lemmas.Bool.{cases_lt}
 use Rattle.std.specs.Result.{result_unwrap_or}
 use Rattle.oftp_wire.specs.declared.command.Command.{Command}
-use Rattle.oftp_wire.specs.Spelling.{Canon}
+use Rattle.oftp_codec.specs.Spelling.{Canon}
 use Rattle.oftp_register.specs.declared.change.Change.{Change}
 use Rattle.oftp_register.specs.declared.change.Cause.{Cause}
 use Rattle.oftp_register.specs.Register.{Register}

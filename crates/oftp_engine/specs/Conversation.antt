@@ -1,6 +1,6 @@
 -- A conversation is a session that gets octets in pieces. At each wait it has done the whole run over all octets heard so far.
 use Rattle.std.specs.Prelude.{◌≡◌, ◌++◌, ⊤, false, ℕ, List, [], Option, None, Some, Result, Ok, Err}
-use Rattle.oftp_wire.specs.Stream.{Stream}
+use Rattle.oftp_codec.specs.Stream.{Stream}
 use Rattle.oftp_register.specs.Offices.{View, Only}
 use Rattle.oftp_register.specs.Soundness.{IsSound}
 use Rattle.oftp_session.specs.Calls.{Seen, Stands}

@@ -3,9 +3,9 @@ use Rattle.std.specs.Prelude.{◌≡◌, ◌≢◌, ℕ, ◌<◌, ◌≤◌, All
 use Rattle.std.specs.List.{AllByRecursion}
 use Rattle.oftp_wire.specs.declared.command.Command.TheVariants as command
 use Rattle.oftp_wire.specs.declared.command.Ssid.{Ssid}
-use Rattle.oftp_wire.specs.declared.frame_fault.FrameFault.{FrameFault}
-use Rattle.oftp_wire.specs.Kinds.{command_of}
-use Rattle.oftp_wire.specs.Stream.{Reads}
+use Rattle.oftp_codec.specs.declared.frame_fault.FrameFault.{FrameFault}
+use Rattle.oftp_codec.specs.Kinds.{command_of}
+use Rattle.oftp_codec.specs.Stream.{Reads}
 use Rattle.oftp_register.specs.declared.change.Change.{Change}
 use Rattle.oftp_register.specs.Register.{Register}
 use Rattle.oftp_session.specs.Calls.{Makes}

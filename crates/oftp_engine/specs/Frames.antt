@@ -1,6 +1,6 @@
 -- The same session as a fold over the commands of the stream.
 use Rattle.std.specs.Prelude.{ℕ, ◌||◌, if◌then◌else◌, List, [], ◌∷◌, Option, None, Some}
-use Rattle.oftp_wire.specs.declared.frame_fault.FrameFault.{FrameFault}
+use Rattle.oftp_codec.specs.declared.frame_fault.FrameFault.{FrameFault}
 use Rattle.oftp_wire.specs.declared.reason.SessionReason.TheVariants.{ProtocolViolation}
 use Rattle.oftp_session.specs.Phases.{is_over, fails}
 use Rattle.oftp_engine.specs.Runs.{Course, advance, came_in, is_stopped, settled}

@@ -1,6 +1,6 @@
 -- Inside: how far the engine is in a run, for the functions of src/serving.rt.
 use Rattle.std.specs.Prelude.{◌≡◌, ◌≢◌, ℕ, ◌<◌, ◌⊎◌, IfErr, OnOk, Bool, ◌&&◌, false, true, nat_le, List, [], ◌++◌, length, take, Option, None, Some, Result, Ok, Err}
-use Rattle.oftp_wire.specs.Stream.{Stream, front, Waits}
+use Rattle.oftp_codec.specs.Stream.{Stream, front, Waits}
 use Rattle.oftp_wire.specs.declared.command.Command.{Command}
 use Rattle.oftp_wire.specs.declared.fault.WireFault.{WireFault}
 use Rattle.oftp_register.specs.Offices.{View, Only, WithOrWithout, next_count}

@@ -1,8 +1,8 @@
 -- The opening of a session with a caller: the greeting, and the answer to its first command. It needs no register.
 use Rattle.std.specs.Prelude.{◌≡◌, ◌++◌, false, ℕ, List, [], drop, Option, None, Some, Result, Ok, Err, IfOk}
-use Rattle.oftp_wire.specs.Kinds.{command_of}
+use Rattle.oftp_codec.specs.Kinds.{command_of}
 use Rattle.oftp_wire.specs.Reasons.{reason_of}
-use Rattle.oftp_wire.specs.Stream.{Head, Whole, Waits, Bad, command_in, front}
+use Rattle.oftp_codec.specs.Stream.{Head, Whole, Waits, Bad, command_in, front}
 use Rattle.oftp_wire.specs.declared.command.Command.{Command}
 use Rattle.oftp_wire.specs.declared.command.Ssid.{Ssid}
 use Rattle.oftp_wire.specs.declared.command.Command.TheVariants as command

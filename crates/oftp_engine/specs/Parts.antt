@@ -3,9 +3,9 @@ use Rattle.std.specs.Prelude.{◌≡◌, ℕ, ◌<◌, ◌≤◌, ◌⊎◌, ⊤
 use Rattle.oftp_wire.specs.declared.command.Command.{Command}
 use Rattle.oftp_wire.specs.declared.command.Command.TheVariants as command
 use Rattle.oftp_wire.specs.declared.fault.WireFault.{WireFault}
-use Rattle.oftp_wire.specs.declared.frame_fault.FrameFault.{FrameFault}
-use Rattle.oftp_wire.specs.Kinds.{command_of}
-use Rattle.oftp_wire.specs.Stream.{Reads}
+use Rattle.oftp_codec.specs.declared.frame_fault.FrameFault.{FrameFault}
+use Rattle.oftp_codec.specs.Kinds.{command_of}
+use Rattle.oftp_codec.specs.Stream.{Reads}
 use Rattle.oftp_partners.specs.Book.{BookData}
 use Rattle.oftp_vfile.specs.declared.format.Format.{Format}
 use Rattle.oftp_vfile.specs.VirtualFile.{AreRows, BeginsWith, records_in, units_in}

@@ -3,11 +3,11 @@ use Rattle.std.specs.Prelude.{◌≡◌, ℕ, ◌+◌, ◌≤◌, ◌||◌, if�
 use Rattle.std.specs.List.{AllByRecursion, flat_map}
 use Rattle.oftp_wire.specs.declared.command.Command.{Command}
 use Rattle.oftp_wire.specs.declared.fault.WireFault.{WireFault}
-use Rattle.oftp_wire.specs.declared.frame_fault.FrameFault.{FrameFault}
+use Rattle.oftp_codec.specs.declared.frame_fault.FrameFault.{FrameFault}
 use Rattle.oftp_wire.specs.declared.reason.SessionReason.TheVariants.{ResourcesNotAvailable}
-use Rattle.oftp_wire.specs.Kinds.{command_of}
-use Rattle.oftp_wire.specs.Spelling.{Canon, IsFit}
-use Rattle.oftp_wire.specs.Stream.{Reads}
+use Rattle.oftp_codec.specs.Kinds.{command_of}
+use Rattle.oftp_codec.specs.Spelling.{Canon, IsFit}
+use Rattle.oftp_codec.specs.Stream.{Reads}
 use Rattle.oftp_register.specs.Register.{Register}
 use Rattle.oftp_session.specs.Settings.{Setting}
 use Rattle.oftp_session.specs.Phases.{esid_of, frame_of, is_over}

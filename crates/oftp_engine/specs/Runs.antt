@@ -1,9 +1,9 @@
 -- A whole session over the octets that were read: the fold of the steps. It has no pieces, buffers or transactions.
 use Rattle.std.specs.Prelude.{ℕ, zero, suc, max, ◌-◌, Bool, false, nat_lt, not, ◌&&◌, ◌||◌, if◌then◌else◌, List, [], ◌∷◌, ◌++◌, length, drop, Option, None, Some, Result, Ok, Err}
 use Rattle.std.specs.List.{flat_map}
-use Rattle.oftp_wire.specs.Kinds.{command_of}
+use Rattle.oftp_codec.specs.Kinds.{command_of}
 use Rattle.oftp_wire.specs.Reasons.{reason_of}
-use Rattle.oftp_wire.specs.Stream.{Head, Whole, Waits, Bad, front, command_in}
+use Rattle.oftp_codec.specs.Stream.{Head, Whole, Waits, Bad, front, command_in}
 use Rattle.oftp_wire.specs.declared.command.Command.{Command}
 use Rattle.oftp_wire.specs.declared.fault.WireFault.{WireFault}
 use Rattle.oftp_wire.specs.declared.reason.SessionReason.{SessionReason}

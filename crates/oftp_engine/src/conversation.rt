@@ -18,7 +18,7 @@ use oftp_io::Port;
 use oftp_partners::Book;
 use oftp_register::{Name, Office};
 use oftp_session::{Ending, Session};
-use oftp_wire::Deframer;
+use oftp_codec::Deframer;
 use std::alloc::Global;
 use std::io::Write;
 use std::marker::Model;

@@ -1,8 +1,8 @@
 //! Theorems about runs of sessions: each is the contract of a function that does nothing, so no program has to call one.
 
 ghost use Rattle.std.specs.Prelude.{◌≡◌, ◌<◌, ℕ, [], All, List, Option, Ok};
-ghost use Rattle.oftp_wire.specs.declared.frame_fault.FrameFault.{FrameFault};
-ghost use Rattle.oftp_wire.specs.Stream.{Reads};
+ghost use Rattle.oftp_codec.specs.declared.frame_fault.FrameFault.{FrameFault};
+ghost use Rattle.oftp_codec.specs.Stream.{Reads};
 ghost use Rattle.oftp_engine.specs.declared.limits.TheConstants.{LONGEST_FRAME};
 ghost use Rattle.oftp_engine.specs.Conversation.{Dialogue, HasHeard, HearsOn, IsFresh, StillListens};
 ghost use Rattle.oftp_engine.specs.Openings.{IsAccepted, TakesOver, admission_of};

@@ -1,7 +1,7 @@
 //! A session over any reader and any writer.
 
 ghost use Rattle.std.specs.Prelude.{◌≡◌, ◌≢◌, ◌<◌, ◌+◌, ℕ, true, false, List, None, Ok, OnOk, IfErr, IfOk, is_ok};
-ghost use Rattle.oftp_wire.specs.Kinds.{command_of};
+ghost use Rattle.oftp_codec.specs.Kinds.{command_of};
 ghost use Rattle.oftp_register.specs.Plain.{view_of};
 ghost use Rattle.oftp_session.specs.Callers.{greeting};
 ghost use Rattle.oftp_session.specs.Opening.{came_awaiting_ssid};
@@ -23,7 +23,8 @@ use oftp_io::Port;
 use oftp_partners::{Book, Partner};
 use oftp_register::{Office, PlainOffice};
 use oftp_session::{Ending, Out, Session, SessionFault};
-use oftp_wire::{Command, Count, Deframer, SessionReason, parse};
+use oftp_codec::{Deframer, parse};
+use oftp_wire::{Command, Count, SessionReason};
 use std::alloc::Global;
 use std::io::{Read, Write};
 

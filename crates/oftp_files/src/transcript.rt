@@ -1,6 +1,6 @@
 //! Prints a stream of octets: a line for each command, up to the first octets that aren't one.
 
-use oftp_wire::{Deframer, parse};
+use oftp_codec::{Deframer, parse};
 use std::alloc::{AllocError, Global};
 
 /// The greatest length of a frame in octets, with its header (RFC 5024, section 8).

@@ -1,7 +1,7 @@
 -- Openings of sessions: what holds of them after each call.
 use Rattle.std.specs.Result.{IfOk, OnOk}
 use Rattle.std.proofs.Common.{◌≡◌, ◌≢◌, ◌∙◌, ap, sym, subst, refl, ℕ, List, [], ◌++◌, ◌%◌, ◌^◌, Some, Result, Ok, Err}
-use Rattle.oftp_wire.specs.Stream.{Head, front}
+use Rattle.oftp_codec.specs.Stream.{Head, front}
 use Rattle.oftp_wire.specs.declared.command.Command.{Command}
 use Rattle.oftp_wire.specs.declared.fault.WireFault.{WireFault}
 use Rattle.oftp_wire.specs.declared.reason.SessionReason.{SessionReason}

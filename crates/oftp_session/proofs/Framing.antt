@@ -1,11 +1,11 @@
 -- A header and then a command are a frame, also of DATA.
 use Rattle.std.proofs.Common.{◌≡◌, ℕ, ◌+◌, ◌<◌, List, ◌++◌, length, take, drop, [], ◌∷◌, ◌≤◌, false, refl, sym, ap, ◌∙◌, append_assoc, length-append, arith}
 use Rattle.std.proofs.lemmas.List.{length-take-le, take-append-drop, take_at}
-use Rattle.oftp_wire.specs.Header.{header_of, frame}
-use Rattle.oftp_wire.specs.Spelling.{Canon, IsFit, is_data}
+use Rattle.oftp_codec.specs.Header.{header_of, frame}
+use Rattle.oftp_codec.specs.Spelling.{Canon, IsFit, is_data}
 use Rattle.oftp_wire.specs.declared.command.Command.{Command}
 use Rattle.oftp_wire.specs.declared.command.Command.TheVariants as command
-use Rattle.oftp_wire.proofs.Room.{canon-data, canon_short}
+use Rattle.oftp_codec.proofs.Room.{canon-data, canon_short}
 use Rattle.oftp_session.specs.declared.frame.TheConstants.{COMMAND_ROOM}
 use Rattle.oftp_session.specs.Phases.{frame_of}
 

@@ -3,7 +3,7 @@ use Rattle.std.proofs.Common.{◌≡◌, ℕ, suc, zero, ◌+◌, ◌-◌, ◌�
 use Rattle.std.proofs.Math.Seq.{take-add}
 use Rattle.std.proofs.lemmas.Bool.{cases_lt, eqb-true, eqb-false}
 use Rattle.std.proofs.lemmas.List.{length-drop, length-take, take-append-drop, take_min, drop-drop, drop-take}
-use Rattle.oftp_wire.specs.Header.{header_of}
+use Rattle.oftp_codec.specs.Header.{header_of}
 use Rattle.oftp_vfile.specs.declared.format.Format.{Format}
 use Rattle.oftp_vfile.specs.VirtualFile.{AreRows, IsLongest}
 use Rattle.oftp_vfile.specs.Fill.{payloads_of}

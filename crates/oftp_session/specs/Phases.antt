@@ -1,8 +1,8 @@
 -- The phases of a session, and what a step is.
 use Rattle.std.specs.Prelude.{ℕ, List, [], Bool, Option, None, Some, is_some}
 use Rattle.std.specs.Result.{result_unwrap_or}
-use Rattle.oftp_wire.specs.Header.{frame}
-use Rattle.oftp_wire.specs.Spelling.{Canon}
+use Rattle.oftp_codec.specs.Header.{frame}
+use Rattle.oftp_codec.specs.Spelling.{Canon}
 use Rattle.oftp_wire.specs.Reasons.{session_number}
 use Rattle.oftp_wire.specs.declared.command.Command.{Command}
 use Rattle.oftp_wire.specs.declared.command.Command.TheVariants as command

@@ -6,7 +6,7 @@ ghost use Rattle.oftp_vfile.specs.declared.format.TheConstants.{MOST_ROWS};
 ghost use Rattle.oftp_register.specs.declared.fit.TheConstants.{MOST_UNITS};
 ghost use Rattle.oftp_register.specs.LookUps.{outgoing_entry};
 ghost use Rattle.oftp_register.specs.Register.{Outgoing};
-ghost use Rattle.oftp_wire.specs.Spelling.{is_data};
+ghost use Rattle.oftp_codec.specs.Spelling.{is_data};
 ghost use Rattle.oftp_wire.specs.declared.command.Command.TheVariants.{Efid as an_efid, Ssid as an_ssid};
 ghost use Rattle.oftp_session.specs.Phases.{esid_of};
 ghost use Rattle.oftp_session.specs.Opening.{answering_ssid, calling_ssid, ssid_with};

@@ -1,8 +1,8 @@
 //! The frame that a session sends.
 
 ghost use Rattle.std.specs.Prelude.{◌≡◌, ◌∷◌, ◌++◌, ◌+◌, ◌<◌, ◌≤◌, [], ℕ, List, length, take, All, true, false};
-ghost use Rattle.oftp_wire.specs.Header.{header_of};
-ghost use Rattle.oftp_wire.specs.Spelling.{is_data};
+ghost use Rattle.oftp_codec.specs.Header.{header_of};
+ghost use Rattle.oftp_codec.specs.Spelling.{is_data};
 ghost use Rattle.oftp_vfile.specs.declared.format.TheConstants.{MOST_ROWS};
 ghost use Rattle.oftp_vfile.specs.VirtualFile.{is_stream};
 ghost use Rattle.oftp_vfile.specs.Filling.{IsInRows};
@@ -13,7 +13,8 @@ ghost use Rattle.oftp_session.specs.Calls.{IsFull, said};
 
 use crate::session::{Out, SessionFault};
 use oftp_vfile::{Filled, Filler, Row};
-use oftp_wire::{Command, encode, header};
+use oftp_codec::{encode, header};
+use oftp_wire::Command;
 use std::alloc::Global;
 use std::marker::Model;
 

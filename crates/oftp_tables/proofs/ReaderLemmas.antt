@@ -4,7 +4,7 @@ use Rattle.std.specs.List.{list_all}
 use Rattle.std.proofs.lemmas.Bool.Decides.{nat_tests}
 use Rattle.std.specs.Str.{bytes_eq}
 use Rattle.oftp_wire.specs.Octets.{IsDigits, decimal, is_digit, number}
-use Rattle.oftp_wire.proofs.Forms.{decimal_digits, length-decimal, number_is}
+use Rattle.oftp_wire.proofs.Decimals.{decimal_digits, length-decimal, number_is}
 
 -- a text that is known, compared with a word
 pub compared : (text known slice word : List ℕ) (b answer : Bool) → b ≡ answer → b ≡ bytes_eq text slice → slice ≡ word → text ≡ known → answer ≡ bytes_eq known word

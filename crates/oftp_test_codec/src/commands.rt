@@ -1,7 +1,8 @@
 //! Commands: parsed and encoded.
 
 use crate::octets::{Fields, joined, print_line};
-use oftp_wire::{Command, WireFault, encode, header, parse};
+use oftp_codec::{encode, header, parse};
+use oftp_wire::{Command, WireFault};
 use std::io;
 
 /// Encodes a command into a buffer of octets ff. Prints whether this gives the octets that it was parsed from and nothing more, or what it

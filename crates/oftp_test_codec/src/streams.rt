@@ -2,7 +2,7 @@
 
 use crate::line::Line;
 use crate::octets::{Fields, print_line, print_whole};
-use oftp_wire::{Deframer, header};
+use oftp_codec::{Deframer, header};
 use std::io;
 
 /// The greatest length of a frame.

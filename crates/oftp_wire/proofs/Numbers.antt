@@ -1,14 +1,9 @@
--- The number that digits stand for fits into 64 bits.
-use Rattle.std.proofs.Common.{◌≡◌, ℕ, zero, suc, ◌+◌, ◌*◌, ◌^◌, ◌<◌, ◌≤◌, true, List, [], ◌∷◌, length, get_or, leb, arith}
+-- Each octet of digits is a digit.
+use Rattle.std.proofs.Common.{◌≡◌, ℕ, zero, suc, ◌<◌, ◌≤◌, true, List, [], ◌∷◌, length, get_or, leb, arith}
 use Rattle.std.specs.List.{list_all}
 use Rattle.std.proofs.lemmas.Bool.{and_parts}
 use Rattle.std.proofs.lemmas.Bool.Decides.{nat_tests}
-use Rattle.std.proofs.Math.Nat.{pow-le-pow_right}
 use Rattle.oftp_wire.specs.Octets.{is_digit}
-
--- a further digit has room in 64 bits
-pub room : (n i : ℕ) → n < 10 ^ i → i ≤ 18 → n * 10 + 9 < 2 ^ 64
-room n i h le = let p : 10 ^ i ≤ 10 ^ 18 = pow-le-pow_right (omega arith) le in omega arith
 
 -- a digit's code
 pub digit_is : (c : ℕ) → is_digit c ≡ true → (48 ≤ c) × (c ≤ 57)

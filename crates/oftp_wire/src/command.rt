@@ -77,15 +77,6 @@ pub struct Sfid<'a> {
     pub description: Text<'a>,
 }
 
-/// The letter of a virtual file's format.
-#[derive(Clone, Copy, Debug, PartialEq, Eq)]
-pub(crate) enum Format {
-    Fixed,
-    Variable,
-    Unstructured,
-    Text,
-}
-
 /// The format of a virtual file, with its longest record in octets (RFC 5024, section 5.3.3).
 #[derive(Clone, Copy, Debug, PartialEq, Eq)]
 pub enum Layout {

@@ -1,28 +1,13 @@
-//! The commands of the ODETTE File Transfer Protocol 2 as octets (RFC 5024, section 5), and the stream that carries them in frames (section
-//! 8).
+//! The commands of the ODETTE File Transfer Protocol 2 as values (RFC 5024, section 5.3): the fifteen commands, their fields, each within its
+//! range, and the reasons, with the words in which an operator reads them.
 //!
-//! `parse` reads the octets of one frame and `encode` writes them. Both are proved against Spelling (`specs/Spelling.antt`), which has a
-//! table for each kind: which octets encode a command, which of them are canonical, and what is wrong with all others. Neither allocates
-//! memory.
-//!
-//! A `Deframer` takes a stream in pieces and returns the commands in its frames. `header` makes the header of a command. The deframer is
-//! proved against Front (`specs/Stream.antt`): its commands depend only on the stream, and not on the pieces.
+//! `oftp_codec` has their octets, and the stream that carries them.
 #![tactic(auto)]
 
 mod command;
-mod cutting;
-mod deframer;
-mod encoding;
 mod fault;
 mod field;
-mod frame_fault;
-mod front_laws;
-mod headers;
-mod laws;
 mod message;
-mod parsing;
-mod piece;
-mod read;
 mod reason;
 mod scan;
 mod words;
@@ -30,14 +15,7 @@ mod words;
 pub use command::{
     Command, Eerp, Efid, Efna, Efpa, Esid, Layout, Mode, Nerp, Sfid, Sfna, Sfpa, Ssid,
 };
-pub use cutting::{CutStream, cut};
-pub use deframer::Deframer;
-pub use encoding::encode;
 pub use fault::WireFault;
 pub use field::{Count, Digits, Octets, Text, X};
-pub use frame_fault::FrameFault;
-pub use front_laws::one_front;
-pub use headers::header;
-pub use laws::one_spelling;
-pub use parsing::parse;
 pub use reason::{EndReason, SessionReason, StartReason};
+pub use scan::{all_digits, is_allowed};

@@ -1,6 +1,6 @@
 //! The memory of a deframer, a stream in a million pieces, and one that is cut in one call.
 
-use oftp_wire::{Deframer, FrameFault, cut};
+use oftp_codec::{Deframer, FrameFault, cut};
 use std::process::Abort;
 use std::test::Fail;
 

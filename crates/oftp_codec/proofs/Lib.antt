@@ -1,0 +1,14 @@
+pub mod Numbers
+pub mod Scans
+pub mod Forms
+pub mod Exact
+pub mod EachKind
+pub mod Spelled
+pub mod Again
+pub mod Whole
+pub mod Pieces
+pub mod SpellingLaws
+pub mod Room
+pub mod FaultReasons
+pub mod Streams
+pub mod Fronts
