@@ -4,6 +4,7 @@
 mod backing;
 mod backups;
 mod beside;
+mod calling;
 mod collecting;
 mod contents;
 mod fetching;
@@ -15,6 +16,7 @@ mod sessions;
 pub use backing::{Backing, Own};
 pub use backups::back_up;
 pub use beside::Beside;
+pub use calling::{Called, call};
 pub use collecting::collect;
 pub use fetching::fetch;
 pub use offering::offer;
