@@ -1,6 +1,6 @@
 //! Who carries out the requests of a command: the database, which is opened for it, or the station that has it open.
 
-use crate::beside::Beside;
+use oftp_asking::Beside;
 use oftp_channel::{Ending, Request};
 use oftp_database::{self as database, DatabaseOffice};
 use oftp_engine::{Operator, Port, RunFault};
@@ -18,7 +18,7 @@ const COPY: &[u8] = b"copy";
 
 /// Who carries out the requests of a command.
 #[derive(Drop)]
-pub enum Backing<'a, 'b> {
+pub(crate) enum Backing<'a, 'b> {
     /// The database, which is open and locked here.
     Own(Own<'b>),
     /// The station that has it open.
@@ -31,7 +31,7 @@ impl<'a, 'b> Backing<'a, 'b> {
     ///
     /// # Errors
     /// Those of [`database::live_shared`].
-    pub fn opened(
+    pub(crate) fn opened(
         rt: &'a HostRuntime,
         database: &'a str,
         book: Option<&'b Book>,
@@ -108,7 +108,7 @@ impl Backend for Backing<'_, '_> {
 
 /// A database that a command has opened, with the book that goes with its requests if it has read one.
 #[derive(Drop)]
-pub struct Own<'b> {
+pub(crate) struct Own<'b> {
     alloc: Global,
     book: Option<&'b Book>,
     life: Life<DatabaseOffice>,

@@ -1,7 +1,7 @@
 //! The commands `submit`, `release` and `refuse`, which are operator's calls.
 
 use crate::backing::Backing;
-use crate::contents::Content;
+use oftp_asking::Content;
 use oftp_channel::Request;
 use oftp_command_line::{Files, Refuse, Release, Submit};
 use oftp_engine::{Operator, Submission};

@@ -1,8 +1,9 @@
-//! The commands `init`, `migrate` and `report`, which only need a database.
+//! The commands `init`, `migrate`, `report` and `fetch`, which only need a database.
 
 use crate::backing::Backing;
+use oftp_asking as asking;
 use oftp_channel::{Ending, Request};
-use oftp_command_line::Report;
+use oftp_command_line::{Fetch, Report};
 use oftp_database::{self as database, PATIENCE};
 use oftp_engine::RunFault;
 use oftp_outcomes::{Fault, Outcome};
@@ -46,4 +47,14 @@ pub fn write_report<'a>(
         Ok(()) => Ok(()),
         Err(_) => Err(Fault::Run(RunFault::Write)),
     }
+}
+
+/// Writes a whole incoming file of a database to a file, as [`asking::fetch`] does.
+///
+/// # Errors
+/// [`Fault::Store`] if the database can't be opened; [`Fault::Run`] if the office failed or the station is gone; [`Fault::File`] if the file
+/// can't be written; [`Fault::MEMORY`]. The file is as it was then.
+pub fn fetch<'a>(rt: &'a HostRuntime, line: &'a Fetch<'a>) -> Result<Outcome, Fault> {
+    let backing = Backing::opened(rt, line.database, None)?;
+    asking::fetch(rt, line, backing)
 }

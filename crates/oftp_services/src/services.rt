@@ -1,19 +1,16 @@
 //! The commands `listen`, `call` and `http`, over sockets.
 
-use oftp_channel::{Request, Tracing};
 use oftp_command_line::{Call, Entrance, Files, Http, Listen, SessionTerms};
-use oftp_commands::{Backing, Beside};
 use oftp_database::{self as database, Opened};
-use oftp_engine::{End, Refusal};
-use oftp_files::{Trace, book_of, open_trace, read_book, read_book_octets};
+use oftp_engine::End;
+use oftp_files::{Trace, book_of, open_trace, read_book};
 use oftp_listing::Site;
 use oftp_outcomes::{Fault, Outcome, Trouble, Way, write_line};
 use oftp_partners::Book;
-use oftp_requests::{Backend, outcome_in};
 use oftp_resident::{Bench, Start, serve};
 use oftp_schedule::connection::Counted;
 use oftp_sockets::{Reporter, Station, bound};
-use std::io::{self, Write};
+use std::io::Write;
 
 /// The trace that the command line of a service asks for.
 ///
@@ -99,52 +96,11 @@ pub fn listen(
     serve_each(rt, &bench, &station, line.files.database, out, err)
 }
 
-/// Calls a partner for one session, or has the station call it.
+/// Calls a partner of the book for one session, over a database that isn't locked.
 ///
 /// # Errors
-/// [`Fault::Book`], [`Fault::File`], [`Fault::Store`] or [`Fault::Socket`] if the book, the trace, the database or the connection can't be
-/// opened; those of the session; [`Fault::Run`] if the station is gone.
-pub fn call<'a>(rt: &'a HostRuntime, line: &Call<'a>) -> Result<Outcome, Fault> {
-    let (octets, book) = read_book_octets(rt, line.files.book)?;
-    if book.partner(line.partner.as_bytes()).is_none() {
-        return Ok(Outcome::Refused(Refusal::Unknown));
-    }
-    match Backing::opened(rt, line.files.database, None)? {
-        Backing::Own(own) => {
-            drop(own);
-            call_alone(rt, line, &book)
-        }
-        Backing::Station(mut station) => call_by(rt, line, octets.as_slice(), &mut station),
-    }
-}
-
-/// Has the station call the partner.
-fn call_by(
-    rt: &HostRuntime,
-    line: &Call<'_>,
-    book: &[u8],
-    station: &mut Beside<'_>,
-) -> Result<Outcome, Fault> {
-    let trace = trace_of(rt, &line.files, &line.terms)?;
-    let mut lines = TraceLines {
-        trace: trace.as_ref(),
-    };
-    let request = Request::Call {
-        book,
-        partner: line.partner,
-        patience: line.terms.patience,
-        longest: line.terms.longest,
-        tracing: match &trace {
-            Some(_) => Tracing::Kept,
-            None => Tracing::None,
-        },
-    };
-    let asked = station.ask(&request, &mut lines);
-    outcome_in(asked)
-}
-
-/// Calls the partner, with a database that isn't locked.
-fn call_alone(rt: &HostRuntime, line: &Call<'_>, book: &Book) -> Result<Outcome, Fault> {
+/// [`Fault::File`], [`Fault::Store`] or [`Fault::Socket`] if the trace, the database or the connection can't be opened; those of the session.
+pub fn call(rt: &HostRuntime, line: &Call<'_>, book: &Book) -> Result<Outcome, Fault> {
     let trace = trace_of(rt, &line.files, &line.terms)?;
     let station = station_of(book, &line.terms, trace.as_ref());
     let code = String::from_str(rt.alloc(), line.partner)?;
@@ -160,25 +116,6 @@ fn call_alone(rt: &HostRuntime, line: &Call<'_>, book: &Book) -> Result<Outcome,
     match ended.ended {
         Some(ended) => ended.map(Outcome::Ended),
         None => Err(Fault::Socket),
-    }
-}
-
-/// A writer for the lines of a session's trace. Without a trace they are dropped.
-#[derive(Clone, Copy)]
-struct TraceLines<'a> {
-    trace: Option<&'a Trace<'a>>,
-}
-
-impl Write for TraceLines<'_> {
-    fn write(&mut self, lines: &[u8]) -> io::Result<usize> {
-        if let Some(trace) = self.trace {
-            trace.append(lines);
-        }
-        Ok(lines.len())
-    }
-
-    fn flush(&mut self) -> io::Result<()> {
-        Ok(())
     }
 }
 

@@ -1,7 +1,7 @@
 //! The commands.
 
-use oftp_command_line::{Line, LineFault, VERSION, help, line_of};
-use oftp_commands as commands;
+use oftp_command_line::{Call, Line, LineFault, VERSION, help, line_of};
+use oftp_commands::{self as commands, Called};
 use oftp_files::{read_book, show};
 use oftp_outcomes::{
     DONE, FAILED, Fault, Outcome, Output, Reader, is_told, status_where, tell, write_line,
@@ -87,10 +87,18 @@ fn carry_out(
         Line::Backup(backup) => tell(commands::back_up(rt, backup)?, out),
         Line::Feed(feed) => tell(commands::feed(rt, feed)?, out),
         Line::Show { input } => Ok(status_where(show(rt, input, out)?)),
-        Line::Call(call) => tell(services::call(rt, call)?, out),
+        Line::Call(call) => tell(call_partner(rt, call)?, out),
         Line::Run(run) => done(services::run(rt, run, out)),
         Line::Listen(listen) => done(services::listen(rt, listen, out, err)),
         Line::Http(http) => done(services::http(rt, http, out, err)),
+    }
+}
+
+/// Has the station that runs over the database call a partner, or calls it here if none does.
+fn call_partner(rt: &HostRuntime, line: &Call<'_>) -> Result<Outcome, Fault> {
+    match commands::call(rt, line)? {
+        Called::Told(outcome) => Ok(outcome),
+        Called::Alone(book) => services::call(rt, line, &book),
     }
 }
 

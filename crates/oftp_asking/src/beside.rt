@@ -23,7 +23,7 @@ pub struct Beside<'a> {
 
 impl<'a> Beside<'a> {
     /// The station that runs over a database, if one does.
-    pub(crate) fn reached(rt: &'a HostRuntime, database: &'a str) -> Option<Beside<'a>> {
+    pub fn reached(rt: &'a HostRuntime, database: &'a str) -> Option<Beside<'a>> {
         let stream = connected(rt, database)?;
         Some(Beside {
             rt,

@@ -1,6 +1,5 @@
 //! The command `fetch`, which writes an incoming file in its local form.
 
-use crate::backing::Backing;
 use crate::contents::is_awaited;
 use oftp_channel::{Ending, Request};
 use oftp_command_line::Fetch;
@@ -12,17 +11,20 @@ use std::fs::File;
 use std::io::{self, ErrorKind, Write};
 use std::mem;
 
-/// Writes a whole incoming file of a database to a file. What isn't a regular file, such as a pipe, is opened and written once the database is
-/// closed again, since its reader may take long.
+/// Writes a whole incoming file to a file, by whoever carries out the request. What isn't a regular file, such as a pipe, is opened and written
+/// once the backend is let go, which closes its database, since its reader may take long.
 ///
 /// # Errors
-/// [`Fault::Store`] if the database can't be opened; [`Fault::Run`] if the office failed or the station is gone; [`Fault::File`] if the file
-/// can't be written; [`Fault::MEMORY`]. The file is as it was then.
-pub fn fetch<'a>(rt: &'a HostRuntime, line: &'a Fetch<'a>) -> Result<Outcome, Fault> {
-    let mut backing = Backing::opened(rt, line.database, None)?;
+/// Those of the backend; [`Fault::File`] if the file can't be written; [`Fault::MEMORY`]. The file is as it was then.
+pub fn fetch<'a, B: Backend + Drop>(
+    rt: &'a HostRuntime,
+    line: &'a Fetch<'a>,
+    backend: B,
+) -> Result<Outcome, Fault> {
+    let mut backend = backend;
     let mut file = FetchedFile::new(rt, line);
-    let asked = backing.ask(&Request::Fetch { no: line.no }, &mut file);
-    drop(backing);
+    let asked = backend.ask(&Request::Fetch { no: line.no }, &mut file);
+    drop(backend);
     file.settled(asked)
 }
 

@@ -8,7 +8,7 @@ use std::{fs, mem};
 
 /// The content of the file that is submitted.
 #[derive(Drop)]
-pub(crate) enum Content {
+pub enum Content {
     /// It isn't read yet.
     Unread,
     /// It was read, or couldn't be. That error is told in its turn.
@@ -17,7 +17,7 @@ pub(crate) enum Content {
 
 impl Content {
     /// The content that a command line names. It is read now if it isn't that of a regular file.
-    pub(crate) fn of(rt: &HostRuntime, submit: &Submit<'_>) -> Content {
+    pub fn of(rt: &HostRuntime, submit: &Submit<'_>) -> Content {
         if is_awaited(rt, submit.file) {
             Content::Read(read_content(rt, submit))
         } else {
@@ -29,7 +29,7 @@ impl Content {
     ///
     /// # Errors
     /// Those of [`read_content`].
-    pub(crate) fn take(&mut self, rt: &HostRuntime, submit: &Submit<'_>) -> Result<Vec<u8>, Fault> {
+    pub fn take(&mut self, rt: &HostRuntime, submit: &Submit<'_>) -> Result<Vec<u8>, Fault> {
         match mem::replace(self, Content::Unread) {
             Content::Unread => read_content(rt, submit),
             Content::Read(content) => content,

@@ -1,0 +1,13 @@
+//! What commands do that is the same over any database: they ask the station that has it open over its socket, read the content that they
+//! submit, and write the file that they fetch.
+#![tactic(auto)]
+
+mod beside;
+mod calling;
+mod contents;
+mod fetching;
+
+pub use beside::Beside;
+pub use calling::call;
+pub use contents::Content;
+pub use fetching::fetch;
