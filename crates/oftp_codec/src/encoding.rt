@@ -211,7 +211,11 @@ fn put_efid(out: &mut [u8], s: &Efid) -> Result<usize, WireFault>
 {
     write(
         out,
-        &[Piece::Octets(b"T"), count_piece(s.records), count_piece(s.units)],
+        &[
+            Piece::Octets(b"T"),
+            count_piece(s.records),
+            count_piece(s.units),
+        ],
     )
 }
 

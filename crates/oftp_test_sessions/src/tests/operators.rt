@@ -95,6 +95,7 @@ const THIRD: Submission<'static> = Submission {
 };
 
 const LIMITED: Told = Told::Refused(Refusal::Limit);
+
 const DOUBLED: Told = Told::Refused(Refusal::Duplicate);
 
 /// Before the file of very many records, which is made as the test runs, and after it.

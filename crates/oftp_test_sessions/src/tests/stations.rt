@@ -141,11 +141,7 @@ impl Station<'_> {
 }
 
 // For each incoming file the state, the number of rows, and how many of them are the content's.
-fn add_incoming(
-    text: &mut String,
-    office: &mut PlainOffice,
-    content: &[u8],
-) -> Result<(), Fail> {
+fn add_incoming(text: &mut String, office: &mut PlainOffice, content: &[u8]) -> Result<(), Fail> {
     for file in office.list_in()? {
         let rows = office.rows_of(Side::Incoming, file.no, 0, file.rows)?;
         let mut same = 0u64;
