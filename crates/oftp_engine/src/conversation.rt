@@ -14,11 +14,11 @@ ghost use Rattle.oftp_engine.specs.Serving.{FailsOnlyBy, WasClean, scene};
 
 use crate::limits::LONGEST_FRAME;
 use crate::serving::{Admission, Going, Pace, Role, RunFault, drive, greet, judge, opened};
+use oftp_codec::Deframer;
 use oftp_io::Port;
 use oftp_partners::Book;
 use oftp_register::{Name, Office};
 use oftp_session::{Ending, Session};
-use oftp_codec::Deframer;
 use std::alloc::Global;
 use std::io::Write;
 use std::marker::Model;

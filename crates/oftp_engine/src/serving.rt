@@ -19,11 +19,11 @@ ghost use Rattle.oftp_engine.specs.InsideServing.{Behaves, BrokeOff, HasTurn, La
 
 use crate::conversation::Conversation;
 use crate::limits::{MOST_TURNS, PIECE};
+use oftp_codec::{Deframer, parse};
 use oftp_io::Port;
 use oftp_partners::{Book, Partner};
 use oftp_register::{Office, PlainOffice};
 use oftp_session::{Ending, Out, Session, SessionFault};
-use oftp_codec::{Deframer, parse};
 use oftp_wire::{Command, Count, SessionReason};
 use std::alloc::Global;
 use std::io::{Read, Write};

@@ -12,8 +12,8 @@ ghost use Rattle.oftp_session.specs.InsideFrame.{FillsInto, FillsOrNot};
 ghost use Rattle.oftp_session.specs.Calls.{IsFull, said};
 
 use crate::session::{Out, SessionFault};
-use oftp_vfile::{Filled, Filler, Row};
 use oftp_codec::{encode, header};
+use oftp_vfile::{Filled, Filler, Row};
 use oftp_wire::Command;
 use std::alloc::Global;
 use std::marker::Model;

@@ -1,7 +1,7 @@
 //! Reasons and faults, by number and as text.
 
-use oftp_vfile::{LocalFault, TakeFault};
 use oftp_codec::FrameFault;
+use oftp_vfile::{LocalFault, TakeFault};
 use oftp_wire::{Count, EndReason, SessionReason, StartReason, WireFault};
 use std::io;
 
