@@ -6,7 +6,7 @@
 FILE is the text, or the same compressed by gzip. The default is the file of Debian's package doc-rfc-informational (section non-free).
 Without it nothing is compared, and the first line is `NOT TRIED without the text of RFC 5024: ..`. Compared are
 
-    crates/oftp_wire/specs/Tables.antt    with the tables of section 5.3: position, length and format of each field, and the octets that it lists
+    crates/oftp_codec/specs/Tables.antt   with the tables of section 5.3: position, length and format of each field, and the octets that it lists
     crates/oftp_wire/specs/Reasons.antt   with the lists of sections 5.3.5, 5.3.10, 5.3.11 and 5.3.14: each number, and its words. The reasons
         that the station gives have names of those words
     rows/receiving/standards_example_in.row, rows/sending/standards_example_out.row    with the Data Exchange Buffer of Appendix A
@@ -29,8 +29,8 @@ from reasons import words_of
 from row_files import ROWS, Row
 
 INSTALLED = Path("/usr/share/doc/RFC/informational/rfc5024.txt.gz")
-TABLES = ROOT / "crates/oftp_wire/specs/Tables.antt"
-SPELLING = ROOT / "crates/oftp_wire/specs/Spelling.antt"
+TABLES = ROOT / "crates/oftp_codec/specs/Tables.antt"
+SPELLING = ROOT / "crates/oftp_codec/specs/Spelling.antt"
 
 # What each kind of a row stands for in the standard: the letters that its format may begin with, and the letter of its octets.
 FORMATS = {
