@@ -95,23 +95,21 @@ fn verdict_from(row: u32) -> Result<StartVerdict, OfficeFault> {
     Ok(start_verdict(&sfid, None, row <= 9, &terms))
 }
 
-const REASONS: [(u32, StartReason); 7] = [
-    (1, StartReason::FileDirectionRefused),
-    (2, StartReason::Unspecified),
-    (3, StartReason::InvalidFilename),
-    (4, StartReason::InvalidDestination),
-    (5, StartReason::InvalidOrigin),
-    (6, StartReason::MaximumRecordLengthNotSupported),
-    (7, StartReason::FileSizeTooBig),
-];
-
 #[test]
 fn the_first_test_decides(rt: HostRuntime) -> Result<(), Fail> {
-    for (row, reason) in &REASONS {
-        assert_eq!(rt; verdict_from(*row)?, refused(*reason), "row {row}");
+    for (row, verdict) in [
+        (1, refused(StartReason::FileDirectionRefused)),
+        (2, refused(StartReason::Unspecified)),
+        (3, refused(StartReason::InvalidFilename)),
+        (4, refused(StartReason::InvalidDestination)),
+        (5, refused(StartReason::InvalidOrigin)),
+        (6, refused(StartReason::MaximumRecordLengthNotSupported)),
+        (7, refused(StartReason::FileSizeTooBig)),
+        (9, FULL),
+        (10, StartVerdict::Accept(Count::new(0))),
+    ] {
+        assert_eq!(rt; verdict_from(row)?, verdict, "row {row}");
     }
-    assert_eq!(rt; verdict_from(9)?, FULL);
-    assert_eq!(rt; verdict_from(10)?, StartVerdict::Accept(Count::new(0)));
     Ok(())
 }
 
@@ -123,10 +121,11 @@ fn verdict_of(layout: Layout) -> Result<StartVerdict, OfficeFault> {
 }
 
 // The verdict on records of this length, in F and in V.
-fn limited(rt: &impl Abort, longest: u64, verdict: StartVerdict) -> Result<(), OfficeFault> {
-    let fixed = verdict_of(Layout::Fixed(Count::new(longest)))?;
+fn limited(rt: &impl Abort, longest: u16, verdict: StartVerdict) -> Result<(), OfficeFault> {
+    let length = Count::new(u64::from(longest));
+    let fixed = verdict_of(Layout::Fixed(length))?;
     assert_eq!(rt; fixed, verdict, "F of {longest}");
-    let variable = verdict_of(Layout::Variable(Count::new(longest)))?;
+    let variable = verdict_of(Layout::Variable(length))?;
     assert_eq!(rt; variable, verdict, "V of {longest}");
     Ok(())
 }
@@ -287,7 +286,7 @@ const RECORDS: EndVerdict = EndVerdict::Refuse(EndReason::InvalidRecordCount);
 const OCTETS: EndVerdict = EndVerdict::Refuse(EndReason::InvalidByteCount);
 
 // Two records of three octets, and a file in format U or T, which counts none.
-const ENDS: [(u64, u64, u64, EndVerdict); 7] = [
+const ENDS: [(u8, u8, u8, EndVerdict); 7] = [
     (2, 2, 3, EndVerdict::Accept),
     (2, 3, 3, RECORDS),
     (2, 3, 4, RECORDS),
@@ -298,12 +297,12 @@ const ENDS: [(u64, u64, u64, EndVerdict); 7] = [
 ];
 
 // The verdict on an end with these counts, if so many records of three octets in all were taken.
-fn verdict_at_end(counted: u64, records: u64, units: u64) -> EndVerdict {
+fn verdict_at_end(counted: u8, records: u8, units: u8) -> EndVerdict {
     let efid = Efid {
-        records: Count::new(records),
-        units: Count::new(units),
+        records: Count::new(u64::from(records)),
+        units: Count::new(u64::from(units)),
     };
-    end_verdict(&efid, counted, 3)
+    end_verdict(&efid, u64::from(counted), 3)
 }
 
 #[test]
