@@ -13,7 +13,7 @@ use oftp_test_sessions::given::{BOOK, LIMITS};
 use oftp_test_sessions::snapshot::snapshot;
 use oftp_wire::Count;
 use sqlite::Alter;
-use std::alloc::Global;
+use std::alloc::{AllocError, Global};
 use std::process::Abort;
 use std::test::Fail;
 
@@ -61,24 +61,32 @@ fn take<S: Alter>(
 }
 
 // Gives it the pieces, and reads the register after the second.
+fn take_all<S: Alter>(
+    alloc: Global,
+    session: &mut LifeSession<'_, SqlOffice<S>>,
+) -> Result<Talk, Fail> {
+    let [first, second, third] = PIECES;
+    let one = take(session, first)?;
+    let two = take(session, second)?;
+    let meanwhile = snapshot(alloc, session)?;
+    let three = take(session, third)?;
+    Ok(Talk {
+        ends: [one, two, three],
+        meanwhile,
+        said: session.take_out(alloc),
+    })
+}
+
+// Holds the session.
 fn converse<S: Alter + Drop>(
     alloc: Global,
     life: Life<SqlOffice<S>>,
     book: &Book,
 ) -> Result<Talk, Fail> {
     let mut session = begin_durable(life, alloc, book, Role::Responder);
-    let [first, second, third] = PIECES;
-    let one = take(&mut session, first)?;
-    let two = take(&mut session, second)?;
-    let meanwhile = snapshot(alloc, &mut session)?;
-    let three = take(&mut session, third)?;
-    let said = session.take_out(alloc);
+    let talk = take_all(alloc, &mut session)?;
     let (_life, _out) = end_durable(session);
-    Ok(Talk {
-        ends: [one, two, three],
-        meanwhile,
-        said,
-    })
+    Ok(talk)
 }
 
 // The session waits after two pieces, and then the partner ends it without an error.
@@ -88,19 +96,36 @@ fn is_heard(talk: &Talk) -> bool {
         && talk.said.as_slice() == SAID
 }
 
-// The register after a session in memory with all pieces at once. Its output is the same.
-fn left_at_once(alloc: Global, rt: &impl Abort, book: &Book) -> Result<String, Fail> {
+// All pieces at once.
+fn all_octets(alloc: Global) -> Result<Vec<u8>, AllocError> {
     let mut octets = Vec::new(alloc);
     for piece in PIECES {
         octets.extend_from_slice(piece)?;
     }
-    let mut office = PlainOffice::new(alloc, LIMITS);
-    let mut reader = Port::new(octets.as_slice(), 1_000_000);
+    Ok(octets)
+}
+
+// A session in memory with these octets. Its output is the same.
+fn hear_at_once(
+    alloc: Global,
+    rt: &impl Abort,
+    office: &mut PlainOffice,
+    book: &Book,
+    octets: &[u8],
+) {
+    let mut reader = Port::new(octets, 1_000_000);
     let mut writer = Port::new(Vec::new(alloc), 0);
     let role = Role::Responder;
-    let end = serve(alloc, &mut office, book, role, &mut reader, &mut writer);
+    let end = serve(alloc, office, book, role, &mut reader, &mut writer);
     assert!(rt; end == Ok(End::Partner(Count::new(0))));
     assert!(rt; writer.inner().as_slice() == SAID);
+}
+
+// The register after a session in memory with all pieces at once.
+fn left_at_once(alloc: Global, rt: &impl Abort, book: &Book) -> Result<String, Fail> {
+    let octets = all_octets(alloc)?;
+    let mut office = PlainOffice::new(alloc, LIMITS);
+    hear_at_once(alloc, rt, &mut office, book, octets.as_slice());
     Ok(snapshot(alloc, &mut office)?)
 }
 
@@ -144,6 +169,21 @@ impl Trial for Register {
     }
 }
 
+// Holds the session over the files. `rt` is the test's own runtime again.
+fn hear_in_pieces(host: &HostRuntime, rt: &impl Abort, book: &Book) -> Result<(), Fail> {
+    let talk = over_files(host, rt, &FILES, &Conversing { book })?;
+    assert!(rt; is_heard(&talk));
+    Ok(())
+}
+
+// Compares the register that the files then have.
+fn compare(host: &HostRuntime, rt: &impl Abort, at_once: &str) -> Result<(), Fail> {
+    let found = over_files(host, rt, &FILES, &Register)?;
+    assert_eq!(rt; found.as_str(), WHOLE);
+    assert_eq!(rt; found.as_str(), at_once);
+    Ok(())
+}
+
 /// The session waits after the second piece, and the register can be read. At its end the database has the same register as after a
 /// session with all pieces at once.
 #[test]
@@ -151,12 +191,9 @@ fn conversation_over_a_database(rt: HostRuntime) -> Result<(), Fail> {
     let alloc = rt.alloc();
     let book = read(alloc, BOOK)?;
     remove_files(&rt, &FILES);
-    let talk = over_files(&rt, &rt, &FILES, &Conversing { book: &book })?;
-    assert!(rt; is_heard(&talk));
-    let found = over_files(&rt, &rt, &FILES, &Register)?;
-    assert_eq!(rt; found.as_str(), WHOLE);
+    hear_in_pieces(&rt, &rt, &book)?;
     let at_once = left_at_once(alloc, &rt, &book)?;
-    assert_eq!(rt; found.as_str(), at_once.as_str());
+    compare(&rt, &rt, at_once.as_str())?;
     remove_files(&rt, &FILES);
     Ok(())
 }

@@ -1,6 +1,7 @@
 //! The files of a test's database.
 
 use oftp_durable::open_durable;
+use oftp_register::{Office, OfficeFault};
 use oftp_store::SqlOffice;
 use oftp_test_sessions::given::LIMITS;
 use sqlite::{Alter, Unknown};
@@ -14,6 +15,11 @@ pub(crate) fn remove_files(rt: &HostRuntime, files: &[&str; 2]) {
     for name in files {
         let _ = fs::remove_file(rt, name);
     }
+}
+
+/// How many files there are to send.
+pub(crate) fn files_to_send<O: Office>(office: &mut O) -> Result<usize, OfficeFault> {
+    Ok(office.list_out()?.len())
 }
 
 /// What a test does with an office over any store.

@@ -1,12 +1,11 @@
 //! Jobs of a life over a database, each done as it comes. The expected octets are written by hand from RFC 5024.
 
 use super::READY;
-use super::files::{Trial, over_files, remove_files};
+use super::files::{Trial, files_to_send, over_files, remove_files};
 use oftp_durable::{begin_durable, end_durable, live_durable, order_durable, stage_durable};
 use oftp_engine::{Operator, Port, Refusal, Role, RunFault, Told};
 use oftp_life::{Life, Stage};
 use oftp_partners::{Book, read};
-use oftp_register::Office;
 use oftp_store::SqlOffice;
 use oftp_test_sessions::given::{BOOK, FILE};
 use sqlite::Alter;
@@ -55,30 +54,47 @@ fn silence<S: Alter + Drop>(
     (life, Talked { stage, said })
 }
 
+// A file is handed in.
+fn submit<S: Alter>(alloc: Global, rt: &impl Abort, life: &mut Life<SqlOffice<S>>, book: &Book) {
+    let submit = carried_out(alloc, life, book, &Operator::Submit(FILE));
+    assert!(rt; submit.told == Ok(Told::Done(1)));
+    assert!(rt; submit.line.as_slice() == "done: submit 1\n".as_bytes());
+}
+
+// The session waited to its end.
+fn waited(rt: &impl Abort, talked: &Talked) {
+    assert!(rt; talked.stage == Stage::Waits);
+    assert!(rt; talked.said.as_slice() == READY);
+}
+
+// A call is refused.
+fn release<S: Alter>(alloc: Global, rt: &impl Abort, life: &mut Life<SqlOffice<S>>, book: &Book) {
+    let release = carried_out(alloc, life, book, &Operator::Release { no: 1 });
+    assert!(rt; release.told == Ok(Told::Refused(Refusal::Unknown)));
+}
+
 // A call, a session and a call that is refused are done one by one, and each has its result.
 fn grow<S: Alter + Drop>(
     alloc: Global,
     rt: &impl Abort,
     life: Life<SqlOffice<S>>,
-) -> Result<Life<SqlOffice<S>>, Fail> {
+    book: &Book,
+) -> Life<SqlOffice<S>> {
     let mut life = life;
-    let book = read(alloc, BOOK)?;
-    let submit = carried_out(alloc, &mut life, &book, &Operator::Submit(FILE));
-    assert!(rt; submit.told == Ok(Told::Done(1)));
-    assert!(rt; submit.line.as_slice() == "done: submit 1\n".as_bytes());
-    let (mut life, talked) = silence(alloc, life, &book);
-    assert!(rt; talked.stage == Stage::Waits);
-    assert!(rt; talked.said.as_slice() == READY);
-    let release = carried_out(alloc, &mut life, &book, &Operator::Release { no: 1 });
-    assert!(rt; release.told == Ok(Told::Refused(Refusal::Unknown)));
-    Ok(life)
+    submit(alloc, rt, &mut life, book);
+    let (mut life, talked) = silence(alloc, life, book);
+    waited(rt, &talked);
+    release(alloc, rt, &mut life, book);
+    life
 }
 
 // These jobs, and then how many files there are to send.
 #[derive(Drop)]
-struct Growing;
+struct Growing<'a> {
+    book: &'a Book,
+}
 
-impl Trial for Growing {
+impl Trial for Growing<'_> {
     type Found = usize;
 
     fn carry_out<S: Alter + Drop>(
@@ -87,8 +103,8 @@ impl Trial for Growing {
         rt: &impl Abort,
         office: SqlOffice<S>,
     ) -> Result<usize, Fail> {
-        let mut life = grow(alloc, rt, live_durable(office))?;
-        Ok(life.list_out()?.len())
+        let mut life = grow(alloc, rt, live_durable(office), self.book);
+        Ok(files_to_send(&mut life)?)
     }
 }
 
@@ -98,8 +114,9 @@ const FILES: [&str; 2] = ["growing_test.db", "growing_test.db-wal"];
 /// Jobs are done in a life as they come, over a database's files.
 #[test]
 fn jobs_as_they_come(rt: HostRuntime) -> Result<(), Fail> {
+    let book = read(rt.alloc(), BOOK)?;
     remove_files(&rt, &FILES);
-    let files = over_files(&rt, &rt, &FILES, &Growing)?;
+    let files = over_files(&rt, &rt, &FILES, &Growing { book: &book })?;
     assert_eq!(rt; files, 1);
     remove_files(&rt, &FILES);
     Ok(())

@@ -1,11 +1,10 @@
 //! Sessions, calls and lists over a database. The expected octets are written by hand from RFC 5024.
 
 use super::READY;
-use super::files::{Trial, over_files, remove_files};
+use super::files::{Trial, files_to_send, over_files, remove_files};
 use oftp_durable::{operate_durable, run_at, run_durable, serve_durable};
 use oftp_engine::{End, Job, Operator, Port, Refusal, Role, RunFault, Told};
 use oftp_partners::{Book, read};
-use oftp_register::Office;
 use oftp_store::SqlOffice;
 use oftp_test_sessions::given::{BOOK, FILE, LIMITS};
 use sqlite::{Alter, Unknown};
@@ -37,7 +36,7 @@ fn files_again<S: Alter + Drop>(alloc: Global, office: SqlOffice<S>) -> Result<u
     let Ok(mut office) = SqlOffice::open(alloc, conn, LIMITS) else {
         return Err("not opened".into());
     };
-    Ok(office.list_out()?.len())
+    Ok(files_to_send(&mut office)?)
 }
 
 // A session in which the partner sends nothing.
@@ -69,21 +68,41 @@ fn submit<S: Alter>(
     told
 }
 
+// It does a call.
+fn does_call<S: Alter>(alloc: Global, rt: &impl Abort, office: &mut SqlOffice<S>, book: &Book) {
+    let mut line = Vec::new(alloc);
+    let told = submit(alloc, office, book, &mut line);
+    assert!(rt; told == Ok(Told::Done(1)));
+    assert!(rt; line.as_slice() == "done: submit 1\n".as_bytes());
+}
+
+// It does a session.
+fn does_session<S: Alter>(alloc: Global, rt: &impl Abort, office: &mut SqlOffice<S>, book: &Book) {
+    let mut said = Vec::new(alloc);
+    let end = silence(alloc, office, book, &mut said);
+    assert!(rt; end == Ok(End::Input));
+    assert!(rt; said.as_slice() == READY);
+}
+
+// It does a list.
+fn does_list<S: Alter>(
+    alloc: Global,
+    rt: &impl Abort,
+    office: &mut SqlOffice<S>,
+    book: &Book,
+) -> Result<(), RunFault> {
+    let mut jobs = [call(alloc, Operator::Release { no: 1 })];
+    run_durable(alloc, office, book, &mut jobs)?;
+    assert!(rt; answer(&jobs[0]) == Some(Ok(Told::Refused(Refusal::Unknown))));
+    Ok(())
+}
+
 // One office does a call, a session and a list.
 fn work<S: Alter>(alloc: Global, rt: &impl Abort, office: &mut SqlOffice<S>) -> Result<(), Fail> {
     let book = read(alloc, BOOK)?;
-    let mut line = Vec::new(alloc);
-    let told = submit(alloc, office, &book, &mut line);
-    assert!(rt; told == Ok(Told::Done(1)));
-    assert!(rt; line.as_slice() == "done: submit 1\n".as_bytes());
-    let mut said = Vec::new(alloc);
-    let end = silence(alloc, office, &book, &mut said);
-    assert!(rt; end == Ok(End::Input));
-    assert!(rt; said.as_slice() == READY);
-    let mut jobs = [call(alloc, Operator::Release { no: 1 })];
-    run_durable(alloc, office, &book, &mut jobs)?;
-    assert!(rt; answer(&jobs[0]) == Some(Ok(Told::Refused(Refusal::Unknown))));
-    Ok(())
+    does_call(alloc, rt, office, &book);
+    does_session(alloc, rt, office, &book);
+    Ok(does_list(alloc, rt, office, &book)?)
 }
 
 // How many files there are to send once the office is opened again, and before that its work, if it has some.
@@ -120,16 +139,21 @@ fn list(rt: &HostRuntime, book: &Book, jobs: &mut [AnyJob<'_>]) -> Option<Result
     }
 }
 
+// Hands a file in by a list over the files. `rt` is the test's own runtime again.
+fn list_a_call(host: &HostRuntime, rt: &impl Abort) -> Result<(), Fail> {
+    let book = read(host.alloc(), BOOK)?;
+    let mut jobs = [call(host.alloc(), Operator::Submit(FILE))];
+    let ran = list(host, &book, &mut jobs);
+    assert!(rt; ran == Some(Ok(())));
+    assert!(rt; answer(&jobs[0]) == Some(Ok(Told::Done(1))));
+    Ok(())
+}
+
 /// A list is done over the files at a path, and its file exists when they are opened again. An office works over new files.
 #[test]
 fn list_over_files(rt: HostRuntime) -> Result<(), Fail> {
-    let alloc = rt.alloc();
     remove_files(&rt, &FILES);
-    let book = read(alloc, BOOK)?;
-    let mut jobs = [call(alloc, Operator::Submit(FILE))];
-    let ran = list(&rt, &book, &mut jobs);
-    assert!(rt; ran == Some(Ok(())));
-    assert!(rt; answer(&jobs[0]) == Some(Ok(Told::Done(1))));
+    list_a_call(&rt, &rt)?;
     assert_eq!(rt;
         over_files(&rt, &rt, &FILES, &Again { has_work: false })?,
         1

@@ -11,6 +11,7 @@ use ResponseKind::{EndResponse, NegativeEndResponse};
 use Side::{Incoming, Outgoing};
 use oftp_register::{ResponseKind, Side};
 use oftp_vfile::Format::{Fixed, Text, Variable};
+use std::alloc::Global;
 use std::fs;
 use std::process::Abort;
 use std::test::Fail;
@@ -123,24 +124,50 @@ fn compare(rt: &impl Abort, rows: &[(Ask, &str)], lines: &[String]) {
     }
 }
 
+// The look-ups in memory. Returns their lines, after that of the opening.
+fn look_up(alloc: Global, rt: &impl Abort, asks: &[Ask]) -> Result<Vec<String>, Fail> {
+    let said = play_both(alloc, rt, FEW, &[Step::Open(asks)])?;
+    assert_eq!(rt; said.len().saturating_sub(ANSWERS.len()), 2);
+    if let [_, lines @ ..] = said.as_slice() {
+        compare(rt, ANSWERS, lines);
+    }
+    Ok(said)
+}
+
+// The same over new files, with the same lines. `rt` is the test's own runtime again, since a borrowed one may not end a test.
+fn look_up_in_files(
+    host: &HostRuntime,
+    rt: &impl Abort,
+    asks: &[Ask],
+    said: &[String],
+) -> Result<(), Fail> {
+    let in_files = play_at(host, FILES[0], false, asks)?;
+    same(rt, in_files.as_slice(), said);
+    Ok(())
+}
+
+// All look-ups over the files that are opened again.
+fn look_up_again(
+    host: &HostRuntime,
+    rt: &impl Abort,
+    is_migrated: bool,
+    wanted: &str,
+) -> Result<(), Fail> {
+    let again = play_at(host, FILES[0], is_migrated, &[Told])?;
+    assert_eq!(rt; again.len(), 2);
+    assert_eq!(rt; last(again.as_slice()), wanted);
+    Ok(())
+}
+
 /// The look-ups over an office in memory, over a database in memory, and over files that are opened again.
 #[test]
 fn look_ups_answer(rt: HostRuntime) -> Result<(), Fail> {
     let asks = asks(&rt)?;
-    let asks = asks.as_slice();
-    let said = play_both(rt.alloc(), &rt, FEW, &[Step::Open(asks)])?;
-    let said = said.as_slice();
-    assert_eq!(rt; said.len().saturating_sub(ANSWERS.len()), 2);
-    if let [_, lines @ ..] = said {
-        compare(&rt, ANSWERS, lines);
-    }
+    let said = look_up(rt.alloc(), &rt, asks.as_slice())?;
     remove_files(&rt);
-    let in_files = play_at(&rt, FILES[0], false, asks)?;
-    same(&rt, in_files.as_slice(), said);
+    look_up_in_files(&rt, &rt, asks.as_slice(), said.as_slice())?;
     for is_migrated in [false, true] {
-        let again = play_at(&rt, FILES[0], is_migrated, &[Told])?;
-        assert_eq!(rt; again.len(), 2);
-        assert_eq!(rt; last(again.as_slice()), last(said));
+        look_up_again(&rt, &rt, is_migrated, last(said.as_slice()))?;
     }
     remove_files(&rt);
     Ok(())

@@ -71,12 +71,16 @@ const MIGRATED: Tale = (
     ],
 );
 
-fn tell(alloc: Global, rt: &impl Abort, steps: &[Step<'_>], wanted: &[&str]) -> Result<(), Fail> {
-    let played = play(alloc, FEW, steps, &Image::empty(alloc), NO_STOP)?;
-    assert_eq!(rt; played.said.len(), wanted.len());
-    for (found, wanted) in played.said.iter().zip(wanted) {
+fn compare(rt: &impl Abort, said: &[String], wanted: &[&str]) {
+    assert_eq!(rt; said.len(), wanted.len());
+    for (found, wanted) in said.iter().zip(wanted) {
         assert_eq!(rt; found.as_str(), *wanted);
     }
+}
+
+fn tell(alloc: Global, rt: &impl Abort, steps: &[Step<'_>], wanted: &[&str]) -> Result<(), Fail> {
+    let played = play(alloc, FEW, steps, &Image::empty(alloc), NO_STOP)?;
+    compare(rt, played.said.as_slice(), wanted);
     Ok(())
 }
 
@@ -150,19 +154,27 @@ fn steps_of(
     Ok(steps)
 }
 
+fn tell_edit(alloc: Global, rt: &impl Abort, row: Wrong) -> Result<(), Fail> {
+    let (edit, objects, rows) = row;
+    let steps = steps_of(alloc, &[Open(&[])], edit, &OPENINGS)?;
+    let wanted = ["open", "wrong schema", "wrong schema", objects, rows];
+    tell(alloc, rt, steps.as_slice(), &wanted)
+}
+
+fn tell_foreign(alloc: Global, rt: &impl Abort, edit: &'static str) -> Result<(), Fail> {
+    let steps = steps_of(alloc, &[], edit, &OPENINGS[..3])?;
+    let wanted = ["wrong schema", "wrong schema", "1"];
+    tell(alloc, rt, steps.as_slice(), &wanted)
+}
+
 /// A store that is neither empty nor an office's is refused, and unchanged.
 #[test]
 fn wrong_schema(rt: HostRuntime) -> Result<(), Fail> {
     for row in EDITS {
-        let (edit, objects, rows) = *row;
-        let steps = steps_of(rt.alloc(), &[Open(&[])], edit, &OPENINGS)?;
-        let wanted = ["open", "wrong schema", "wrong schema", objects, rows];
-        tell(rt.alloc(), &rt, steps.as_slice(), &wanted)?;
+        tell_edit(rt.alloc(), &rt, *row)?;
     }
     for edit in FOREIGN {
-        let steps = steps_of(rt.alloc(), &[], edit, &OPENINGS[..3])?;
-        let wanted = ["wrong schema", "wrong schema", "1"];
-        tell(rt.alloc(), &rt, steps.as_slice(), &wanted)?;
+        tell_foreign(rt.alloc(), &rt, edit)?;
     }
     Ok(())
 }

@@ -7,7 +7,7 @@ use oftp_tables::StoreFault;
 use oftp_vfile::Limits;
 use sqlite::{Alter, Connection, Error, FileStore, Files, Options, Unknown};
 use sqlite_disk::{Crash, Disk, Fuse, Memory};
-use std::alloc::Global;
+use std::alloc::{AllocError, Global};
 use std::io;
 use std::process::Abort;
 use std::test::Fail;
@@ -138,6 +138,12 @@ fn batch<S: Alter>(conn: &mut Connection<S>, sql: &str) -> Result<(), Error> {
     conn.execute_batch(sql)
 }
 
+fn say_fault(alloc: Global, said: &mut Vec<String>, done: Result<(), Error>) {
+    if done.is_err() {
+        say(alloc, said, "not carried out");
+    }
+}
+
 fn number<S: Alter>(conn: &mut Connection<S>, sql: &str) -> Result<i64, Error> {
     conn.query_row(sql, &[])?.get(0)
 }
@@ -169,9 +175,8 @@ fn take<S: Alter>(
             use_office(alloc, SqlOffice::migrate(alloc, conn, limits), asks, said)
         }
         Step::Batch(sql) => {
-            if batch(&mut conn, sql).is_err() {
-                say(alloc, said, "not carried out");
-            }
+            let done = batch(&mut conn, sql);
+            say_fault(alloc, said, done);
             conn
         }
         Step::Number(sql) => {
@@ -318,6 +323,31 @@ pub(super) fn play_both(
     let played = play(alloc, limits, steps, &Image::empty(alloc), NO_STOP)?;
     same(rt, played.said.as_slice(), wanted.as_slice());
     Ok(wanted)
+}
+
+// Opens the office before each part of the look-ups.
+fn openings_of<'a>(
+    alloc: Global,
+    asks: &'a [Ask],
+    part: usize,
+) -> Result<Vec<Step<'a>>, AllocError> {
+    let mut steps = Vec::new(alloc);
+    for asks in asks.chunks(part.max(1)) {
+        steps.push(Step::Open(asks))?;
+    }
+    Ok(steps)
+}
+
+/// The same for look-ups. The office over the database is opened again after each part of them.
+pub(super) fn play_in_parts(
+    alloc: Global,
+    rt: &impl Abort,
+    limits: Limits,
+    asks: &[Ask],
+    part: usize,
+) -> Result<Vec<String>, Fail> {
+    let steps = openings_of(alloc, asks, part)?;
+    play_both(alloc, rt, limits, steps.as_slice())
 }
 
 // Does look-ups with an office, and drops it.

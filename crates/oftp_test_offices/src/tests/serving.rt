@@ -41,6 +41,35 @@ fn hear<O: Office>(
     end
 }
 
+// The octets of some parts.
+fn octets_of(alloc: Global, parts: &[&[u8]]) -> Result<Vec<u8>, AllocError> {
+    let mut octets = Vec::new(alloc);
+    for part in parts {
+        octets.extend_from_slice(part)?;
+    }
+    Ok(octets)
+}
+
+fn line_of(alloc: Global, end: Result<End, RunFault>, said: &[u8]) -> Result<String, AllocError> {
+    let mut line = String::from_str(alloc, words_of(end))?;
+    for octet in said {
+        line.push(char::from(*octet))?;
+    }
+    Ok(line)
+}
+
+// The line of a session with these octets.
+fn hear_line<O: Office>(
+    alloc: Global,
+    office: &mut O,
+    book: &Book,
+    heard: &[u8],
+) -> Result<String, AllocError> {
+    let mut said = Vec::new(alloc);
+    let end = hear(alloc, office, book, heard, &mut said);
+    line_of(alloc, end, said.as_slice())
+}
+
 /// How a session ends in which a partner calls and says this, and the octets that go out.
 pub(super) fn session_line<O: Office>(
     alloc: Global,
@@ -50,17 +79,8 @@ pub(super) fn session_line<O: Office>(
     let Ok(book) = read(alloc, BOOK) else {
         return Err(OfficeFault::Memory);
     };
-    let mut heard = Vec::new(alloc);
-    for part in parts {
-        heard.extend_from_slice(part)?;
-    }
-    let mut said = Vec::new(alloc);
-    let end = hear(alloc, office, &book, heard.as_slice(), &mut said);
-    let mut line = String::from_str(alloc, words_of(end))?;
-    for octet in said.as_slice() {
-        line.push(char::from(*octet))?;
-    }
-    Ok(line)
+    let heard = octets_of(alloc, parts)?;
+    Ok(hear_line(alloc, office, &book, heard.as_slice())?)
 }
 
 // Some parts in one.
@@ -147,15 +167,26 @@ const SHORT: Limits = Limits {
     octets: 1024,
 };
 
+// Whether the line at an index is these parts in one.
+fn is_joined_at(
+    alloc: Global,
+    lines: &[String],
+    at: usize,
+    parts: &[&str],
+) -> Result<bool, AllocError> {
+    let wanted = joined(alloc, parts)?;
+    Ok(is_at(lines, at, wanted.as_str()))
+}
+
 #[test]
 fn octets_pass_the_limit(rt: HostRuntime) -> Result<(), Fail> {
     let alloc = rt.alloc();
     let asks = [Ask::Serve(TOO_MUCH), Ask::Kept];
     let lines = play_both(alloc, &rt, SHORT, &[Step::Open(&asks)])?;
-    let (said, kept) = (joined(alloc, &REFUSED)?, joined(alloc, &KEPT)?);
+    let lines = lines.as_slice();
     assert_eq!(rt; lines.len(), 3);
-    assert!(rt; is_at(lines.as_slice(), 1, said.as_str()));
-    assert!(rt; is_at(lines.as_slice(), 2, kept.as_str()));
+    assert!(rt; is_joined_at(alloc, lines, 1, &REFUSED)?);
+    assert!(rt; is_joined_at(alloc, lines, 2, &KEPT)?);
     Ok(())
 }
 
@@ -186,23 +217,20 @@ const BEGINS: [usize; 4] = [88, 110, 117, 123];
 /// ESID 08.
 const LAST_WORDS: &str = "\x10\0\0\x0bF08000\r";
 
-// How many octets of the answers are out, and whether a fault of the office ended the session. None is what mustn't be said.
-fn octets_out(alloc: Global, line: &str) -> Result<Option<(usize, bool)>, AllocError> {
-    let answers = joined(
-        alloc,
-        &[GREETED, TAKEN, CREDIT, "\x10\0\0\x064N\x10\0\0\x05P"],
-    )?;
-    let answers = answers.as_str();
+const ANSWERS: [&str; 4] = [GREETED, TAKEN, CREDIT, "\x10\0\0\x064N\x10\0\0\x05P"];
+
+// How many octets of these answers are out, and whether a fault of the office ended the session. None is what mustn't be said.
+fn out_of(answers: &str, line: &str) -> Option<(usize, bool)> {
     if let Some(said) = line.strip_prefix("partner ") {
-        return Ok((said == answers).then_some((said.len(), false)));
+        return (said == answers).then_some((said.len(), false));
     }
-    let Some(said) = line.strip_prefix("office ") else {
-        return Ok(None);
-    };
-    let Some(said) = said.strip_suffix(LAST_WORDS) else {
-        return Ok(None);
-    };
-    Ok(answers.starts_with(said).then_some((said.len(), true)))
+    let said = line.strip_prefix("office ")?.strip_suffix(LAST_WORDS)?;
+    answers.starts_with(said).then_some((said.len(), true))
+}
+
+fn octets_out(alloc: Global, line: &str) -> Result<Option<(usize, bool)>, AllocError> {
+    let answers = joined(alloc, &ANSWERS)?;
+    Ok(out_of(answers.as_str(), line))
 }
 
 fn is_register(changes: usize, found: &[String]) -> bool {
@@ -218,18 +246,14 @@ fn is_kept(out: usize, is_fault: bool, found: &[String]) -> bool {
     is_register(least, found) || is_fault && is_register(least.saturating_add(1), found)
 }
 
-// Looks at what a run left that may have been stopped. It answers whether a session was stopped, or ended well; none began where the stop came
-// within the opening.
-fn look_at(alloc: Global, rt: &impl Abort, played: &Played) -> Result<Option<bool>, Fail> {
-    let found = play(
-        alloc,
-        FEW,
-        &[Step::Open(&[Ask::Kept])],
-        &played.left,
-        NO_STOP,
-    )?;
-    let found = found.said.as_slice();
-    let Some(line) = played.said.get(1) else {
+// Compares what a run said with what is found after it.
+fn compare(
+    alloc: Global,
+    rt: &impl Abort,
+    said: &[String],
+    found: &[String],
+) -> Result<Option<bool>, Fail> {
+    let Some(line) = said.get(1) else {
         assert!(rt; is_kept(0, false, found));
         return Ok(None);
     };
@@ -240,14 +264,28 @@ fn look_at(alloc: Global, rt: &impl Abort, played: &Played) -> Result<Option<boo
     Ok(Some(is_fault))
 }
 
+const LOOKS: [Step<'static>; 1] = [Step::Open(&[Ask::Kept])];
+
+// Looks at what a run left that may have been stopped. It answers whether a session was stopped, or ended well; none began where the stop came
+// within the opening.
+fn look_at(alloc: Global, rt: &impl Abort, played: &Played) -> Result<Option<bool>, Fail> {
+    let found = play(alloc, FEW, &LOOKS, &played.left, NO_STOP)?;
+    compare(alloc, rt, played.said.as_slice(), found.said.as_slice())
+}
+
+const SERVES: [Step<'static>; 1] = [Step::Open(&[Ask::Serve(HEARD)])];
+
+// Stops the session once, and looks at what it left.
+fn stop_once(alloc: Global, rt: &impl Abort, stop: Stop) -> Result<Option<bool>, Fail> {
+    let played = play(alloc, FEW, &SERVES, &Image::empty(alloc), stop)?;
+    look_at(alloc, rt, &played)
+}
+
 // Stops the session at each call on one file in turn, up to one that isn't stopped. It answers how many were.
 fn stop_at_each(alloc: Global, rt: &impl Abort, stop: Stop) -> Result<u64, Fail> {
-    let steps = [Step::Open(&[Ask::Serve(HEARD)])];
-    let empty = Image::empty(alloc);
     let mut stopped = 0_u64;
     for calls in 0..MOST_CALLS {
-        let played = play(alloc, FEW, &steps, &empty, Stop { calls, ..stop })?;
-        match look_at(alloc, rt, &played)? {
+        match stop_once(alloc, rt, Stop { calls, ..stop })? {
             Some(true) => stopped = stopped.saturating_add(1),
             Some(false) => return Ok(stopped),
             None => {}

@@ -46,12 +46,17 @@ const FIRST: &[Act] = &[
 
 const MIGRATED: &str = "out 1 A V3 plan Returned mark 0 2/3 abc||; got 1 A NERP 9  ; ";
 
-// The look-ups for some changes: each change.
-fn asks_of(alloc: Global, changes: &[Act]) -> Result<Vec<Ask>, AllocError> {
-    let mut asks = Vec::new(alloc);
+fn add_changes(asks: &mut Vec<Ask>, changes: &[Act]) -> Result<(), AllocError> {
     for act in changes {
         asks.push(Ask::Change(*act))?;
     }
+    Ok(())
+}
+
+// The look-ups for some changes: each change.
+fn asks_of(alloc: Global, changes: &[Act]) -> Result<Vec<Ask>, AllocError> {
+    let mut asks = Vec::new(alloc);
+    add_changes(&mut asks, changes)?;
     Ok(asks)
 }
 
@@ -59,24 +64,26 @@ fn asks_of(alloc: Global, changes: &[Act]) -> Result<Vec<Ask>, AllocError> {
 fn asks_to_go_on(alloc: Global, changes: &[Act]) -> Result<Vec<Ask>, AllocError> {
     let mut asks = Vec::new(alloc);
     asks.push(Ask::Kept)?;
-    for act in changes {
-        asks.push(Ask::Change(*act))?;
-    }
+    add_changes(&mut asks, changes)?;
     asks.push(Ask::Kept)?;
     Ok(asks)
 }
 
-// The register as text before the first change, and after each.
-fn registers(alloc: Global) -> Result<Vec<String>, AllocError> {
+// All changes, with the register as text before the first, and after each.
+fn asks_for_registers(alloc: Global) -> Result<Vec<Ask>, AllocError> {
     let mut asks = Vec::new(alloc);
     asks.push(Ask::Kept)?;
     for act in CHANGES {
         asks.push(Ask::Change(*act))?;
         asks.push(Ask::Kept)?;
     }
-    let said = play_plain(alloc, FEW, &[Step::Open(asks.as_slice())]);
+    Ok(asks)
+}
+
+// The second of each two lines.
+fn second_lines(alloc: Global, said: &[String]) -> Result<Vec<String>, AllocError> {
     let mut all = Vec::new(alloc);
-    for lines in said.as_slice().chunks(2) {
+    for lines in said.chunks(2) {
         if let [_, kept] = lines {
             all.push(kept.clone()?)?;
         }
@@ -84,9 +91,23 @@ fn registers(alloc: Global) -> Result<Vec<String>, AllocError> {
     Ok(all)
 }
 
+// The register as text before the first change, and after each.
+fn registers(alloc: Global) -> Result<Vec<String>, AllocError> {
+    let asks = asks_for_registers(alloc)?;
+    let said = play_plain(alloc, FEW, &[Step::Open(asks.as_slice())]);
+    second_lines(alloc, said.as_slice())
+}
+
 // How many changes were made.
 fn made(said: &[String]) -> usize {
     said.iter().filter(|line| line.as_str() == "made").count()
+}
+
+// Whether an office has made the changes that remain, and had the register at an index before them and the last register after them.
+fn has_gone_on(registers: &[String], at: usize, rest: &[Act], said: &[String]) -> bool {
+    made(said) == rest.len()
+        && is_at(registers.get(at), said.get(1))
+        && is_at(registers.last(), said.last())
 }
 
 // Whether a crash left the register at an index. If so, an office makes the remaining changes and has the last register.
@@ -94,12 +115,7 @@ fn goes_on_at(alloc: Global, registers: &[String], at: usize, left: &Image) -> R
     let rest = CHANGES.get(at..).unwrap_or(&[]);
     let asks = asks_to_go_on(alloc, rest)?;
     let all = play(alloc, FEW, &[Step::Open(asks.as_slice())], left, NO_STOP)?;
-    let said = all.said.as_slice();
-    Ok(
-        made(said) == rest.len()
-            && is_at(registers.get(at), said.get(1))
-            && is_at(registers.last(), said.last()),
-    )
+    Ok(has_gone_on(registers, at, rest, all.said.as_slice()))
 }
 
 fn is_at(register: Option<&String>, found: Option<&String>) -> bool {
@@ -125,6 +141,21 @@ fn goes_on(alloc: Global, registers: &[String], stopped: &Played) -> Result<bool
 /// More calls than a run makes.
 pub(super) const MOST_CALLS: u64 = 100_000;
 
+// Crashes a run at a call. Returns whether it ended without a crash.
+fn stop_once(
+    alloc: Global,
+    rt: &impl Abort,
+    registers: &[String],
+    asks: &[Ask],
+    stop: Stop,
+) -> Result<bool, Fail> {
+    let steps = [Step::Open(asks)];
+    let played = play(alloc, FEW, &steps, &Image::empty(alloc), stop)?;
+    let goes_on = goes_on(alloc, registers, &played)?;
+    assert!(rt; goes_on, "after a stop at call {}", stop.calls);
+    Ok(made(played.said.as_slice()) == CHANGES.len())
+}
+
 // Crashes runs at each call on one file in turn, until one ends without a crash.
 fn stop_at_each(
     alloc: Global,
@@ -133,13 +164,14 @@ fn stop_at_each(
     stop: Stop,
 ) -> Result<u64, Fail> {
     let asks = asks_of(alloc, CHANGES)?;
-    let steps = [Step::Open(asks.as_slice())];
-    let empty = Image::empty(alloc);
     for calls in 0..MOST_CALLS {
-        let played = play(alloc, FEW, &steps, &empty, Stop { calls, ..stop })?;
-        let goes_on = goes_on(alloc, registers, &played)?;
-        assert!(rt; goes_on, "after a stop at call {calls}");
-        if made(played.said.as_slice()) == CHANGES.len() {
+        if stop_once(
+            alloc,
+            rt,
+            registers,
+            asks.as_slice(),
+            Stop { calls, ..stop },
+        )? {
             return Ok(calls);
         }
     }
@@ -193,15 +225,25 @@ fn stop_at_each_call_on_the_database(rt: HostRuntime) -> Result<(), Fail> {
     stop_on(rt.alloc(), &rt, &STOPS[2..])
 }
 
-// The files of a store of schema 1.
-fn first_image(alloc: Global, rt: &impl Abort) -> Result<Image, Fail> {
+// The files of a store after the changes of `FIRST`.
+fn changed_image(alloc: Global, rt: &impl Abort) -> Result<Image, Fail> {
     let asks = asks_of(alloc, FIRST)?;
     let steps = [Step::Open(asks.as_slice())];
     let Played { said, left } = play(alloc, FEW, &steps, &Image::empty(alloc), NO_STOP)?;
     assert_eq!(rt; made(said.as_slice()), FIRST.len());
     assert_eq!(rt; said.len().saturating_sub(FIRST.len()), 1);
-    let renewal = [Step::Batch("DROP TABLE received_note; UPDATE about SET schema = 1")];
-    let Played { said, left } = play(alloc, FEW, &renewal, &left, NO_STOP)?;
+    Ok(left)
+}
+
+// It turns that store into one of schema 1.
+const TO_FIRST: [Step<'static>; 1] = [Step::Batch(
+    "DROP TABLE received_note; UPDATE about SET schema = 1",
+)];
+
+// The files of a store of schema 1.
+fn first_image(alloc: Global, rt: &impl Abort) -> Result<Image, Fail> {
+    let changed = changed_image(alloc, rt)?;
+    let Played { said, left } = play(alloc, FEW, &TO_FIRST, &changed, NO_STOP)?;
     assert!(rt; said.is_empty());
     Ok(left)
 }
@@ -221,19 +263,25 @@ fn is_of_schema_1(said: &[String]) -> bool {
     }
 }
 
+// Whether files are migrated or, if the migration wasn't finished, of schema 1.
+fn is_either(alloc: Global, left: &Image, ended: bool) -> Result<bool, Fail> {
+    let opened = play(alloc, FEW, &[Step::Open(&[Ask::Kept])], left, NO_STOP)?;
+    let opened = opened.said.as_slice();
+    Ok(is_migrated(opened) || is_of_schema_1(opened) && !ended)
+}
+
+fn can_be_migrated(alloc: Global, left: &Image) -> Result<bool, Fail> {
+    let migrated = play(alloc, FEW, &[Step::Migrate(&[Ask::Kept])], left, NO_STOP)?;
+    Ok(is_migrated(migrated.said.as_slice()))
+}
+
 // Migrates, up to a crash. Returns whether the migration was finished. The files are of schema 1 or migrated, and can then be migrated.
 fn migrate_once(alloc: Global, rt: &impl Abort, first: &Image, stop: Stop) -> Result<bool, Fail> {
     let Played { said, left } = play(alloc, FEW, &[Step::Migrate(&[])], first, stop)?;
     let ended = said.iter().any(|line| line.as_str() == "open");
-    let opened = play(alloc, FEW, &[Step::Open(&[Ask::Kept])], &left, NO_STOP)?;
-    let opened = opened.said.as_slice();
-    assert!(rt; is_migrated(opened) || is_of_schema_1(opened) && !ended);
-    let migrated = play(alloc, FEW, &[Step::Migrate(&[Ask::Kept])], &left, NO_STOP)?;
-    assert!(rt;
-        is_migrated(migrated.said.as_slice()),
-        "at call {}",
-        stop.calls
-    );
+    assert!(rt; is_either(alloc, &left, ended)?);
+    let is_so = can_be_migrated(alloc, &left)?;
+    assert!(rt; is_so, "at call {}", stop.calls);
     Ok(ended)
 }
 

@@ -3,7 +3,7 @@
 
 use super::act::Act;
 use super::asking::{Ask, words_of};
-use super::playing::{FEW, Step, play_both};
+use super::playing::{FEW, play_in_parts};
 use Act::{
     BeginClosing, Close, File, GiveUp, HandOver, Issue, Keep, Mark, Refuse, Reopen, Send, Start,
     Submit,
@@ -280,13 +280,19 @@ const STORIES: [&[Row]; 9] = [
     ISSUED,
 ];
 
-// The steps of a story: each change, then the register as text and the results of all look-ups.
+// A change, then the register as text and the results of all look-ups.
+fn add_change(asks: &mut Vec<Ask>, act: Act) -> Result<(), AllocError> {
+    for ask in [Ask::Change(act), Ask::Kept, Ask::Told] {
+        asks.push(ask)?;
+    }
+    Ok(())
+}
+
+// The steps of a story.
 fn asks_of(alloc: Global, story: &[Row]) -> Result<Vec<Ask>, AllocError> {
     let mut asks = Vec::new(alloc);
     for (act, ..) in story {
-        asks.push(Ask::Change(*act))?;
-        asks.push(Ask::Kept)?;
-        asks.push(Ask::Told)?;
+        add_change(&mut asks, *act)?;
     }
     Ok(asks)
 }
@@ -304,18 +310,18 @@ fn is_row(lines: &[String], row: &Row) -> bool {
     }
 }
 
+fn compare(rt: &impl Abort, said: &[String], story: &[Row]) {
+    assert_eq!(rt; (said.len() / 4, said.len() % 4), (story.len(), 0));
+    for (lines, row) in said.chunks(4).zip(story) {
+        assert!(rt; is_row(lines, row), "with {}", row.2);
+    }
+}
+
 // The office over a database is opened again after each change.
 fn tell(alloc: Global, rt: &impl Abort, story: &[Row]) -> Result<(), Fail> {
     let asks = asks_of(alloc, story)?;
-    let mut steps = Vec::new(alloc);
-    for asks in asks.as_slice().chunks(3) {
-        steps.push(Step::Open(asks))?;
-    }
-    let said = play_both(alloc, rt, FEW, steps.as_slice())?;
-    assert_eq!(rt; (said.len() / 4, said.len() % 4), (story.len(), 0));
-    for (lines, row) in said.as_slice().chunks(4).zip(story) {
-        assert!(rt; is_row(lines, row), "with {}", row.2);
-    }
+    let said = play_in_parts(alloc, rt, FEW, asks.as_slice(), 3)?;
+    compare(rt, said.as_slice(), story);
     Ok(())
 }
 

@@ -182,12 +182,16 @@ fn add_all_received<O: Office>(all: &mut String, office: &mut O) -> Result<(), O
     Ok(())
 }
 
+fn add_kept<O: Office>(all: &mut String, office: &mut O) -> Result<(), OfficeFault> {
+    add_all_in(all, office)?;
+    add_all_out(all, office)?;
+    add_all_received(all, office)
+}
+
 /// The register as text: the files with their rows, and the received responses.
 pub(super) fn kept<O: Office>(alloc: Global, office: &mut O) -> Result<String, OfficeFault> {
     let mut all = String::new(alloc);
-    add_all_in(&mut all, office)?;
-    add_all_out(&mut all, office)?;
-    add_all_received(&mut all, office)?;
+    add_kept(&mut all, office)?;
     Ok(all)
 }
 
@@ -374,14 +378,23 @@ fn add_limits<O: Office>(all: &mut String, office: &mut O) -> Result<(), OfficeF
     Ok(())
 }
 
+fn add_responses<O: Office>(all: &mut String, office: &mut O) -> Result<(), OfficeFault> {
+    add_all_issued(all, office)?;
+    add_all_answered(all, office)
+}
+
+// Adds what is told of numbers, of letters and of partners.
+fn add_looks<O: Office>(all: &mut String, office: &mut O) -> Result<(), OfficeFault> {
+    add_numbers(all, office)?;
+    add_files(all, office)?;
+    add_all_next(all, office)
+}
+
 /// The results of all look-ups.
 pub(super) fn told<O: Office>(alloc: Global, office: &mut O) -> Result<String, OfficeFault> {
     let mut all = kept(alloc, office)?;
-    add_all_issued(&mut all, office)?;
-    add_all_answered(&mut all, office)?;
-    add_numbers(&mut all, office)?;
-    add_files(&mut all, office)?;
-    add_all_next(&mut all, office)?;
+    add_responses(&mut all, office)?;
+    add_looks(&mut all, office)?;
     add_limits(&mut all, office)?;
     Ok(all)
 }

@@ -4,10 +4,11 @@ ghost use Rattle.std.specs.Prelude.{◌<◌};
 
 use super::act::Act;
 use super::asking::{Ask, words_of};
-use super::playing::{Step, play_both};
+use super::playing::{is_at, play_in_parts};
 use oftp_register::{Cause, ResponseKind};
 use oftp_vfile::{Format, Limits};
 use std::alloc::AllocError;
+use std::process::Abort;
 use std::test::Fail;
 
 const MANY: Limits = Limits {
@@ -148,6 +149,18 @@ fn add_change(asks: &mut Vec<Ask>, act: Act) -> Result<(), AllocError> {
     Ok(())
 }
 
+// A random change, and a look-up after it.
+fn draw_change(
+    draw: &mut Draw,
+    asks: &mut Vec<Ask>,
+    kinds: &mut Vec<usize>,
+) -> Result<(), AllocError> {
+    let kind = draw.below(KINDS);
+    add_change(asks, draw.act(kind))?;
+    kinds.push(kind)?;
+    Ok(())
+}
+
 // A file of two thousand rows, and then random changes, with a look-up after each. All look-ups are done after each two hundred changes, and at
 // the end.
 fn draw_asks(asks: &mut Vec<Ask>, kinds: &mut Vec<usize>) -> Result<(), AllocError> {
@@ -155,9 +168,7 @@ fn draw_asks(asks: &mut Vec<Ask>, kinds: &mut Vec<usize>) -> Result<(), AllocErr
     add_change(asks, Act::SubmitLong(b"L", 2_000))?;
     kinds.push(KINDS)?;
     for turn in 1..2_000 {
-        let kind = draw.below(KINDS);
-        add_change(asks, draw.act(kind))?;
-        kinds.push(kind)?;
+        draw_change(&mut draw, asks, kinds)?;
         if turn % 200 == 199 {
             asks.push(Ask::Told)?;
         }
@@ -180,6 +191,17 @@ fn tally_of(kinds: &[usize], said: &[String]) -> Tally {
     tally
 }
 
+// Compares the results of the changes with those that they can have.
+fn compare(rt: &impl Abort, kinds: &[usize], said: &[String]) {
+    assert_eq!(rt; said.len(), 4_022);
+    assert!(rt; is_at(said, 1, "made"));
+    let tally = tally_of(kinds, said);
+    assert!(rt;
+        tally.0 == WANTED,
+        "an answer to a kind never came, or one that it can't have"
+    );
+}
+
 /// Each kind of change is made, and refused for each cause that it can have. The office over a database is opened again after each two hundred
 /// changes, and before the last look-ups.
 #[test]
@@ -188,17 +210,7 @@ fn two_thousand_changes(rt: HostRuntime) -> Result<(), Fail> {
     let mut asks = Vec::new(alloc);
     let mut kinds = Vec::new(alloc);
     draw_asks(&mut asks, &mut kinds)?;
-    let mut steps = Vec::new(alloc);
-    for asks in asks.as_slice().chunks(401) {
-        steps.push(Step::Open(asks))?;
-    }
-    let said = play_both(alloc, &rt, MANY, steps.as_slice())?;
-    assert_eq!(rt; said.len(), 4_022);
-    assert!(rt; said.get(1).is_some_and(|line| line.as_str() == "made"));
-    let tally = tally_of(kinds.as_slice(), said.as_slice());
-    assert!(rt;
-        tally.0 == WANTED,
-        "an answer to a kind never came, or one that it can't have"
-    );
+    let said = play_in_parts(alloc, &rt, MANY, asks.as_slice(), 401)?;
+    compare(&rt, kinds.as_slice(), said.as_slice());
     Ok(())
 }

@@ -9,6 +9,7 @@ use oftp_register::{
 use oftp_vfile::{Format, LONGEST_RECORD, Limits, Row, Rows};
 use oftp_wire::{Count, Digits, Text, X};
 use std::alloc::{AllocError, Global};
+use std::process::Abort;
 use std::test::Fail;
 
 mod fits;
@@ -77,14 +78,23 @@ fn submit(dataset: &'static [u8], rows: Rows) -> Result<Change<'static>, OfficeF
     })
 }
 
-fn start(dataset: &'static [u8], count: u64) -> Result<Change<'static>, OfficeFault> {
+fn start_in(
+    dataset: &'static [u8],
+    format: Format,
+    longest: u32,
+    count: u64,
+) -> Result<Change<'static>, OfficeFault> {
     Ok(Change::Start {
         identity: file(dataset)?,
-        format: Format::Variable,
-        longest: 3,
+        format,
+        longest,
         description: text("")?,
         count,
     })
+}
+
+fn start(dataset: &'static [u8], count: u64) -> Result<Change<'static>, OfficeFault> {
+    start_in(dataset, Format::Variable, 3, count)
 }
 
 // The reason, creator and text of a response. Only a negative one has them.
@@ -154,11 +164,16 @@ fn commit(office: &mut PlainOffice, change: Change<'_>) -> Result<(), OfficeFaul
     office.commit(change)
 }
 
+fn carry_out(alloc: Global, office: &mut PlainOffice, act: Act) -> Result<(), OfficeFault> {
+    let change = change(alloc, act)?;
+    commit(office, change)
+}
+
 // An office after these changes.
 fn office_after(alloc: Global, acts: &[Act]) -> Result<PlainOffice, OfficeFault> {
     let mut office = PlainOffice::new(alloc, LIMITS);
     for act in acts {
-        commit(&mut office, change(alloc, *act)?)?;
+        carry_out(alloc, &mut office, *act)?;
     }
     Ok(office)
 }
@@ -234,4 +249,16 @@ fn shown(alloc: Global, office: &mut PlainOffice) -> Result<String, OfficeFault>
     add_outgoing(&mut all, office)?;
     add_received(&mut all, office)?;
     Ok(all)
+}
+
+// Asserts that an office has this register.
+fn shows(
+    alloc: Global,
+    rt: &impl Abort,
+    office: &mut PlainOffice,
+    wanted: &str,
+) -> Result<(), OfficeFault> {
+    let all = shown(alloc, office)?;
+    assert_eq!(rt; all.as_str(), wanted);
+    Ok(())
 }

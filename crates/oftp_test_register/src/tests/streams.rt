@@ -1,6 +1,7 @@
 //! The memory of a deframer, a stream in a million pieces, and one that is cut in one call.
 
 use oftp_codec::{Deframer, FrameFault, cut};
+use std::alloc::{AllocError, Global};
 use std::process::Abort;
 use std::test::Fail;
 
@@ -31,22 +32,31 @@ fn take_piece(
     Ok(count)
 }
 
-/// Feeds `STREAM` in one piece, in pieces of two octets, and as four octets, one and the rest.
-fn take_cuts(rt: &impl Abort, deframer: &mut Deframer) -> Result<(), FrameFault> {
-    assert!(rt; take_piece(rt, deframer, &STREAM, 0)? == 3);
-
+/// Feeds `STREAM` in pieces of two octets.
+fn take_twos(rt: &impl Abort, deframer: &mut Deframer) -> Result<(), FrameFault> {
     let mut count = 0;
     for piece in STREAM.chunks(2) {
         count = take_piece(rt, deframer, piece, count)?;
     }
     assert!(rt; count == 3);
+    Ok(())
+}
 
+/// Feeds `STREAM` as four octets, one and the rest.
+fn take_three(rt: &impl Abort, deframer: &mut Deframer) -> Result<(), FrameFault> {
     let mut count = 0;
     for piece in [&STREAM[..4], &STREAM[4..5], &STREAM[5..]] {
         count = take_piece(rt, deframer, piece, count)?;
     }
     assert!(rt; count == 3);
     Ok(())
+}
+
+/// Feeds `STREAM` in one piece, in pieces of two octets, and as four octets, one and the rest.
+fn take_cuts(rt: &impl Abort, deframer: &mut Deframer) -> Result<(), FrameFault> {
+    assert!(rt; take_piece(rt, deframer, &STREAM, 0)? == 3);
+    take_twos(rt, deframer)?;
+    take_three(rt, deframer)
 }
 
 /// This is also run with each allocation refused from some number on. Either the reservation is refused, or the test passes, since nothing
@@ -62,17 +72,29 @@ fn no_memory_within_room(rt: HostRuntime) -> Result<(), Fail> {
     Ok(())
 }
 
+/// The longest frame.
+fn long_frame(alloc: Global) -> Result<Vec<u8>, AllocError> {
+    let mut frame = Vec::from_slice(alloc, &[0x10, 1, 0x86, 0xA3])?;
+    frame.resize(LIMIT, b'D')?;
+    Ok(frame)
+}
+
+/// Feeds it octet by octet.
+fn take_octets(rt: &impl Abort, deframer: &mut Deframer, frame: &[u8]) -> Result<(), FrameFault> {
+    for octet in frame {
+        assert!(rt; matches!(deframer.next(), Ok(None)));
+        deframer.feed(&[*octet])?;
+    }
+    assert!(rt; matches!(deframer.next(), Ok(Some(command)) if command.len() == 99_999));
+    Ok(())
+}
+
 #[test]
 fn million_pieces_of_one_octet(rt: HostRuntime) -> Result<(), Fail> {
-    let mut frame = Vec::from_slice(rt.alloc(), &[0x10, 1, 0x86, 0xA3])?;
-    frame.resize(LIMIT, b'D')?;
+    let frame = long_frame(rt.alloc())?;
     let mut deframer = Deframer::new(rt.alloc(), LIMIT);
     for _ in 0..10 {
-        for octet in &frame {
-            assert!(rt; matches!(deframer.next(), Ok(None)));
-            deframer.feed(&[*octet])?;
-        }
-        assert!(rt; matches!(deframer.next(), Ok(Some(command)) if command.len() == 99_999));
+        take_octets(&rt, &mut deframer, frame.as_slice())?;
     }
     Ok(())
 }

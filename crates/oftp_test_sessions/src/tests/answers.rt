@@ -1,12 +1,12 @@
 //! A partner's answers to SFID, over an office in memory, in one piece and octet by octet. The octets of both sides are written by hand
 //! from RFC 5024.
 
-use super::hearing::{Line, call, caller, hear};
+use super::hearing::{Heard, Line, call, caller, hear};
 use super::noting::Noting;
 use crate::given::{BOOK, FILE};
 use oftp_engine::{End, Operator, Submission, Told};
-use oftp_partners::read;
-use oftp_register::{Office, OutgoingState};
+use oftp_partners::{Book, read};
+use oftp_register::{Office, OfficeFault, OutgoingState};
 use oftp_wire::{Count, SessionReason};
 use std::alloc::{AllocError, Global};
 use std::process::Abort;
@@ -46,6 +46,52 @@ struct Answer<'a> {
     state: OutgoingState,
 }
 
+/// Submits the file.
+pub(crate) fn submit(alloc: Global, rt: &impl Abort, office: &mut Noting, book: &Book) {
+    let submit = Operator::Submit(THREE_OCTETS);
+    let told = call(alloc, office, book, &submit, &mut Vec::new(alloc));
+    assert!(rt; told == Ok(Told::Done(1)));
+}
+
+// Compares the station's octets.
+fn compare(
+    alloc: Global,
+    rt: &impl Abort,
+    heard: &Heard,
+    answer: &Answer<'_>,
+) -> Result<(), AllocError> {
+    assert!(rt; heard.end == Ok(answer.end));
+    let said = joined(alloc, &[OFFER, answer.said])?;
+    assert!(rt; heard.said.as_slice() == said.as_slice());
+    Ok(())
+}
+
+// Calls the partner, whose octets arrive in pieces of `at_once`.
+fn call_partner(
+    alloc: Global,
+    rt: &impl Abort,
+    office: &mut Noting,
+    book: &Book,
+    answer: &Answer<'_>,
+    at_once: usize,
+) -> Result<(), Fail> {
+    let octets = joined(alloc, &[GREETING, answer.heard])?;
+    let line = Line {
+        octets: octets.as_slice(),
+        at_once,
+        breaks: false,
+    };
+    let role = caller(book, b"O0177CARMAKER")?;
+    let heard = hear(alloc, office, book, role, line, 1_000_000);
+    Ok(compare(alloc, rt, &heard, answer)?)
+}
+
+// Whether the file is in this state, and has no mark.
+fn is_left(office: &mut Noting, state: OutgoingState) -> Result<bool, OfficeFault> {
+    let file = office.out_by_no(1)?;
+    Ok(file.is_some_and(|file| file.state == state && file.mark == 0))
+}
+
 /// Submits the file and calls the partner, whose octets arrive in pieces of `at_once`. Compares the station's octets and what is left.
 fn answers(
     alloc: Global,
@@ -55,22 +101,9 @@ fn answers(
 ) -> Result<(), Fail> {
     let book = read(alloc, BOOK)?;
     let mut office = Noting::new(alloc, None);
-    let submit = Operator::Submit(THREE_OCTETS);
-    let told = call(alloc, &mut office, &book, &submit, &mut Vec::new(alloc));
-    assert!(rt; told == Ok(Told::Done(1)));
-    let octets = joined(alloc, &[GREETING, answer.heard])?;
-    let line = Line {
-        octets: octets.as_slice(),
-        at_once,
-        breaks: false,
-    };
-    let role = caller(&book, b"O0177CARMAKER")?;
-    let heard = hear(alloc, &mut office, &book, role, line, 1_000_000);
-    assert!(rt; heard.end == Ok(answer.end));
-    let said = joined(alloc, &[OFFER, answer.said])?;
-    assert!(rt; heard.said.as_slice() == said.as_slice());
-    let file = office.out_by_no(1)?;
-    assert!(rt; file.is_some_and(|file| file.state == answer.state && file.mark == 0));
+    submit(alloc, rt, &mut office, &book);
+    call_partner(alloc, rt, &mut office, &book, answer, at_once)?;
+    assert!(rt; is_left(&mut office, answer.state)?);
     Ok(())
 }
 

@@ -24,6 +24,19 @@ const RECORDS: Submission<'static> = Submission {
     ..FILE
 };
 
+/// Submits a file, which gets this number.
+fn submit(
+    alloc: Global,
+    rt: &impl Abort,
+    office: &mut Noting,
+    book: &Book,
+    (no, file): (u64, Submission<'_>),
+) {
+    let submit = Operator::Submit(file);
+    let told = call(alloc, office, book, &submit, &mut Vec::new(alloc));
+    assert!(rt; told == Ok(Told::Done(no)));
+}
+
 /// Submits a file, and calls the partner. Asserts how many octets were sent. Returns the end of the session.
 fn send(
     alloc: Global,
@@ -33,9 +46,7 @@ fn send(
     octets: u64,
 ) -> Result<Result<End, RunFault>, Fail> {
     let book = read(alloc, BOOK)?;
-    let submit = Operator::Submit(file);
-    let told = call(alloc, office, &book, &submit, &mut Vec::new(alloc));
-    assert!(rt; told == Ok(Told::Done(1)));
+    submit(alloc, rt, office, &book, (1, file));
     let role = caller(&book, b"O0177CARMAKER")?;
     let heard = hear(alloc, office, &book, role, Line::of(PARTNER), 1_000_000);
     assert_eq!(rt; heard.moved, octets);
@@ -103,6 +114,31 @@ fn three_files(alloc: Global, digits: &[u8; 3]) -> Result<Vec<u8>, AllocError> {
     Ok(octets)
 }
 
+/// What the station says to three files, with this answer to each.
+fn three_answers(alloc: Global, answer: &[u8]) -> Result<Vec<u8>, AllocError> {
+    let mut said = GREETED.to_vec(alloc)?;
+    for _ in 0..3 {
+        said.extend_from_slice(answer)?;
+    }
+    Ok(said)
+}
+
+/// Serves a session with these octets, which the partner ends without an error, and compares the station's octets.
+fn serve(
+    alloc: Global,
+    rt: &impl Abort,
+    office: &mut Noting,
+    octets: &[u8],
+    said: &[u8],
+) -> Result<(), Fail> {
+    let book = read(alloc, BOOK)?;
+    let line = Line::of(octets);
+    let heard = hear(alloc, office, &book, Role::Responder, line, 1_000_000);
+    assert!(rt; heard.end == Ok(End::Partner(Count::new(0))));
+    assert!(rt; heard.said.as_slice() == said);
+    Ok(())
+}
+
 /// Receives three files, with this answer to each.
 fn take(
     alloc: Global,
@@ -111,16 +147,17 @@ fn take(
     digits: &[u8; 3],
     answer: &[u8],
 ) -> Result<(), Fail> {
-    let book = read(alloc, BOOK)?;
     let octets = three_files(alloc, digits)?;
-    let line = Line::of(octets.as_slice());
-    let heard = hear(alloc, office, &book, Role::Responder, line, 1_000_000);
-    assert!(rt; heard.end == Ok(End::Partner(Count::new(0))));
-    let mut said = GREETED.to_vec(alloc)?;
-    for _ in digits {
-        said.extend_from_slice(answer)?;
-    }
-    assert!(rt; heard.said.as_slice() == said.as_slice());
+    let said = three_answers(alloc, answer)?;
+    serve(alloc, rt, office, octets.as_slice(), said.as_slice())
+}
+
+/// Releases the first file.
+fn release(alloc: Global, rt: &impl Abort, office: &mut Noting) -> Result<(), Fail> {
+    let book = read(alloc, BOOK)?;
+    let release = Operator::Release { no: 1 };
+    let told = call(alloc, office, &book, &release, &mut Vec::new(alloc));
+    assert!(rt; told == Ok(Told::Done(1)));
     Ok(())
 }
 
@@ -130,16 +167,7 @@ fn next_looked_up_once(rt: HostRuntime) -> Result<(), Fail> {
     let mut office = Noting::new(rt.alloc(), None);
     take(rt.alloc(), &rt, &mut office, b"123", TAKEN)?;
     assert_eq!(rt; office.next, 1);
-    let book = read(rt.alloc(), BOOK)?;
-    let release = Operator::Release { no: 1 };
-    let told = call(
-        rt.alloc(),
-        &mut office,
-        &book,
-        &release,
-        &mut Vec::new(rt.alloc()),
-    );
-    assert!(rt; told == Ok(Told::Done(1)));
+    release(rt.alloc(), &rt, &mut office)?;
     take(rt.alloc(), &rt, &mut office, b"456", TAKEN_AND_ASKED)?;
     assert_eq!(rt; office.next, 2);
     Ok(())
@@ -157,19 +185,6 @@ fn all_taken(alloc: Global, files: usize) -> Result<Vec<u8>, AllocError> {
     }
     octets.extend_from_slice(OVER)?;
     Ok(octets)
-}
-
-/// Submits a file with this time, which gets this number.
-fn submit(
-    alloc: Global,
-    rt: &impl Abort,
-    office: &mut Noting,
-    book: &Book,
-    (no, time): (u64, &'static str),
-) {
-    let submit = Operator::Submit(Submission { time, ..FILE });
-    let told = call(alloc, office, book, &submit, &mut Vec::new(alloc));
-    assert!(rt; told == Ok(Told::Done(no)));
 }
 
 /// Calls the partner, which takes three files.
@@ -195,8 +210,9 @@ fn response_looked_for_once(rt: HostRuntime) -> Result<(), Fail> {
     let alloc = rt.alloc();
     let mut office = Noting::new(alloc, None);
     let book = read(alloc, BOOK)?;
-    for file in [(1, "1015300001"), (2, "1015300002"), (3, "1015300003")] {
-        submit(alloc, &rt, &mut office, &book, file);
+    for (no, time) in [(1, "1015300001"), (2, "1015300002"), (3, "1015300003")] {
+        let file = Submission { time, ..FILE };
+        submit(alloc, &rt, &mut office, &book, (no, file));
     }
     send_three(alloc, &rt, &mut office, &book)?;
     assert_eq!(rt; office.next, 1);

@@ -10,6 +10,7 @@ use oftp_register::{Office, OfficeFault, PlainOffice};
 use oftp_session::Ending;
 use oftp_wire::SessionReason;
 use std::alloc::{AllocError, Global};
+use std::process::Abort;
 use std::test::Fail;
 
 /// The station's SSRM.
@@ -262,18 +263,30 @@ fn callers_sent_away(rt: HostRuntime) -> Result<(), Fail> {
     Ok(())
 }
 
+// It ends the session itself.
+fn leaves(alloc: Global, rt: &impl Abort, book: &Book) -> Result<(), AllocError> {
+    let left = reply_to(alloc, book, b"\x10\0\0\x0bF00000\r", 1)?;
+    assert!(rt; left.said.as_slice() == GREETING);
+    assert!(rt; matches!(left.told, Ok(Admission::SentAway(Ending::Partner(_)))));
+    Ok(())
+}
+
+// It begins a long frame.
+fn waits(alloc: Global, rt: &impl Abort, book: &Book) -> Result<(), AllocError> {
+    let waits = reply_to(alloc, book, b"\x10\x01\x86\xa3D0123456789", 4_096)?;
+    assert!(rt; waits.said.as_slice() == GREETING);
+    assert!(rt; waits.told == Ok(Admission::Undecided));
+    assert!(rt; !waits.is_guest);
+    Ok(())
+}
+
 /// A caller that ends the session itself is told nothing more. One that begins a long frame is undecided.
 #[test]
 fn callers_that_leave_or_wait(rt: HostRuntime) -> Result<(), Fail> {
     let alloc = rt.alloc();
     let book = read(alloc, BOOK)?;
-    let left = reply_to(alloc, &book, b"\x10\0\0\x0bF00000\r", 1)?;
-    assert!(rt; left.said.as_slice() == GREETING);
-    assert!(rt; matches!(left.told, Ok(Admission::SentAway(Ending::Partner(_)))));
-    let waits = reply_to(alloc, &book, b"\x10\x01\x86\xa3D0123456789", 4_096)?;
-    assert!(rt; waits.said.as_slice() == GREETING);
-    assert!(rt; waits.told == Ok(Admission::Undecided));
-    assert!(rt; !waits.is_guest);
+    leaves(alloc, &rt, &book)?;
+    waits(alloc, &rt, &book)?;
     Ok(())
 }
 

@@ -4,7 +4,7 @@ use super::hearing::call;
 use super::noting::Noting;
 use crate::given::{BOOK, FILE};
 use oftp_engine::{Operator, Refusal, RunFault, Submission, Told};
-use oftp_partners::read;
+use oftp_partners::{Book, read};
 use oftp_register::PlainOffice;
 use oftp_vfile::{Format, Limits};
 use std::alloc::Global;
@@ -132,21 +132,27 @@ fn limits_of_files(rt: HostRuntime) -> Result<(), Fail> {
     tells(alloc, &rt, &mut office, &AFTER_MANY)
 }
 
+const EMPTY: Submission<'static> = Submission {
+    content: b"",
+    ..FILE
+};
+
+// A call at an office that fails.
+fn fails(alloc: Global, rt: &impl Abort, book: &Book, operator: &Operator<'_>) {
+    let mut office = Noting::failing(alloc, true);
+    let mut line = Vec::new(alloc);
+    let told = call(alloc, &mut office, book, operator, &mut line);
+    assert!(rt; told == Err(RunFault::Office));
+    assert_eq!(rt; office.faults(), 1);
+    assert_eq!(rt; line.len(), 0);
+}
+
 /// The store fails in the commit of a response or of a file, or in the look-up of a file that is too large. No line is written.
 #[test]
 fn operator_at_a_failing_office(rt: HostRuntime) -> Result<(), Fail> {
     let book = read(rt.alloc(), BOOK)?;
-    let small = Submission {
-        content: b"",
-        ..FILE
-    };
-    for operator in [RELEASE, Operator::Submit(small), Operator::Submit(FILE)] {
-        let mut office = Noting::failing(rt.alloc(), true);
-        let mut line = Vec::new(rt.alloc());
-        let told = call(rt.alloc(), &mut office, &book, &operator, &mut line);
-        assert!(rt; told == Err(RunFault::Office));
-        assert_eq!(rt; office.faults(), 1);
-        assert_eq!(rt; line.len(), 0);
+    for operator in [RELEASE, Operator::Submit(EMPTY), Operator::Submit(FILE)] {
+        fails(rt.alloc(), &rt, &book, &operator);
     }
     Ok(())
 }

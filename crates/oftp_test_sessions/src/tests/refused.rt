@@ -121,13 +121,6 @@ fn hand_in(alloc: Global, office: &mut Noting, book: &Book) {
     }
 }
 
-const THREE_OCTETS: Script<'static> = Script {
-    heard: CALLED,
-    said: SENT,
-    end: End::Partner(Count::new(0)),
-    left: HANDED,
-};
-
 /// A file of three octets goes out.
 #[test]
 fn three_octets_out(rt: HostRuntime) -> Result<(), Fail> {
@@ -136,7 +129,13 @@ fn three_octets_out(rt: HostRuntime) -> Result<(), Fail> {
     let mut office = Noting::new(alloc, None);
     hand_in(alloc, &mut office, &book);
     let role = caller(&book, b"O0177CARMAKER")?;
-    take(alloc, &rt, &mut office, &book, role, &THREE_OCTETS)
+    let script = Script {
+        heard: CALLED,
+        said: SENT,
+        end: End::Partner(Count::new(0)),
+        left: HANDED,
+    };
+    take(alloc, &rt, &mut office, &book, role, &script)
 }
 
 /// The partner's SSID, and SFID of a file of three blocks up to its restart position.

@@ -8,7 +8,7 @@ use crate::given::{BOOK, FILE};
 use oftp_engine::{Operator, Role, Submission};
 use oftp_partners::{Book, read};
 use oftp_register::{Office, PlainOffice, Side};
-use std::alloc::Global;
+use std::alloc::{AllocError, Global};
 use std::process::Abort;
 use std::test::Fail;
 
@@ -30,16 +30,20 @@ struct Given {
     content: Vec<u8>,
 }
 
+fn content_of(alloc: Global) -> Result<Vec<u8>, AllocError> {
+    let mut content = Vec::new(alloc);
+    for i in 0..2500u32 {
+        content.push((i % 251) as u8)?;
+    }
+    Ok(content)
+}
+
 impl Given {
     fn new(alloc: Global) -> Result<Given, Fail> {
-        let mut content = Vec::new(alloc);
-        for i in 0..2500u32 {
-            content.push((i % 251) as u8)?;
-        }
         Ok(Given {
             book: read(alloc, BOOK)?,
             other_book: read(alloc, OTHER_BOOK)?,
-            content,
+            content: content_of(alloc)?,
         })
     }
 
@@ -229,9 +233,60 @@ fn finish(
     ends(alloc, rt, other)
 }
 
-/// Breaks the next session after each octet that one station receives in it. The other station receives the whole output of the first. It
-/// is played again only when that output is longer. The following sessions depend on both registers, so they are only played when one has
-/// changed.
+/// A session that breaks: what one station has said in it, and the other's part.
+#[derive(Drop)]
+struct Broken {
+    said: Vec<u8>,
+    answer: Part,
+}
+
+impl Broken {
+    /// The other station's part in it, if the first says this. It is played again only when that is longer than before.
+    fn goes_on(&mut self, alloc: Global, other: &Station<'_>, says: Vec<u8>) -> Result<(), Fail> {
+        if says.len() != self.said.len() {
+            self.answer = other.play(alloc, says.as_slice())?;
+            self.said = says;
+        }
+        Ok(())
+    }
+
+    /// Both registers, if the first station receives this.
+    fn left(
+        &mut self,
+        alloc: Global,
+        rt: &impl Abort,
+        one: &Station<'_>,
+        other: &Station<'_>,
+        heard: &[u8],
+    ) -> Result<String, Fail> {
+        let Part { said, left } = one.play(alloc, heard)?;
+        self.goes_on(alloc, other, said)?;
+        assert!(rt; self.answer.said.as_slice().starts_with(heard));
+        let other_left = self.answer.left.as_str();
+        Ok(format!(in alloc; "{left}{other_left}")?)
+    }
+}
+
+/// Plays the sessions that follow one in which the stations received this.
+fn finish_after(
+    alloc: Global,
+    rt: &impl Abort,
+    one: &mut Station<'_>,
+    other: &mut Station<'_>,
+    heard: &[u8],
+    said: &[u8],
+) -> Result<(), Fail> {
+    let sessions = one.heard.len();
+    one.heard.push(heard.to_vec(alloc)?)?;
+    other.heard.push(said.to_vec(alloc)?)?;
+    finish(alloc, rt, one, other)?;
+    one.heard.truncate(sessions);
+    other.heard.truncate(sessions);
+    Ok(())
+}
+
+/// Breaks the next session after each octet that one station receives in it. The other station receives the whole output of the first.
+/// The following sessions depend on both registers, so they are only played when one has changed.
 fn break_each(
     alloc: Global,
     rt: &impl Abort,
@@ -239,32 +294,41 @@ fn break_each(
     other: &mut Station<'_>,
     heard: &[u8],
 ) -> Result<(), Fail> {
-    let sessions = one.heard.len();
-    let mut said = Vec::new(alloc);
-    let Part {
-        said: mut answer,
-        left: mut other_left,
-    } = other.play(alloc, &[])?;
+    let mut broken = Broken {
+        said: Vec::new(alloc),
+        answer: other.play(alloc, &[])?,
+    };
     let mut before = String::new(alloc);
     for n in 0..heard.len() {
-        let Part { said: says, left } = one.play(alloc, &heard[..n])?;
-        if says.len() != said.len() {
-            let part = other.play(alloc, says.as_slice())?;
-            answer = part.said;
-            other_left = part.left;
-            said = says;
-        }
-        assert!(rt; answer.as_slice().starts_with(&heard[..n]));
-        let now = format!(in alloc; "{left}{other_left}")?;
+        let now = broken.left(alloc, rt, one, other, &heard[..n])?;
         if now != before {
-            one.heard.push(heard[..n].to_vec(alloc)?)?;
-            other.heard.push(said.clone()?)?;
-            finish(alloc, rt, one, other)?;
-            one.heard.truncate(sessions);
-            other.heard.truncate(sessions);
+            let said = broken.said.as_slice();
+            finish_after(alloc, rt, one, other, &heard[..n], said)?;
             before = now;
         }
     }
+    Ok(())
+}
+
+/// What a station received in the last session, which is taken back.
+fn last_heard(station: &mut Station<'_>) -> Result<Vec<u8>, Fail> {
+    Ok(station.heard.pop().ok_or("it heard nothing")?)
+}
+
+/// Breaks the next session after each octet of either direction. Then it is played without a break.
+fn break_either(
+    alloc: Global,
+    rt: &impl Abort,
+    sender: &mut Station<'_>,
+    receiver: &mut Station<'_>,
+) -> Result<(), Fail> {
+    converse(alloc, sender, receiver)?;
+    let to_sender = last_heard(sender)?;
+    let to_receiver = last_heard(receiver)?;
+    break_each(alloc, rt, sender, receiver, to_sender.as_slice())?;
+    break_each(alloc, rt, receiver, sender, to_receiver.as_slice())?;
+    sender.heard.push(to_sender)?;
+    receiver.heard.push(to_receiver)?;
     Ok(())
 }
 
@@ -276,21 +340,27 @@ fn break_after_each_octet(rt: HostRuntime) -> Result<(), Fail> {
     let mut sender = given.sender(alloc);
     let mut receiver = given.receiver(alloc, None);
     for _ in 0..2 {
-        converse(alloc, &mut sender, &mut receiver)?;
-        let Some(to_sender) = sender.heard.pop() else {
-            return Err("the sender heard nothing")?;
-        };
-        let Some(to_receiver) = receiver.heard.pop() else {
-            return Err("the receiver heard nothing")?;
-        };
-        let octets = to_sender.as_slice();
-        break_each(alloc, &rt, &mut sender, &mut receiver, octets)?;
-        let octets = to_receiver.as_slice();
-        break_each(alloc, &rt, &mut receiver, &mut sender, octets)?;
-        sender.heard.push(to_sender)?;
-        receiver.heard.push(to_receiver)?;
+        break_either(alloc, &rt, &mut sender, &mut receiver)?;
     }
     finish(alloc, &rt, &mut sender, &mut receiver)
+}
+
+/// Whether a station's office has failed.
+fn is_stopped(alloc: Global, station: &Station<'_>) -> Result<bool, Fail> {
+    Ok(station.office(alloc)?.is_stopped)
+}
+
+/// The receiver's office fails so in the first round.
+fn stop_at(alloc: Global, rt: &impl Abort, given: &Given, stop: Stop) -> Result<(), Fail> {
+    let mut sender = given.sender(alloc);
+    let mut receiver = given.receiver(alloc, Some(stop));
+    for _ in 0..2 {
+        converse(alloc, &mut sender, &mut receiver)?;
+    }
+    let commits = stop.commits;
+    let is_stopped = is_stopped(alloc, &receiver)?;
+    assert_eq!(rt; is_stopped, commits < 6, "at {commits}");
+    finish(alloc, rt, &mut sender, &mut receiver)
 }
 
 /// The receiver's office fails in the first round, in each of its commits in turn, before the change and after it: in those that begin the
@@ -301,13 +371,7 @@ fn stop_at_each_write(rt: HostRuntime) -> Result<(), Fail> {
     let given = Given::new(alloc)?;
     for is_made in [false, true] {
         for commits in 0..7 {
-            let mut sender = given.sender(alloc);
-            let mut receiver = given.receiver(alloc, Some(Stop { commits, is_made }));
-            converse(alloc, &mut sender, &mut receiver)?;
-            converse(alloc, &mut sender, &mut receiver)?;
-            let office = receiver.office(alloc)?;
-            assert_eq!(rt; office.is_stopped, commits < 6, "at {commits}");
-            finish(alloc, &rt, &mut sender, &mut receiver)?;
+            stop_at(alloc, &rt, &given, Stop { commits, is_made })?;
         }
     }
     Ok(())

@@ -1,10 +1,10 @@
 //! A third partner, who calls a station after its session with another one. The octets of both sides are written by hand from RFC 5024.
 
-use super::answers::{GREETING, TAKES, THREE_OCTETS, joined};
-use super::hearing::{Line, call, caller, hear};
+use super::answers::{GREETING, TAKES, THREE_OCTETS, joined, submit};
+use super::hearing::{Line, caller, hear};
 use super::noting::Noting;
 use super::stations::told;
-use oftp_engine::{End, Operator, Role, Told};
+use oftp_engine::{End, Role};
 use oftp_partners::{Book, read};
 use oftp_wire::SessionReason;
 use std::alloc::Global;
@@ -55,13 +55,6 @@ pub(crate) const SENT_AWAY: &[u8] = b"\x10\0\0\x0bF06000\r";
 
 /// The file to the car maker is handed over and not delivered. The third partner's own file of its name is there, and so is its response.
 const LEFT: &str = "out Handed 0\nin Whole 1 1\nreceived EndResponse\n";
-
-// Submits the file to the car maker.
-fn submit(alloc: Global, rt: &impl Abort, office: &mut Noting, book: &Book) {
-    let submit = Operator::Submit(THREE_OCTETS);
-    let done = call(alloc, office, book, &submit, &mut Vec::new(alloc));
-    assert!(rt; done == Ok(Told::Done(1)));
-}
 
 // Calls the car maker, which takes the file.
 fn hand_over(alloc: Global, office: &mut Noting, book: &Book) -> Result<(), Fail> {

@@ -150,18 +150,28 @@ fn meet<'a, O: Office + Drop>(
     Ok((one, other))
 }
 
-// The second car maker calls the supplier, offers a file of the first one, and answers one that is for the first one.
+// The second car maker offers a file of the first one, and answers one that is for the first one.
+fn hear_lies<O: Office>(
+    alloc: Global,
+    rt: &impl Abort,
+    session: &mut LifeSession<'_, O>,
+) -> Result<(), Fail> {
+    let heard = joined(alloc, &[THIRD, ANOTHERS_FILE, ANOTHERS_ANSWER])?;
+    let said = converse(alloc, session, heard.as_slice(), ALL)?;
+    let wanted = joined(alloc, &[NOT_TAKEN, SENT_AWAY])?;
+    assert!(rt; said.as_slice() == wanted.as_slice());
+    Ok(())
+}
+
+// The second car maker calls the supplier, and lies.
 fn lie<'a, O: Office + Drop>(
     alloc: Global,
     rt: &impl Abort,
     supplier: Station<'a, O>,
 ) -> Result<Station<'a, O>, Fail> {
     let Station { code, book, life } = supplier;
-    let heard = joined(alloc, &[THIRD, ANOTHERS_FILE, ANOTHERS_ANSWER])?;
     let mut session = life.begin(alloc, book, Role::Responder);
-    let said = converse(alloc, &mut session, heard.as_slice(), ALL)?;
-    let wanted = joined(alloc, &[NOT_TAKEN, SENT_AWAY])?;
-    assert!(rt; said.as_slice() == wanted.as_slice());
+    hear_lies(alloc, rt, &mut session)?;
     let (life, _out) = session.end();
     Ok(Station { code, book, life })
 }

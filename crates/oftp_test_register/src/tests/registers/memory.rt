@@ -36,17 +36,40 @@ fn shown_again(alloc: Global, office: &mut PlainOffice) -> Result<String, Office
     }
 }
 
+// A change that was refused memory leaves the register as it was, and is then made.
+fn carry_out_again(
+    alloc: Global,
+    rt: &impl Abort,
+    office: &mut PlainOffice,
+    before: &[Act],
+    act: Act,
+) -> Result<(), OfficeFault> {
+    let left = shown(alloc, &mut office_after(alloc, before)?)?;
+    shows(alloc, rt, office, left.as_str())?;
+    carry_out(alloc, office, act)
+}
+
+fn carry_out_at_last(
+    alloc: Global,
+    rt: &impl Abort,
+    office: &mut PlainOffice,
+    before: &[Act],
+    act: Act,
+) -> Result<(), OfficeFault> {
+    let change = change_again(alloc, act)?;
+    if let Err(fault) = commit(office, change) {
+        assert_eq!(rt; fault, OfficeFault::Memory);
+        carry_out_again(alloc, rt, office, before, act)?;
+    }
+    Ok(())
+}
+
 #[test]
 fn each_allocation_refused(rt: HostRuntime) -> Result<(), Fail> {
     let alloc = rt.alloc();
     let mut office = PlainOffice::new(alloc, LIMITS);
     for (at, act) in ACTS.iter().enumerate() {
-        if let Err(fault) = commit(&mut office, change_again(alloc, *act)?) {
-            assert_eq!(rt; fault, OfficeFault::Memory);
-            let before = shown(alloc, &mut office_after(alloc, &ACTS[..at])?)?;
-            assert_eq!(rt; shown(alloc, &mut office)?.as_str(), before.as_str());
-            commit(&mut office, change(alloc, *act)?)?;
-        }
+        carry_out_at_last(alloc, &rt, &mut office, &ACTS[..at], *act)?;
     }
     let all =
         "in D Whole 1/1 EERP Sent; out A returned 2/3 mark 0; out B refused 1/1 mark 0; got A NERP; ";

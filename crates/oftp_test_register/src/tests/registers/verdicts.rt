@@ -3,15 +3,34 @@
 use super::*;
 use oftp_wire::{Efid, EndReason, Layout, Sfid, StartReason};
 
+// The name of a file, its date and its time.
+type Named = (X<'static, 26>, Digits<'static, 8>, Digits<'static, 10>);
+
+fn named() -> Result<Named, OfficeFault> {
+    let dataset = X::new(b"D").ok_or(BAD)?;
+    let date = Digits::new(b"20240131").ok_or(BAD)?;
+    let time = Digits::new(b"1015300001").ok_or(BAD)?;
+    Ok((dataset, date, time))
+}
+
+// The station that a file comes from, and the one that it is for.
+fn way() -> Result<(X<'static, 25>, X<'static, 25>), OfficeFault> {
+    let originator = X::new(b"O1").ok_or(BAD)?;
+    let destination = X::new(b"O2").ok_or(BAD)?;
+    Ok((originator, destination))
+}
+
 // An offer of a file in format V with records of up to 3 octets, from O1 to O2, at row 5.
 fn offer() -> Result<Sfid<'static>, OfficeFault> {
+    let (dataset, date, time) = named()?;
+    let (originator, destination) = way()?;
     Ok(Sfid {
-        dataset: X::new(b"D").ok_or(BAD)?,
-        date: Digits::new(b"20240131").ok_or(BAD)?,
-        time: Digits::new(b"1015300001").ok_or(BAD)?,
+        dataset,
+        date,
+        time,
         user: X::new(b"").ok_or(BAD)?,
-        destination: X::new(b"O2").ok_or(BAD)?,
-        originator: X::new(b"O1").ok_or(BAD)?,
+        destination,
+        originator,
         layout: Layout::Variable(Count::new(3)),
         size: Count::new(65_536),
         original_size: Count::new(65_536),
@@ -45,6 +64,11 @@ const fn refused(reason: StartReason) -> StartVerdict {
 const FULL: StartVerdict = StartVerdict::Refuse {
     reason: StartReason::Unspecified,
     retry: true,
+};
+
+const TOO_LONG: StartVerdict = StartVerdict::Refuse {
+    reason: StartReason::MaximumRecordLengthNotSupported,
+    retry: false,
 };
 
 // The verdict if each row of the table from this one on applies.
@@ -96,54 +120,97 @@ fn verdict_of(layout: Layout) -> Result<StartVerdict, OfficeFault> {
     Ok(start_verdict(&sfid, None, false, &terms()?))
 }
 
+// The verdict on records of this length, in F and in V.
+fn limited(rt: &impl Abort, longest: u16, verdict: StartVerdict) -> Result<(), OfficeFault> {
+    let length = Count::new(u64::from(longest));
+    let fixed = verdict_of(Layout::Fixed(length))?;
+    assert_eq!(rt; fixed, verdict, "F of {longest}");
+    let variable = verdict_of(Layout::Variable(length))?;
+    assert_eq!(rt; variable, verdict, "V of {longest}");
+    Ok(())
+}
+
 #[test]
 fn longest_records_are_limited(rt: HostRuntime) -> Result<(), Fail> {
-    let too_long = refused(StartReason::MaximumRecordLengthNotSupported);
     let taken = StartVerdict::Accept(Count::new(0));
     for (longest, verdict) in [
-        (0, too_long),
+        (0, TOO_LONG),
         (1, taken),
         (16_384, taken),
-        (16_385, too_long),
+        (16_385, TOO_LONG),
     ] {
-        let fixed = verdict_of(Layout::Fixed(Count::new(longest)))?;
-        assert_eq!(rt; fixed, verdict, "F of {longest}");
-        let variable = verdict_of(Layout::Variable(Count::new(longest)))?;
-        assert_eq!(rt; variable, verdict, "V of {longest}");
+        limited(&rt, longest, verdict)?;
     }
     assert_eq!(rt; verdict_of(Layout::Unstructured)?, taken);
     assert_eq!(rt; verdict_of(Layout::Text)?, taken);
     Ok(())
 }
 
+// An offer of a file that is protected in one of five ways.
+fn protected(way: u32) -> Result<Sfid<'static>, OfficeFault> {
+    let mut sfid = offer()?;
+    match way {
+        0 => sfid.security = Count::new(2),
+        1 => sfid.security = Count::new(4),
+        2 => sfid.cipher = Count::new(1),
+        3 => sfid.compression = Count::new(1),
+        _ => sfid.enveloping = Count::new(1),
+    }
+    Ok(sfid)
+}
+
 #[test]
 fn protected_offers_are_refused(rt: HostRuntime) -> Result<(), Fail> {
     let terms = terms()?;
-    for fault in 0..5 {
-        let mut sfid = offer()?;
-        match fault {
-            0 => sfid.security = Count::new(2),
-            1 => sfid.security = Count::new(4),
-            2 => sfid.cipher = Count::new(1),
-            3 => sfid.compression = Count::new(1),
-            _ => sfid.enveloping = Count::new(1),
-        }
-        let verdict = start_verdict(&sfid, None, false, &terms);
+    for way in 0..5 {
+        let verdict = start_verdict(&protected(way)?, None, false, &terms);
         assert_eq!(rt; verdict, refused(StartReason::Unspecified));
     }
     Ok(())
 }
 
+fn add_row(all: &mut String, row: &Row) -> Result<(), AllocError> {
+    for octet in row.octets() {
+        all.push(char::from(*octet))?;
+    }
+    all.push('|')?;
+    Ok(())
+}
+
 // The rows of the first file, each ended by a bar.
 fn rows_kept(alloc: Global, office: &mut PlainOffice) -> Result<String, OfficeFault> {
+    let rows = office.rows_of(Side::Incoming, 1, 0, 9)?;
     let mut all = String::new(alloc);
-    for row in office.rows_of(Side::Incoming, 1, 0, 9)?.as_slice() {
-        for octet in row.octets() {
-            all.push(char::from(*octet))?;
-        }
-        all.push('|')?;
+    for row in rows.as_slice() {
+        add_row(&mut all, row)?;
     }
     Ok(all)
+}
+
+// The verdict of an office that has a file with the offered identity, or none.
+fn verdict_in(
+    office: &mut PlainOffice,
+    sfid: &Sfid<'_>,
+    is_full: bool,
+    terms: &Terms,
+) -> Result<StartVerdict, OfficeFault> {
+    let found = office.look_in(&file(b"D")?)?;
+    Ok(start_verdict(sfid, found.as_ref(), is_full, terms))
+}
+
+// The verdict on such an offer, where a restart was agreed or not.
+fn verdict_at(
+    office: &mut PlainOffice,
+    restart: Count<17>,
+    layout: Layout,
+    agreed: bool,
+) -> Result<StartVerdict, OfficeFault> {
+    let mut sfid = offer()?;
+    sfid.layout = layout;
+    sfid.restart = restart;
+    let mut terms = terms()?;
+    terms.restart = agreed;
+    verdict_in(office, &sfid, true, &terms)
 }
 
 // The verdict if three rows are stored, and the rows that are kept.
@@ -155,15 +222,9 @@ fn goes_on(
 ) -> Result<(StartVerdict, String), OfficeFault> {
     let kept = [Act::Start(b"D", 0), Act::Keep(1, &[b"a", b"b", b"c"])];
     let mut office = office_after(alloc, &kept)?;
-    let found = office.look_in(&file(b"D")?)?;
-    let mut sfid = offer()?;
-    sfid.layout = layout;
-    sfid.restart = restart;
-    let mut terms = terms()?;
-    terms.restart = agreed;
-    let verdict = start_verdict(&sfid, found.as_ref(), true, &terms);
-    if let StartVerdict::Accept(count) = &verdict {
-        commit(&mut office, start(b"D", count.get())?)?;
+    let verdict = verdict_at(&mut office, restart, layout, agreed)?;
+    if let StartVerdict::Accept(count) = verdict {
+        carry_out(alloc, &mut office, Act::Start(b"D", count.get()))?;
     }
     let rows = rows_kept(alloc, &mut office)?;
     Ok((verdict, rows))
@@ -189,10 +250,9 @@ fn offered_above_and_below(rt: HostRuntime) -> Result<(), Fail> {
 fn another_format_begins_anew(rt: HostRuntime) -> Result<(), Fail> {
     let kept = [Act::Start(b"D", 0), Act::Keep(1, &[b"abc"])];
     let mut office = office_after(rt.alloc(), &kept)?;
-    let found = office.look_in(&file(b"D")?)?;
     let mut sfid = offer()?;
     sfid.layout = Layout::Fixed(Count::new(3));
-    let verdict = start_verdict(&sfid, found.as_ref(), true, &terms()?);
+    let verdict = verdict_in(&mut office, &sfid, true, &terms()?)?;
     assert_eq!(rt; verdict, StartVerdict::Accept(Count::new(0)));
     Ok(())
 }
@@ -201,8 +261,7 @@ fn another_format_begins_anew(rt: HostRuntime) -> Result<(), Fail> {
 fn duplicate_file(rt: HostRuntime) -> Result<(), Fail> {
     let whole = [Act::Start(b"D", 0), Act::Close(1, &[])];
     let mut office = office_after(rt.alloc(), &whole)?;
-    let found = office.look_in(&file(b"D")?)?;
-    let verdict = start_verdict(&offer()?, found.as_ref(), true, &terms()?);
+    let verdict = verdict_in(&mut office, &offer()?, true, &terms()?)?;
     assert_eq!(rt; verdict, refused(StartReason::DuplicateFile));
     Ok(())
 }
@@ -215,31 +274,41 @@ fn table_full(rt: HostRuntime) -> Result<(), Fail> {
         octets: 67_108_864,
     };
     let mut office = PlainOffice::new(alloc, limits);
-    commit(&mut office, change(alloc, Act::Start(b"E", 0))?)?;
-    let found = office.look_in(&file(b"D")?)?;
+    carry_out(alloc, &mut office, Act::Start(b"E", 0))?;
     let is_full = office.files_full(Side::Incoming)?;
-    let verdict = start_verdict(&offer()?, found.as_ref(), is_full, &terms()?);
+    let verdict = verdict_in(&mut office, &offer()?, is_full, &terms()?)?;
     assert_eq!(rt; verdict, FULL);
     Ok(())
 }
 
+const RECORDS: EndVerdict = EndVerdict::Refuse(EndReason::InvalidRecordCount);
+
+const OCTETS: EndVerdict = EndVerdict::Refuse(EndReason::InvalidByteCount);
+
+// Two records of three octets, and a file in format U or T, which counts none.
+const ENDS: [(u8, u8, u8, EndVerdict); 7] = [
+    (2, 2, 3, EndVerdict::Accept),
+    (2, 3, 3, RECORDS),
+    (2, 3, 4, RECORDS),
+    (2, 2, 4, OCTETS),
+    (0, 0, 3, EndVerdict::Accept),
+    (0, 1, 3, RECORDS),
+    (0, 0, 2, OCTETS),
+];
+
+// The verdict on an end with these counts, if so many records of three octets in all were taken.
+fn verdict_at_end(counted: u8, records: u8, units: u8) -> EndVerdict {
+    let efid = Efid {
+        records: Count::new(u64::from(records)),
+        units: Count::new(u64::from(units)),
+    };
+    end_verdict(&efid, u64::from(counted), 3)
+}
+
 #[test]
 fn ends_are_counted(rt: HostRuntime) -> Result<(), Fail> {
-    // Two records of three octets, and a file in format U or T, which counts none.
-    for (counted, records, units, verdict) in [
-        (2, 2, 3, EndVerdict::Accept),
-        (2, 3, 3, EndVerdict::Refuse(EndReason::InvalidRecordCount)),
-        (2, 3, 4, EndVerdict::Refuse(EndReason::InvalidRecordCount)),
-        (2, 2, 4, EndVerdict::Refuse(EndReason::InvalidByteCount)),
-        (0, 0, 3, EndVerdict::Accept),
-        (0, 1, 3, EndVerdict::Refuse(EndReason::InvalidRecordCount)),
-        (0, 0, 2, EndVerdict::Refuse(EndReason::InvalidByteCount)),
-    ] {
-        let efid = Efid {
-            records: Count::new(records),
-            units: Count::new(units),
-        };
-        assert_eq!(rt; end_verdict(&efid, counted, 3), verdict);
+    for (counted, records, units, verdict) in &ENDS {
+        assert_eq!(rt; verdict_at_end(*counted, *records, *units), *verdict);
     }
     assert_eq!(rt; longest_of(Layout::Fixed(Count::new(3))), 3);
     assert_eq!(rt; format_of(Layout::Text), Format::Text);
