@@ -142,7 +142,7 @@ BOUNDS = [
     ("docs/ARCHITECTURE.md", rf"asks the office for {N} records of the file", (FIRST_ROWS,)),
     ("README.md", rf"{N} of RFC 5024's eighteen commands are here", (COMMANDS,)),
     ("CHANGELOG.md", rf"{N} of the eighteen commands", (COMMANDS,)),
-    ("docs/ARCHITECTURE.md", rf"the {N} commands as octets", (COMMANDS,)),
+    ("docs/ARCHITECTURE.md", rf"the {N} commands, their fields", (COMMANDS,)),
     ("docs/GLOSSARY.md", rf"one of the {N} messages", (COMMANDS,)),
     ("docs/PROMISES.md", rf"each of the {N} commands, as data", (COMMANDS,)),
     ("docs/PROOF-MAP.md", rf"The {N}\s+commands are there", (COMMANDS,)),
