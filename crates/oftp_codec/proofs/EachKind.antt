@@ -25,7 +25,7 @@ abbrev ◌&◌ : {A B : Type 0} → A → B → A × B
 a & b = (a, b)
 
 -- octets that encode a table encode one equal to it
-table_is : {S : Type 0} {t u : Table S} {s : S} {o : List ℕ} → t ≡ u → IsSpelled u s o → IsSpelled t s o
+pub table_is : {S : Type 0} {t u : Table S} {s : S} {o : List ℕ} → t ≡ u → IsSpelled u s o → IsSpelled t s o
 table_is {S} {t} {u} {s} {o} e h = subst (λ (x : Table S). IsSpelled x s o) (sym e) h
 
 -- ---- texts

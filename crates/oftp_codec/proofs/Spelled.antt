@@ -124,7 +124,7 @@ spelled_says (payload k n a) s = refl
 spelled_says (text k n a) s = refl
 
 -- canonical octets reach to the end of rows
-pub length-canon : {S : Type 0} (k : ℕ) (rows : List (Row S)) (end : ℕ) (s : S) → Contiguous k rows end → EachFits rows s → k + length (canon_of rows s) ≡ end
+length-canon : {S : Type 0} (k : ℕ) (rows : List (Row S)) (end : ℕ) (s : S) → Contiguous k rows end → EachFits rows s → k + length (canon_of rows s) ≡ end
 length-canon k [] end s h f = omega (arith, h)
 length-canon k (r ∷ rs) end s h f =
     let ih = length-canon (k + size (form_of r)) rs end s h.1 f.1 in

@@ -1,34 +1,20 @@
 -- The properties of Spelling.
-use Rattle.std.proofs.Common.{◌≡◌, ℕ, List, length, Option, Some, None, Result, Ok, Err, refl, sym, ap, ◌∙◌}
-use Rattle.std.specs.Prelude.{◌↔◌, codes}
+use Rattle.std.proofs.Common.{◌≡◌, ℕ, List, Option, Some, None, Result, Ok, Err, refl, sym, ap, ◌∙◌}
+use Rattle.std.specs.Prelude.{◌↔◌}
 use Rattle.oftp_wire.specs.declared.fault.WireFault.{WireFault}
 use Rattle.oftp_wire.specs.declared.command.Command.{Command}
-use Rattle.oftp_wire.specs.declared.command.Command.TheVariants as commands
-use Rattle.oftp_codec.specs.Tables.{ssrm_table, ssid_table, sfid_table_of, sfpa_table, sfna_table, data_table, cdt_table, efid_table, efpa_table, efna_table, esid_table, eerp_table, nerp_table, single_table, is_recorded}
+use Rattle.oftp_codec.specs.Row.{EachFits, IsSpelled, canon_of}
 use Rattle.oftp_codec.specs.Spelling.{Spells, IsFit, Canon, Fault}
 use Rattle.oftp_codec.proofs.Spelled.{canon_spelled}
-use Rattle.oftp_codec.proofs.Again.{ssrm_parts, ssid_parts, sfid_parts, sfpa_parts, sfna_parts, data_parts, cdt_parts, efid_parts, efpa_parts, efna_parts, esid_parts, eerp_parts, nerp_parts, single_parts}
+use Rattle.oftp_codec.proofs.Again.{by_table}
 use Rattle.oftp_codec.specs.Kinds.{command_of}
 use Rattle.oftp_codec.proofs.Exact.{none_some}
 use Rattle.oftp_codec.proofs.Whole.{exact_at, command_again}
 
 -- the canonical octets of a command encode it
 pub canon_spells : (x : Command) → IsFit x → Spells x (Canon x)
-canon_spells commands.Ssrm h = canon_spelled ssrm_table tt ssrm_parts h
-canon_spells (commands.Ssid s) h = canon_spelled ssid_table s ssid_parts h
-canon_spells (commands.Sfid s) h = canon_spelled (sfid_table_of s) s (sfid_parts (is_recorded s.layout) (length s.description)) h
-canon_spells (commands.Sfpa s) h = canon_spelled sfpa_table s sfpa_parts h
-canon_spells (commands.Sfna s) h = canon_spelled (sfna_table (length s.text)) s (sfna_parts (length s.text)) h
-canon_spells (commands.Data s) h = canon_spelled (data_table (length s)) s (data_parts (length s)) h
-canon_spells commands.Cdt h = canon_spelled cdt_table tt cdt_parts h
-canon_spells (commands.Efid s) h = canon_spelled efid_table s efid_parts h
-canon_spells (commands.Efpa s) h = canon_spelled efpa_table s efpa_parts h
-canon_spells (commands.Efna s) h = canon_spelled (efna_table (length s.text)) s (efna_parts (length s.text)) h
-canon_spells (commands.Esid s) h = canon_spelled (esid_table (length s.text)) s (esid_parts (length s.text)) h
-canon_spells commands.Cd h = canon_spelled (single_table (codes "R")) tt (single_parts 82) h
-canon_spells (commands.Eerp s) h = canon_spelled eerp_table s eerp_parts h
-canon_spells (commands.Nerp s) h = canon_spelled (nerp_table (length s.text)) s (nerp_parts (length s.text)) h
-canon_spells commands.Rtr h = canon_spelled (single_table (codes "P")) tt (single_parts 80) h
+canon_spells =
+    by_table (λ F G. F (λ S t s. EachFits t.rows s) → F (λ S t s. IsSpelled t s (G (λ S t s. canon_of t.rows s)))) (λ S t s. canon_spelled t s)
 
 -- a command as a result
 abbrev done : Command → Result Command WireFault

@@ -197,6 +197,10 @@ nerp_of o = do
   end ← ends_at (131 + n + 4) o
   Ok (record { dataset = dataset; date = date; time = time; destination = destination; originator = originator; creator = creator; reason = reason; text = text })
 
+-- a command of a kind, from its fields
+abbrev pub as_command : {S : Type 0} → (S → Command) → Result S WireFault → Result Command WireFault
+as_command make r = r >>= λ x. Ok (make x)
+
 -- the command of the kind with this letter
 unfoldable pub by_letter : ℕ → List ℕ → Result Command WireFault
 by_letter c o =

@@ -4,16 +4,15 @@ ghost use Rattle.std.specs.Prelude.{◌≡◌, ◌+◌, Some, List, ℕ, IfOk, I
 ghost use Rattle.oftp_codec.specs.Spelling.{Spells, IsFit, Canon, Fault};
 ghost use Rattle.oftp_wire.specs.Reasons.{reason_of};
 ghost use Rattle.oftp_wire.specs.declared.command.Command.{Command};
+ghost use Rattle.oftp_wire.specs.declared.command.Command.TheVariants as commands;
 ghost use Rattle.oftp_codec.specs.Reading.{ends_at, skipped_at};
-ghost use Rattle.oftp_codec.specs.Kinds.{esid_of, sfpa_of, cdt_of, eerp_of, ssid_of, sfid_of, nerp_of, ssrm_of, sfna_of, data_of, efid_of, efpa_of, efna_of, single_of, by_letter, command_of};
+ghost use Rattle.oftp_codec.specs.Kinds.{esid_of, sfpa_of, cdt_of, eerp_of, ssid_of, sfid_of, nerp_of, ssrm_of, sfna_of, data_of, efid_of, efpa_of, efna_of, single_of, as_command, by_letter, command_of};
 
 use crate::read::{
     count_at, digits_at, ends_at, flag_at, format_at, last_text_at, layout_at, mode_at, name_at,
     ready_at, reserved_at, rest_at, return_at, text_at, zero_at,
 };
-use oftp_wire::{
-    Command, Eerp, Efid, Efna, Efpa, Esid, Nerp, Octets, Sfid, Sfna, Sfpa, Ssid, WireFault,
-};
+use oftp_wire::{Command, Eerp, Efid, Efna, Efpa, Esid, Nerp, Sfid, Sfna, Sfpa, Ssid, WireFault};
 
 /// SSRM, which has no field with a value.
 #[tactic(auto, unfolding(crate::specs::Kinds::ssrm_of))]
@@ -28,8 +27,8 @@ fn ssrm(frame: &[u8]) -> Result<(), WireFault>
 
 /// The fields of SSID.
 #[tactic(auto, unfolding(crate::specs::Kinds::ssid_of))]
-fn ssid(frame: &[u8]) -> Result<Ssid<'_>, WireFault>
-    ensures { result ≡ ssid_of frame.now }
+fn ssid(frame: &[u8]) -> Result<Command<'_>, WireFault>
+    ensures { result ≡ as_command commands.Ssid (ssid_of frame.now) }
 {
     let level = count_at::<1>(frame, 1)?;
     let code = name_at::<25>(frame, 2)?;
@@ -45,7 +44,7 @@ fn ssid(frame: &[u8]) -> Result<Ssid<'_>, WireFault>
     let user = name_at::<8>(frame, 52)?;
     return_at(frame, 60)?;
     ends_at(frame, 61)?;
-    Ok(Ssid {
+    Ok(Command::Ssid(Ssid {
         level,
         code,
         password,
@@ -57,13 +56,13 @@ fn ssid(frame: &[u8]) -> Result<Ssid<'_>, WireFault>
         credit,
         authentication,
         user,
-    })
+    }))
 }
 
 /// The fields of SFID.
 #[tactic(auto, unfolding(crate::specs::Kinds::sfid_of))]
-fn sfid(frame: &[u8]) -> Result<Sfid<'_>, WireFault>
-    ensures { result ≡ sfid_of frame.now }
+fn sfid(frame: &[u8]) -> Result<Command<'_>, WireFault>
+    ensures { result ≡ as_command commands.Sfid (sfid_of frame.now) }
 {
     let dataset = name_at::<26>(frame, 1)?;
     reserved_at(frame, 27, 3)?;
@@ -82,7 +81,7 @@ fn sfid(frame: &[u8]) -> Result<Sfid<'_>, WireFault>
     let enveloping = count_at::<1>(frame, 160)?;
     let signed_response = flag_at(frame, 161)?;
     let description = last_text_at(frame, 162)?;
-    Ok(Sfid {
+    Ok(Command::Sfid(Sfid {
         dataset,
         date,
         time,
@@ -99,41 +98,41 @@ fn sfid(frame: &[u8]) -> Result<Sfid<'_>, WireFault>
         enveloping,
         signed_response,
         description,
-    })
+    }))
 }
 
 /// The fields of SFPA.
 #[tactic(auto, unfolding(crate::specs::Kinds::sfpa_of))]
-fn sfpa(frame: &[u8]) -> Result<Sfpa, WireFault>
-    ensures { result ≡ sfpa_of frame.now }
+fn sfpa(frame: &[u8]) -> Result<Command<'_>, WireFault>
+    ensures { result ≡ as_command commands.Sfpa (sfpa_of frame.now) }
 {
     let restart = count_at::<17>(frame, 1)?;
     ends_at(frame, 18)?;
-    Ok(Sfpa { restart })
+    Ok(Command::Sfpa(Sfpa { restart }))
 }
 
 /// The fields of SFNA.
 #[tactic(auto, unfolding(crate::specs::Kinds::sfna_of))]
-fn sfna(frame: &[u8]) -> Result<Sfna<'_>, WireFault>
-    ensures { result ≡ sfna_of frame.now }
+fn sfna(frame: &[u8]) -> Result<Command<'_>, WireFault>
+    ensures { result ≡ as_command commands.Sfna (sfna_of frame.now) }
 {
     let reason = count_at::<2>(frame, 1)?;
     let retry = flag_at(frame, 3)?;
     let text = last_text_at(frame, 4)?;
-    Ok(Sfna {
+    Ok(Command::Sfna(Sfna {
         reason,
         retry,
         text,
-    })
+    }))
 }
 
 /// The payload of DATA.
 #[tactic(auto, unfolding(crate::specs::Kinds::data_of))]
-fn data(frame: &[u8]) -> Result<Octets<'_>, WireFault>
-    ensures { result ≡ data_of frame.now }
+fn data(frame: &[u8]) -> Result<Command<'_>, WireFault>
+    ensures { result ≡ as_command commands.Data (data_of frame.now) }
 {
     let octets = rest_at(frame, 1)?;
-    Ok(octets)
+    Ok(Command::Data(octets))
 }
 
 /// CDT, which has no field with a value.
@@ -148,39 +147,39 @@ fn cdt(frame: &[u8]) -> Result<(), WireFault>
 
 /// The fields of EFID.
 #[tactic(auto, unfolding(crate::specs::Kinds::efid_of))]
-fn efid(frame: &[u8]) -> Result<Efid, WireFault>
-    ensures { result ≡ efid_of frame.now }
+fn efid(frame: &[u8]) -> Result<Command<'_>, WireFault>
+    ensures { result ≡ as_command commands.Efid (efid_of frame.now) }
 {
     let records = count_at::<17>(frame, 1)?;
     let units = count_at::<17>(frame, 18)?;
     ends_at(frame, 35)?;
-    Ok(Efid { records, units })
+    Ok(Command::Efid(Efid { records, units }))
 }
 
 /// The fields of EFPA.
 #[tactic(auto, unfolding(crate::specs::Kinds::efpa_of))]
-fn efpa(frame: &[u8]) -> Result<Efpa, WireFault>
-    ensures { result ≡ efpa_of frame.now }
+fn efpa(frame: &[u8]) -> Result<Command<'_>, WireFault>
+    ensures { result ≡ as_command commands.Efpa (efpa_of frame.now) }
 {
     let change_direction = flag_at(frame, 1)?;
     ends_at(frame, 2)?;
-    Ok(Efpa { change_direction })
+    Ok(Command::Efpa(Efpa { change_direction }))
 }
 
 /// The fields of EFNA.
 #[tactic(auto, unfolding(crate::specs::Kinds::efna_of))]
-fn efna(frame: &[u8]) -> Result<Efna<'_>, WireFault>
-    ensures { result ≡ efna_of frame.now }
+fn efna(frame: &[u8]) -> Result<Command<'_>, WireFault>
+    ensures { result ≡ as_command commands.Efna (efna_of frame.now) }
 {
     let reason = count_at::<2>(frame, 1)?;
     let text = last_text_at(frame, 3)?;
-    Ok(Efna { reason, text })
+    Ok(Command::Efna(Efna { reason, text }))
 }
 
 /// The fields of ESID.
 #[tactic(auto, unfolding(crate::specs::Kinds::esid_of))]
-fn esid(frame: &[u8]) -> Result<Esid<'_>, WireFault>
-    ensures { result ≡ esid_of frame.now }
+fn esid(frame: &[u8]) -> Result<Command<'_>, WireFault>
+    ensures { result ≡ as_command commands.Esid (esid_of frame.now) }
 {
     let reason = count_at::<2>(frame, 1)?;
     let len = count_at::<3>(frame, 3)?;
@@ -188,7 +187,7 @@ fn esid(frame: &[u8]) -> Result<Esid<'_>, WireFault>
     let after = 6 + len.get() as usize;
     return_at(frame, after)?;
     ends_at(frame, after + 1)?;
-    Ok(Esid { reason, text })
+    Ok(Command::Esid(Esid { reason, text }))
 }
 
 /// CD or RTR, which are only a letter.
@@ -202,8 +201,8 @@ fn single(frame: &[u8]) -> Result<(), WireFault>
 
 /// The fields of EERP.
 #[tactic(auto, unfolding(crate::specs::Kinds::eerp_of))]
-fn eerp(frame: &[u8]) -> Result<Eerp<'_>, WireFault>
-    ensures { result ≡ eerp_of frame.now }
+fn eerp(frame: &[u8]) -> Result<Command<'_>, WireFault>
+    ensures { result ≡ as_command commands.Eerp (eerp_of frame.now) }
 {
     let dataset = name_at::<26>(frame, 1)?;
     reserved_at(frame, 27, 3)?;
@@ -215,20 +214,20 @@ fn eerp(frame: &[u8]) -> Result<Eerp<'_>, WireFault>
     zero_at(frame, 106)?;
     zero_at(frame, 108)?;
     ends_at(frame, 110)?;
-    Ok(Eerp {
+    Ok(Command::Eerp(Eerp {
         dataset,
         date,
         time,
         user,
         destination,
         originator,
-    })
+    }))
 }
 
 /// The fields of NERP.
 #[tactic(auto, unfolding(crate::specs::Kinds::nerp_of))]
-fn nerp(frame: &[u8]) -> Result<Nerp<'_>, WireFault>
-    ensures { result ≡ nerp_of frame.now }
+fn nerp(frame: &[u8]) -> Result<Command<'_>, WireFault>
+    ensures { result ≡ as_command commands.Nerp (nerp_of frame.now) }
 {
     let dataset = name_at::<26>(frame, 1)?;
     reserved_at(frame, 27, 6)?;
@@ -244,7 +243,7 @@ fn nerp(frame: &[u8]) -> Result<Nerp<'_>, WireFault>
     zero_at(frame, after)?;
     zero_at(frame, after + 2)?;
     ends_at(frame, after + 4)?;
-    Ok(Nerp {
+    Ok(Command::Nerp(Nerp {
         dataset,
         date,
         time,
@@ -253,7 +252,7 @@ fn nerp(frame: &[u8]) -> Result<Nerp<'_>, WireFault>
         creator,
         reason,
         text,
-    })
+    }))
 }
 
 /// The command of the kind with this letter.
@@ -266,25 +265,25 @@ fn by_letter(letter: u8, frame: &[u8]) -> Result<Command<'_>, WireFault>
             ssrm(frame)?;
             Ok(Command::Ssrm)
         }
-        b'X' => Ok(Command::Ssid(ssid(frame)?)),
-        b'H' => Ok(Command::Sfid(sfid(frame)?)),
-        b'2' => Ok(Command::Sfpa(sfpa(frame)?)),
-        b'3' => Ok(Command::Sfna(sfna(frame)?)),
-        b'D' => Ok(Command::Data(data(frame)?)),
+        b'X' => ssid(frame),
+        b'H' => sfid(frame),
+        b'2' => sfpa(frame),
+        b'3' => sfna(frame),
+        b'D' => data(frame),
         b'C' => {
             cdt(frame)?;
             Ok(Command::Cdt)
         }
-        b'T' => Ok(Command::Efid(efid(frame)?)),
-        b'4' => Ok(Command::Efpa(efpa(frame)?)),
-        b'5' => Ok(Command::Efna(efna(frame)?)),
-        b'F' => Ok(Command::Esid(esid(frame)?)),
+        b'T' => efid(frame),
+        b'4' => efpa(frame),
+        b'5' => efna(frame),
+        b'F' => esid(frame),
         b'R' => {
             single(frame)?;
             Ok(Command::Cd)
         }
-        b'E' => Ok(Command::Eerp(eerp(frame)?)),
-        b'N' => Ok(Command::Nerp(nerp(frame)?)),
+        b'E' => eerp(frame),
+        b'N' => nerp(frame),
         b'P' => {
             single(frame)?;
             Ok(Command::Rtr)
