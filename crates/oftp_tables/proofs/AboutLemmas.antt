@@ -1,5 +1,5 @@
 -- What the query on `about` returns.
-use Rattle.std.proofs.Common.{◌≡◌, false, ℕ, List, [], ◌∷◌, length, map, codes, Result, Ok, Err, OnErr, inl, inr, refl, sym, ap, subst}
+use Rattle.std.proofs.Common.{◌≡◌, false, ℕ, List, [], ◌∷◌, length, map, codes, inl, inr, refl, sym, ap, subst}
 use Rattle.std.specs.List.Sorted.{IsPermutation}
 use Rattle.std.proofs.lemmas.List.Sorted.{IsPermutation-sym}
 use Rattle.sqlite_tied.specs.Compute.{everything}
@@ -12,13 +12,14 @@ use Rattle.sqlite.specs.Command.{Command}
 use Rattle.sqlite.specs.Command.TheVariants.{Select}
 use Rattle.sqlite.specs.Listing.{understood, reads_listing}
 use Rattle.sqlite.specs.State.{State, CommitsShowing, FailsToQuery, HasCleanDisk, IsUnchanged, Shown, Survives}
-use Rattle.sqlite.proofs.Callers.{IsPlain, command_of, one_permutation, reads_as}
+use Rattle.sqlite.proofs.Callers.{one_permutation, reads_as}
 use Rattle.oftp_tables.specs.Schema.{about_tree, first_schema, no_schema, office_schema}
 use Rattle.oftp_tables.specs.Making.{HasAbout, about_rows, about_text, about_told}
 use Rattle.oftp_tables.specs.Transactions.{IsSpared}
 use Rattle.oftp_tables.proofs.ConnectionLemmas.{query_leaves, spared_query, unchanged_query}
 use Rattle.sqlite.specs.declared.error.Error.{Error}
 use Rattle.oftp_tables.proofs.QueryLemmas.{plain_query, chosen, answers}
+use Rattle.oftp_tables.proofs.SqlLemmas.{IsRead, is_read}
 
 abbrev project : List Term
 project = col 1 0 ∷ col 1 2 ∷ []
@@ -28,17 +29,16 @@ select = Select (record { lets = []; body = plain_query about_tree [] project })
 
 -- what the SQL means over the tables of a schema
 record IsMeant (schema : Schema) : Type 0 where
-  command : command_of (understood schema about_text) ≡ select
+  read : IsRead about_text select (understood schema about_text)
   unlisted : reads_listing schema about_text ≡ false
-  plain : IsPlain (understood schema about_text)
 
 meant_first : IsMeant first_schema
 unfolding understood everything
-meant_first = record { command = refl; unlisted = refl; plain = (refl, refl) }
+meant_first = record { read = is_read _ _ _ (refl, refl, refl, refl); unlisted = refl }
 
 meant_second : IsMeant office_schema
 unfolding understood everything
-meant_second = record { command = refl; unlisted = refl; plain = (refl, refl) }
+meant_second = record { read = is_read _ _ _ (refl, refl, refl, refl); unlisted = refl }
 
 meant : (schema : Schema) → HasAbout schema → IsMeant schema
 meant schema (inl is) = subst IsMeant (sym is) meant_first
@@ -56,7 +56,7 @@ pub record IsTold (schema : ℕ) (db : Trees) (rows : List Row) : Type 0 where
 finds_about : (schema : ℕ) (old new : State) (rows : List Row) → HasAbout old.now.schema → Shown about_text [] old new rows → IsTold schema old.now.trees rows
 finds_about schema old new rows has h =
     let it = meant old.now.schema has in
-    let read = reads_as about_text [] old new old.now.schema refl select it.command it.plain it.unlisted rows h in
+    let read = reads_as about_text [] old new old.now.schema refl select it.read.command_is it.read.plain it.unlisted rows h in
     let told = about_told old.now.trees in
     let perm : IsPermutation told rows = subst (λ xs. IsPermutation xs rows) (all_chosen (old.now.trees about_tree)) (answers old.now.trees about_tree [] project [] rows (read.answer Null)) in
     record {
@@ -64,21 +64,16 @@ finds_about schema old new rows has h =
       back = λ is. one_permutation _ _ (subst (λ xs. IsPermutation xs rows) is perm);
     }
 
--- what an error leaves holds of its result
-pub after_error : {T E : Type 0} (P : Type 0) (result : Result T E) → P → OnErr result P
-after_error P (Ok x) holds = tt
-after_error P (Err e) holds = holds
-
 -- what the query does
 module _ (old new : State) (has : HasAbout old.now.schema) where
   pub about_same : (rows : List Row) → Shown about_text [] old new rows → IsUnchanged old new
-  about_same rows shown = unchanged_query about_text [] old new rows (meant old.now.schema has).plain shown
+  about_same rows shown = unchanged_query about_text [] old new rows (meant old.now.schema has).read.plain shown
 
   pub about_failed : (e : Error) → FailsToQuery about_text [] old new e → IsSpared old new
-  about_failed e fails = spared_query about_text [] old new e (meant old.now.schema has).plain fails
+  about_failed e fails = spared_query about_text [] old new e (meant old.now.schema has).read.plain fails
 
   pub about_leaves : Survives old new (CommitsShowing about_text [] old) → HasCleanDisk new → (db : Trees) → new.may_leave db → old.may_leave db
-  about_leaves survives = query_leaves about_text [] old new (meant old.now.schema has).plain survives
+  about_leaves survives = query_leaves about_text [] old new (meant old.now.schema has).read.plain survives
 
   pub about_told_by : (schema : ℕ) (rows : List Row) → Shown about_text [] old new rows → IsTold schema old.now.trees rows
   about_told_by schema rows shown = finds_about schema old new rows has shown

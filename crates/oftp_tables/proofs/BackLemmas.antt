@@ -3,9 +3,8 @@ use Rattle.std.proofs.Common.{◌≡◌, ◌==◌, ◌+◌, ◌<◌, ℕ, suc, t
 use Rattle.std.specs.List.{AllByRecursion}
 use Rattle.std.specs.List.Sorted.{IsPermutation}
 use Rattle.std.specs.Option.{option_map}
-use Rattle.std.proofs.lemmas.Bool.Decides.{nat_tests}
-use Rattle.std.proofs.lemmas.List.{map-append}
-use Rattle.std.proofs.lemmas.List.Elements.{All-head, All-tail}
+use Rattle.std.proofs.lemmas.List.{append_assoc, length_push, length-map, map-append}
+use Rattle.std.proofs.lemmas.List.Elements.{recursion_from_All}
 use Rattle.sqlite.specs.Order.{Row}
 use Rattle.sqlite.specs.Tree.{Trees}
 use Rattle.oftp_vfile.specs.declared.format.Format.{Format}
@@ -24,6 +23,7 @@ use Rattle.oftp_register.specs.Soundness.{IsSound, IsSoundAnswer, IsSoundIncomin
 use Rattle.oftp_tables.specs.Schema.{in_row_tree, out_file_tree, out_row_tree, issued_tree, received_tree, note_tree}
 use Rattle.oftp_tables.specs.Tables.{format_text, kind_text, reason_text, in_state_text, out_state_text, refusal_text, sent_number, in_file_row, out_file_row, issued_row, received_row, rows_from, issued_if_any, issued_from, note_if_negative, notes_from, bodies_from, less_rowids, rows_in, rows_out, HasReason, HasRefusal, Tables, format_in, kind_in, in_state_in, out_state_in, dispatch_in, has_number, bodies_in, issued_in, incoming_in, outgoing_in, text_at, received_in, register_in}
 use Rattle.oftp_tables.proofs.BodyLemmas.{bodies_back}
+use Rattle.oftp_tables.proofs.NumberLemmas.{unlike, above, alike}
 
 -- ---- the parts
 
@@ -69,15 +69,6 @@ issued_back n r h sound =
     ∙ ap (λ d. let i : Issued = record { kind = r.kind; reason = r.reason; text = r.text; dispatch = d } in i) (dispatch_back r.dispatch)
 
 -- ---- the rows of one file
-
-unlike : (m n : ℕ) → m < n → (m == n) ≡ false
-unlike m n h = grind (arith, nat_tests, h)
-
-above : (m n : ℕ) → n < m → (m == n) ≡ false
-above m n h = grind (arith, nat_tests, h)
-
-alike : (n : ℕ) → (n == n) ≡ true
-alike n = grind (arith, nat_tests)
 
 not_issued : (k n : ℕ) (fs : List Incoming) → k < n → find (has_number k) (issued_from n fs) ≡ None
 not_issued k n [] h = refl
@@ -142,17 +133,9 @@ module _ {X : Type 0} (row : ℕ → X → Row) (read : Row → X) where
       → ((k : ℕ) (before : List X) (x : X) (after : List X) → all ≡ before ++ x ∷ after → k ≡ 1 + length before → read (row k x) ≡ x) → map read (rows_from row n rest) ≡ rest
   read_back all n before [] is at each = refl
   read_back all n before (x ∷ rest) is at each =
-      let longer : all ≡ (before ++ x ∷ []) ++ rest = is ∙ joined before in
-      let next : n + 1 ≡ 1 + length (before ++ x ∷ []) = omega (arith, at, one_more before) in
+      let longer : all ≡ (before ++ x ∷ []) ++ rest = is ∙ sym (append_assoc before (x ∷ []) rest) in
+      let next : n + 1 ≡ 1 + length (before ++ x ∷ []) = omega (arith, at, length_push before x) in
       ap (λ y. y ∷ map read (rows_from row (n + 1) rest)) (each n before x rest is at) ∙ ap (λ ys. x ∷ ys) (read_back all (n + 1) (before ++ x ∷ []) rest longer next each)
-    where
-      joined : (ys : List X) → ys ++ x ∷ rest ≡ (ys ++ x ∷ []) ++ rest
-      joined [] = refl
-      joined (y ∷ ys) = ap (λ zs. y ∷ zs) (joined ys)
-
-      one_more : (ys : List X) → length (ys ++ x ∷ []) ≡ suc (length ys)
-      one_more [] = refl
-      one_more (y ∷ ys) = ap suc (one_more ys)
 
 -- a fact of the entry at a place
 pub at_place : {X : Type 0} (P : X → Type 0) (before : List X) (x : X) (after : List X) → AllByRecursion P (before ++ x ∷ after) → P x
@@ -160,12 +143,7 @@ at_place P [] x after h = h.0
 at_place P (y ∷ before) x after h = at_place P before x after h.1
 
 pub all_at_place : {X : Type 0} (P : X → Type 0) (before : List X) (x : X) (after : List X) → All P (before ++ x ∷ after) → P x
-all_at_place P [] x after h = All-head P x after h
-all_at_place P (y ∷ before) x after h = all_at_place P before x after (All-tail P y (before ++ x ∷ after) h)
-
-length-map : {X Y : Type 0} (f : X → Y) (xs : List X) → length (map f xs) ≡ length xs
-length-map f [] = refl
-length-map f (x ∷ xs) = ap suc (length-map f xs)
+all_at_place P before x after h = at_place P before x after (recursion_from_All P _ h)
 
 -- an entry whose parts are read back is read back
 same_incoming : (f : Incoming) (format : Format) (state : IncomingState) (rows : List (List ℕ)) (response : Option Issued)
@@ -186,7 +164,7 @@ module _ (r : Register) (db : Trees) (kept : Tables r db) (sound : IsSound r) wh
   one_incoming : (k : ℕ) (before : List Incoming) (f : Incoming) (after : List Incoming) → r.incoming ≡ before ++ f ∷ after → k ≡ 1 + length before → incoming_in db (in_file_row k f) ≡ f
   one_incoming k before f after is at =
       let rows : bodies_in k (less_rowids (db in_row_tree)) ≡ f.rows =
-      bodies_back k (map rows_in before) f.rows (map rows_in after) (less_rowids (db in_row_tree)) (omega (arith, at, length-map rows_in before))
+      bodies_back k (map rows_in before) f.rows (map rows_in after) (less_rowids (db in_row_tree)) (omega (arith, at, length-map before rows_in))
       (subst (λ files. IsPermutation (bodies_from 1 files) (less_rowids (db in_row_tree))) (ap (map rows_in) is ∙ map-append rows_in before (f ∷ after)) kept.incoming.rows) in
       let reasons = subst (AllByRecursion (λ (g : Incoming). HasReason g.response)) is kept.incoming.reasons in
       let right = all_at_place IsSoundIncoming before f after (subst (All IsSoundIncoming) is sound.incoming) in
@@ -198,7 +176,7 @@ module _ (r : Register) (db : Trees) (kept : Tables r db) (sound : IsSound r) wh
   one_outgoing : (k : ℕ) (before : List Outgoing) (f : Outgoing) (after : List Outgoing) → r.outgoing ≡ before ++ f ∷ after → k ≡ 1 + length before → outgoing_in db (out_file_row k f) ≡ f
   one_outgoing k before f after is at =
       let rows : bodies_in k (less_rowids (db out_row_tree)) ≡ f.rows =
-      bodies_back k (map rows_out before) f.rows (map rows_out after) (less_rowids (db out_row_tree)) (omega (arith, at, length-map rows_out before))
+      bodies_back k (map rows_out before) f.rows (map rows_out after) (less_rowids (db out_row_tree)) (omega (arith, at, length-map before rows_out))
       (subst (λ files. IsPermutation (bodies_from 1 files) (less_rowids (db out_row_tree))) (ap (map rows_out) is ∙ map-append rows_out before (f ∷ after)) kept.outgoing.rows) in
       let has_refusal = λ (g : Outgoing). HasRefusal g.state in
       let state = out_state_back f.state (at_place has_refusal before f after (subst (AllByRecursion has_refusal) is kept.outgoing.reasons)) in

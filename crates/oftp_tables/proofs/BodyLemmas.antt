@@ -1,14 +1,17 @@
 -- The rows of files, in a table that has them in any order.
-use Rattle.std.proofs.Common.{◌≡◌, ◌==◌, ◌&&◌, ◌+◌, ◌-◌, ◌<◌, ℕ, zero, suc, Bool, true, false, not, cond, nat_le, List, [], ◌∷◌, ◌++◌, length, map, filter, take, inl, inr, refl, sym, ap, subst, ◌∙◌, arith, append_assoc}
+use Rattle.std.proofs.Common.{◌≡◌, ◌==◌, ◌&&◌, ◌+◌, ◌-◌, ◌<◌, ℕ, zero, suc, Bool, true, false, not, cond, nat_le, List, [], ◌∷◌, ◌++◌, length, map, filter, take, inl, inr, refl, sym, ap, subst, ◌∙◌, arith, append_assoc, append-nil}
 use Rattle.std.specs.List.{AllByRecursion}
 use Rattle.std.specs.List.Sorted.{IsPermutation}
 use Rattle.std.proofs.lemmas.Bool.{cases_Bool}
 use Rattle.std.proofs.lemmas.Bool.Decides.{nat_tests}
+use Rattle.std.proofs.lemmas.List.{take_all}
+use Rattle.std.proofs.lemmas.List.Elements.{filter-append}
 use Rattle.std.proofs.lemmas.List.Sorted.{IsPermutation-trans, IsPermutation-append_left, IsPermutation-append_right, IsPermutation-append_comm}
 use Rattle.sqlite_keyed.proofs.ListLemmas.{IsPermutation-filter, IsPermutation-same}
 use Rattle.sqlite.specs.Order.{Row, column, bytes}
 use Rattle.oftp_tables.specs.Tables.{has_number, body_row, body_rows, bodies_from, put_by_place, by_place, bodies_in}
 use Rattle.oftp_tables.proofs.PlaceLemmas.{place, AreApart, by_place_same}
+use Rattle.oftp_tables.proofs.NumberLemmas.{unlike, above, alike}
 
 -- ---- one file
 
@@ -20,15 +23,6 @@ body_rows-append n at (b ∷ bodies) more =
 
 within : (m n : ℕ) → m < n → nat_le m n ≡ true
 within m n h = grind (arith, nat_tests, h)
-
-unlike : (m n : ℕ) → m < n → (m == n) ≡ false
-unlike m n h = grind (arith, nat_tests, h)
-
-above : (m n : ℕ) → n < m → (m == n) ≡ false
-above m n h = grind (arith, nat_tests, h)
-
-alike : (n : ℕ) → (n == n) ≡ true
-alike n = grind (arith, nat_tests)
 
 -- they are in order of position
 placed : (n at : ℕ) (bodies : List (List ℕ)) → by_place (body_rows n at bodies) ≡ body_rows n at bodies
@@ -53,15 +47,7 @@ bodies_of n at (b ∷ bodies) = ap (λ more. b ∷ more) (bodies_of n (at + 1) b
 
 -- ---- a test that reads the number first
 
-module _ (keep : Row → Bool) (k : ℕ) where
-  pub filter_append : (xs ys : List Row) → filter keep (xs ++ ys) ≡ filter keep xs ++ filter keep ys
-  filter_append [] ys = refl
-  filter_append (x ∷ xs) ys =
-      elim (keep x) as (λ b. cond b (x ∷ filter keep (xs ++ ys)) (filter keep (xs ++ ys)) ≡ cond b (x ∷ filter keep xs) (filter keep xs) ++ filter keep ys) [
-        | true ↦ ap (λ (more : List Row). x ∷ more) (filter_append xs ys)
-        | false ↦ filter_append xs ys
-      ]
-
+module _ (keep : Row → Bool) where
   pub all_kept : (n at : ℕ) (bodies : List (List ℕ)) → ((at : ℕ) (b : List ℕ) → keep (body_row n at b) ≡ true) → filter keep (body_rows n at bodies) ≡ body_rows n at bodies
   all_kept n at [] h = refl
   all_kept n at (b ∷ bodies) h = rw (h at b) (ap (λ (more : List Row). body_row n at b ∷ more) (all_kept n (at + 1) bodies h))
@@ -75,26 +61,22 @@ module _ (keep : Row → Bool) (k : ℕ) where
 pub none_before : (k n : ℕ) (files : List (List (List ℕ))) → k < n → filter (has_number k) (bodies_from n files) ≡ []
 none_before k n [] h = refl
 none_before k n (f ∷ files) h =
-    filter_append (has_number k) k (body_rows n 0 f) (bodies_from (n + 1) files)
-    ∙ ap (λ (rows : List Row). rows ++ filter (has_number k) (bodies_from (n + 1) files)) (none_kept (has_number k) k n 0 f (λ at b. above n k h))
+    filter-append (has_number k) (body_rows n 0 f) (bodies_from (n + 1) files)
+    ∙ ap (λ (rows : List Row). rows ++ filter (has_number k) (bodies_from (n + 1) files)) (none_kept (has_number k) n 0 f (λ at b. above n k h))
     ∙ none_before k (n + 1) files (omega arith)
-
-append_nothing : (xs : List Row) → xs ++ [] ≡ xs
-append_nothing [] = refl
-append_nothing (x ∷ xs) = ap (λ (more : List Row). x ∷ more) (append_nothing xs)
 
 pub rows_at : (k n : ℕ) (files : List (List (List ℕ))) (bodies : List (List ℕ)) (after : List (List (List ℕ))) → k ≡ n + length files
     → filter (has_number k) (bodies_from n (files ++ bodies ∷ after)) ≡ body_rows k 0 bodies
 rows_at k n [] bodies after is =
     let here : k ≡ n = omega (arith, is) in
     subst (λ m. filter (has_number k) (bodies_from m (bodies ∷ after)) ≡ body_rows k 0 bodies) here
-    (filter_append (has_number k) k (body_rows k 0 bodies) (bodies_from (k + 1) after)
-    ∙ ap (λ (rows : List Row). rows ++ filter (has_number k) (bodies_from (k + 1) after)) (all_kept (has_number k) k k 0 bodies (λ at b. alike k))
+    (filter-append (has_number k) (body_rows k 0 bodies) (bodies_from (k + 1) after)
+    ∙ ap (λ (rows : List Row). rows ++ filter (has_number k) (bodies_from (k + 1) after)) (all_kept (has_number k) k 0 bodies (λ at b. alike k))
     ∙ ap (λ (rows : List Row). body_rows k 0 bodies ++ rows) (none_before k (k + 1) after (omega arith))
-    ∙ append_nothing _)
+    ∙ append-nil _)
 rows_at k n (f ∷ files) bodies after is =
-    filter_append (has_number k) k (body_rows n 0 f) (bodies_from (n + 1) (files ++ bodies ∷ after))
-    ∙ ap (λ (rows : List Row). rows ++ filter (has_number k) (bodies_from (n + 1) (files ++ bodies ∷ after))) (none_kept (has_number k) k n 0 f (λ at b. unlike n k (omega (arith, is))))
+    filter-append (has_number k) (body_rows n 0 f) (bodies_from (n + 1) (files ++ bodies ∷ after))
+    ∙ ap (λ (rows : List Row). rows ++ filter (has_number k) (bodies_from (n + 1) (files ++ bodies ∷ after))) (none_kept (has_number k) n 0 f (λ at b. unlike n k (omega (arith, is))))
     ∙ rows_at k (n + 1) files bodies after (omega (arith, is))
 
 -- a file's rows are read back
@@ -135,12 +117,8 @@ bodies_more n (f ∷ files) bodies more after =
 abbrev pub is_cut : ℕ → ℕ → Row → Bool
 is_cut k count row = has_number k row && nat_le count (place row)
 
-take_nothing : (n : ℕ) → (let none : List (List ℕ) = [] in take n none ≡ none)
-take_nothing zero = refl
-take_nothing (suc n) = refl
-
 cut_one : (k count at : ℕ) (bodies : List (List ℕ)) → filter (λ r. not (is_cut k count r)) (body_rows k at bodies) ≡ body_rows k at (take (count - at) bodies)
-cut_one k count at [] = ap (body_rows k at) (sym (take_nothing (count - at)))
+cut_one k count at [] = ap (body_rows k at) (sym (take_all (count - at) [] (omega arith)))
 cut_one k count at (b ∷ bodies) =
     elim (cases_Bool (nat_le count at)) [
       | inl past ↦
@@ -159,8 +137,8 @@ cut_none k count n [] h = refl
 cut_none k count n (f ∷ files) h =
     let keep = λ (r : Row). not (is_cut k count r) in
     let stays : (at : ℕ) (b : List ℕ) → keep (body_row n at b) ≡ true = λ at b. let other : (n == k) ≡ false = above n k h in rw other refl in
-    filter_append keep k (body_rows n 0 f) (bodies_from (n + 1) files)
-    ∙ ap (λ (rows : List Row). rows ++ filter keep (bodies_from (n + 1) files)) (all_kept keep k n 0 f stays)
+    filter-append keep (body_rows n 0 f) (bodies_from (n + 1) files)
+    ∙ ap (λ (rows : List Row). rows ++ filter keep (bodies_from (n + 1) files)) (all_kept keep n 0 f stays)
     ∙ ap (λ (rows : List Row). body_rows n 0 f ++ rows) (cut_none k count (n + 1) files (omega arith))
 
 pub bodies_cut : (k count n : ℕ) (files : List (List (List ℕ))) (bodies : List (List ℕ)) (after : List (List (List ℕ))) → k ≡ n + length files
@@ -170,12 +148,12 @@ bodies_cut k count n [] bodies after is =
     let here : k ≡ n = omega (arith, is) in
     let all : count - 0 ≡ count = omega arith in
     subst (λ m. filter keep (bodies_from m (bodies ∷ after)) ≡ bodies_from m (take count bodies ∷ after)) here
-    (filter_append keep k (body_rows k 0 bodies) (bodies_from (k + 1) after)
+    (filter-append keep (body_rows k 0 bodies) (bodies_from (k + 1) after)
     ∙ ap (λ (rows : List Row). rows ++ filter keep (bodies_from (k + 1) after)) (cut_one k count 0 bodies ∙ ap (λ m. body_rows k 0 (take m bodies)) all)
     ∙ ap (λ (rows : List Row). body_rows k 0 (take count bodies) ++ rows) (cut_none k count (k + 1) after (omega arith)))
 bodies_cut k count n (f ∷ files) bodies after is =
     let keep = λ (r : Row). not (is_cut k count r) in
     let stays : (at : ℕ) (b : List ℕ) → keep (body_row n at b) ≡ true = λ at b. let other : (n == k) ≡ false = unlike n k (omega (arith, is)) in rw other refl in
-    filter_append keep k (body_rows n 0 f) (bodies_from (n + 1) (files ++ bodies ∷ after))
-    ∙ ap (λ (rows : List Row). rows ++ filter keep (bodies_from (n + 1) (files ++ bodies ∷ after))) (all_kept keep k n 0 f stays)
+    filter-append keep (body_rows n 0 f) (bodies_from (n + 1) (files ++ bodies ∷ after))
+    ∙ ap (λ (rows : List Row). rows ++ filter keep (bodies_from (n + 1) (files ++ bodies ∷ after))) (all_kept keep n 0 f stays)
     ∙ ap (λ (rows : List Row). body_rows n 0 f ++ rows) (bodies_cut k count (n + 1) files bodies after (omega (arith, is)))

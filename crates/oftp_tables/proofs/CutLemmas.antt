@@ -2,6 +2,7 @@
 use Rattle.std.proofs.Common.{◌≡◌, ℤ, Bool, true, false, not, cond, ◌&&◌, ◌||◌, List, [], ◌∷◌, map, filter, refl, sym, ap, ◌∙◌}
 use Rattle.std.specs.List.{AllByRecursion, list_any}
 use Rattle.std.specs.List.Sorted.{IsPermutation}
+use Rattle.std.proofs.lemmas.List.Elements.{filter_agree}
 use Rattle.std.proofs.lemmas.List.Sorted.{list_any-IsPermutation}
 use Rattle.sqlite.specs.Order.{Row}
 use Rattle.sqlite.specs.Tree.{rowid, has_rowid, without_rowid}
@@ -20,10 +21,6 @@ pub filter_same : (p q : Row → Bool) (rows : List Row) → AllByRecursion (λ 
 filter_same p q [] h = refl
 filter_same p q (r ∷ rows) h = ap (λ b. cond b (r ∷ filter p rows) (filter p rows)) h.0 ∙ ap (λ (more : List Row). cond (q r) (r ∷ more) more) (filter_same p q rows h.1)
 
-all_same : (p q : Row → Bool) → ((r : Row) → p r ≡ q r) → (rows : List Row) → AllByRecursion (λ r. p r ≡ q r) rows
-all_same p q h [] = tt
-all_same p q h (r ∷ rows) = (h r, all_same p q h rows)
-
 not-or : (a b : Bool) → (not a && not b) ≡ not (a || b)
 not-or true b = refl
 not-or false b = refl
@@ -37,7 +34,7 @@ without_ids [] [] = refl
 without_ids [] (r ∷ rows) = ap (λ (more : List Row). r ∷ more) (without_ids [] rows)
 without_ids (id ∷ ids) rows =
     without_ids ids (without_rowid id rows) ∙ filter-both (λ r. not (has_rowid id r)) (λ r. not (is_in ids r)) rows
-    ∙ filter_same _ _ rows (all_same _ _ (λ r. not-or (has_rowid id r) (is_in ids r)) rows)
+    ∙ filter_agree _ _ (λ r. not-or (has_rowid id r) (is_in ids r)) rows
 
 abbrev pub id_of : Row → ℤ
 id_of r = id_in (rowid r)

@@ -1,25 +1,18 @@
 -- The tables of a register, where one of them has other rows.
 use Rattle.std.proofs.Common.{◌≡◌, ◌≢◌, ◌==◌, ℕ, true, false, List, inl, inr, sym, subst, ◌∙◌, arith}
-use Rattle.std.proofs.lemmas.Bool.{cases_Bool}
-use Rattle.std.proofs.lemmas.Bool.Decides.{nat_tests}
+use Rattle.std.proofs.lemmas.Bool.{cases_Bool, eqb-false, eqb-true}
 use Rattle.sqlite.specs.Order.{Row}
 use Rattle.sqlite.specs.Tree.{Trees, with_tree}
 use Rattle.oftp_register.specs.Register.{Register}
 use Rattle.oftp_tables.specs.Tables.{HoldIncoming, HoldOutgoing, HoldReceived, Tables}
 use Rattle.oftp_tables.specs.Statements.{Others}
 
-differ : (k tree : ℕ) → (k == tree) ≡ false → k ≢ tree
-differ k tree h e = absurd (let no_such : (k == tree) ≡ true = grind (arith, nat_tests, e) in let t = sym h ∙ no_such in cc)
-
-equals : (k tree : ℕ) → (k == tree) ≡ true → k ≡ tree
-equals k tree h = grind (arith, nat_tests, h)
-
 module _ (tree : ℕ) (rows : List Row) (old new : Trees) (is : new tree ≡ rows) where
   at : (k : ℕ) → (k ≢ tree → new k ≡ old k) → new k ≡ with_tree old tree rows k
   at k other =
       elim (cases_Bool (k == tree)) [
-        | inl same ↦ rw same (subst (λ m. new m ≡ rows) (sym (equals k tree same)) is)
-        | inr differs ↦ rw differs (other (differ k tree differs))
+        | inl same ↦ rw same (subst (λ m. new m ≡ rows) (sym (eqb-true k tree same)) is)
+        | inr differs ↦ rw differs (other (eqb-false k tree differs))
       ]
 
   -- so the new tables represent a register if these do

@@ -26,3 +26,5 @@ pub mod BindLemmas
 pub mod NegativeLemmas
 pub mod MigrationLemmas
 pub mod OpeningLemmas
+pub mod NumberLemmas
+pub mod SqlLemmas

@@ -1,6 +1,7 @@
 -- What the CREATE statements make.
 use Rattle.std.proofs.Common.{◌≡◌, ◌+◌, ◌<◌, ◌≤◌, ◌∙◌, ℕ, zero, suc, pos, List, [], ◌∷◌, ◌++◌, codes, true, false, None, Result, Ok, Err, IfErr, IsTrue, inl, inr, refl, sym, ap, subst, arith}
 use Rattle.std.specs.List.{AllByRecursion}
+use Rattle.sqlite_keyed.proofs.ListLemmas.{all-append}
 use Rattle.sqlite_tied.specs.Compute.{everything}
 use Rattle.sqlite.specs.declared.types.Value.TheVariants.{Null, Int}
 use Rattle.sqlite.specs.Order.{Row}
@@ -18,46 +19,46 @@ use Rattle.sqlite.specs.Cast.{cast_row}
 use Rattle.sqlite.specs.Rowids.TheVariants.{Chosen}
 use Rattle.sqlite.specs.Listing.{understood}
 use Rattle.sqlite.specs.Effect.{Database}
-use Rattle.sqlite.specs.Does.{Does, Tally, lacks_sequence}
-use Rattle.sqlite.specs.State.{State, ExecutesInside, HasCleanDisk, Survives, Writes, mode_of}
+use Rattle.sqlite.specs.Does.{Tally, lacks_sequence}
+use Rattle.sqlite.specs.State.{State, ExecutesInside, HasCleanDisk, Survives, Writes}
 use Rattle.sqlite.specs.declared.error.Error.{Error}
 use Rattle.sqlite.specs.Held.{Held, state}
 use Rattle.sqlite.specs.Steps.{FailsToCommit}
 use Rattle.sqlite.specs.View.{doubt}
 use Rattle.sqlite_trees.specs.declared.store.Store.{Ghosts}
 use Rattle.oftp_tables.specs.Transactions.{IsInside, Runs}
-use Rattle.sqlite.proofs.Callers.{IsPlain, command_of, statement_of, runs_as}
-use Rattle.oftp_tables.specs.Schema.{about, about_tree, office_schema, schema_at, table_at, text_at}
+use Rattle.sqlite.proofs.Callers.{runs_as}
+use Rattle.oftp_tables.specs.Schema.{about, office_schema, schema_at, table_at, text_at}
 use Rattle.oftp_tables.specs.Making.{Creates, FailsToKeep, FailsToMake, HasEmptyTables, HasTables, IsEmpty, IsMakingError, IsNew, add_about_text}
 use Rattle.oftp_tables.specs.Tables.{about_row}
-use Rattle.oftp_tables.proofs.WriteLemmas.{inserts, same_value, went}
-use Rattle.oftp_tables.proofs.TermLemmas.{no_works, cast_null, cast_int}
+use Rattle.oftp_tables.proofs.WriteLemmas.{same_value, went}
+use Rattle.oftp_tables.proofs.StatementLemmas.{inserts_one}
+use Rattle.oftp_tables.proofs.SqlLemmas.{IsRead, is_read}
+use Rattle.oftp_tables.proofs.TermLemmas.{cast_null, cast_int}
 
 -- the meaning of the n-th SQL text
 record IsMeant (n : ℕ) : Type 0 where
-  command : command_of (understood (schema_at n) (text_at n)) ≡ CreateTable
-  whole : statement_of (text_at n) (understood (schema_at n) (text_at n)) ≡ text_at n
-  plain : IsPlain (understood (schema_at n) (text_at n))
+  read : IsRead (text_at n) CreateTable (understood (schema_at n) (text_at n))
   table : table_defined_by (text_at n) ≡ Ok (table_at n)
   uncounted : lacks_sequence (schema_at (suc n)) ≡ false
 
 meant : (n : ℕ) → n < 8 → IsMeant n
 unfolding understood everything
-meant zero h = record { command = refl; whole = refl; plain = (refl, refl); table = refl; uncounted = refl }
-meant (suc zero) h = record { command = refl; whole = refl; plain = (refl, refl); table = refl; uncounted = refl }
-meant (suc (suc zero)) h = record { command = refl; whole = refl; plain = (refl, refl); table = refl; uncounted = refl }
-meant (suc (suc (suc zero))) h = record { command = refl; whole = refl; plain = (refl, refl); table = refl; uncounted = refl }
-meant (suc (suc (suc (suc zero)))) h = record { command = refl; whole = refl; plain = (refl, refl); table = refl; uncounted = refl }
-meant (suc (suc (suc (suc (suc zero))))) h = record { command = refl; whole = refl; plain = (refl, refl); table = refl; uncounted = refl }
-meant (suc (suc (suc (suc (suc (suc zero)))))) h = record { command = refl; whole = refl; plain = (refl, refl); table = refl; uncounted = refl }
-meant (suc (suc (suc (suc (suc (suc (suc zero))))))) h = record { command = refl; whole = refl; plain = (refl, refl); table = refl; uncounted = refl }
+meant zero h = record { read = is_read _ _ _ (refl, refl, refl, refl); table = refl; uncounted = refl }
+meant (suc zero) h = record { read = is_read _ _ _ (refl, refl, refl, refl); table = refl; uncounted = refl }
+meant (suc (suc zero)) h = record { read = is_read _ _ _ (refl, refl, refl, refl); table = refl; uncounted = refl }
+meant (suc (suc (suc zero))) h = record { read = is_read _ _ _ (refl, refl, refl, refl); table = refl; uncounted = refl }
+meant (suc (suc (suc (suc zero)))) h = record { read = is_read _ _ _ (refl, refl, refl, refl); table = refl; uncounted = refl }
+meant (suc (suc (suc (suc (suc zero))))) h = record { read = is_read _ _ _ (refl, refl, refl, refl); table = refl; uncounted = refl }
+meant (suc (suc (suc (suc (suc (suc zero)))))) h = record { read = is_read _ _ _ (refl, refl, refl, refl); table = refl; uncounted = refl }
+meant (suc (suc (suc (suc (suc (suc (suc zero))))))) h = record { read = is_read _ _ _ (refl, refl, refl, refl); table = refl; uncounted = refl }
 meant (suc (suc (suc (suc (suc (suc (suc (suc n)))))))) h = absurd (omega arith)
 
 pub makes : (n count : ℕ) (old new : State) → n < 8 → HasTables n old.now → ExecutesInside 0 (text_at n) [] old new (Ok count) → Creates n old.now new.now
 makes n count old new low has h =
     let it = meant n low in
     let text = text_at n in
-    let w = subst (λ t. Writes old new None CreateTable t [] count) it.whole (runs_as text [] old new (schema_at n) has CreateTable it.command it.plain count h.0) in
+    let w = subst (λ t. Writes old new None CreateTable t [] count) it.read.whole (runs_as text [] old new (schema_at n) has CreateTable it.read.command_is it.read.plain count h.0) in
     let all = went w.changed in
     let first = went all.1 in
     let made = first.1 in
@@ -78,10 +79,6 @@ stay_empty : (ts : List Table) (old new : Trees) → KeepsRows ts old new → Al
 stay_empty [] old new kept empty = tt
 stay_empty (t ∷ ts) old new kept empty = (kept.0 ∙ empty.0, stay_empty ts old new kept.1 empty.1)
 
-and_last : (P : Table → Type 0) (ts : List Table) (t : Table) → AllByRecursion P ts → P t → AllByRecursion P (ts ++ t ∷ [])
-and_last P [] t all last = (last, tt)
-and_last P (x ∷ xs) t all last = (all.0, and_last P xs t all.1 last)
-
 -- one more table without rows
 pub stays_empty : (n : ℕ) (old new : Database) → HasEmptyTables n old → Creates n old new → HasEmptyTables (n + 1) new
 stays_empty n old new empty made =
@@ -89,7 +86,7 @@ stays_empty n old new empty made =
     let last : Table = record (table_at n) { tree = next_tree (schema_at n) } in
     let ts = (schema_at n).tables in
     let all : AllByRecursion (λ (t : Table). new.trees t.tree ≡ []) (schema_at (suc n)).tables =
-    and_last (λ (t : Table). new.trees t.tree ≡ []) ts last (stay_empty ts old.trees new.trees made.others empty.empty) made.empty in
+    all-append (λ (t : Table). new.trees t.tree ≡ []) ts (last ∷ []) (stay_empty ts old.trees new.trees made.others empty.empty) (made.empty, tt) in
     record { has = made.has; empty = subst (λ k. AllByRecursion (λ (t : Table). new.trees t.tree ≡ []) (schema_at k).tables) next all }
 
 pub none_yet : (db : Database) → IsEmpty db → HasEmptyTables 0 db
@@ -103,30 +100,22 @@ terms = lit (Int (pos 1)) ∷ lit Null ∷ lit (Int (pos 2)) ∷ []
 abbrev insert : Command
 insert = Insert 0 (Values terms 3)
 
-about_is : command_of (understood office_schema add_about_text) ≡ insert
+about_read : IsRead add_about_text insert (understood office_schema add_about_text)
 unfolding understood everything
-about_is = refl
-
-about_plain : IsPlain (understood office_schema add_about_text)
-unfolding understood everything
-about_plain = (refl, refl)
+about_read = is_read _ _ _ (refl, refl, refl, refl)
 
 pub readies : (count : ℕ) (old new : State) → HasEmptyTables 8 old.now → ExecutesInside 0 add_about_text [] old new (Ok count) → IsNew new.now
 readies count old new up h =
-    let text = statement_of add_about_text (understood office_schema add_about_text) in
-    let w = runs_as add_about_text [] old new office_schema up.has insert about_is about_plain count h.0 in
     let source : Row = Int (pos 1) ∷ Null ∷ Int (pos 2) ∷ [] in
-    let does = subst (λ s. Does old.step_limit (mode_of old) [] (record old.now { schema = s }) text None insert (Ok (w.tally, new.now))) up.has w.changed in
-    let before : Database = record { schema = office_schema; trees = old.now.trees } in
-    let made = inserts (mode_of old) old.step_limit [] before text 0 about terms 3 source (w.tally, new.now) refl refl (no_works about_tree) does in
-    let others = made.1.tables in
+    let it = inserts_one old new add_about_text 0 about terms 3 [] source count up.has about_read.command_is about_read.plain refl refl h in
+    let others = it.made.tables in
     let none = up.empty in
     let row : (rows : List Row) → put_row (with_rowid Chosen rows (cast_row about source)) [] ≡ about_row ∷ [] = λ rows. simp (cast_null, cast_int) in
     record {
-      schema = made.0;
-      sound = w.sound;
+      schema = it.schema;
+      sound = it.store;
       tables = record {
-        about = made.1.rows ∙ ap (λ (rows : List Row). put_row (with_rowid Chosen rows (cast_row about source)) rows) none.0 ∙ row [];
+        about = it.made.rows ∙ ap (λ (rows : List Row). put_row (with_rowid Chosen rows (cast_row about source)) rows) none.0 ∙ row [];
         in_files = others.1.0 (λ e. omega (arith, e)) ∙ none.1.0;
         in_rows = others.1.1.0 (λ e. omega (arith, e)) ∙ none.1.1.0;
         out_files = others.1.1.1.0 (λ e. omega (arith, e)) ∙ none.1.1.1.0;

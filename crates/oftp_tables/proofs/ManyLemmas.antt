@@ -4,13 +4,15 @@ use Rattle.std.specs.List.{AllByRecursion, list_all}
 use Rattle.std.specs.List.Sorted.{IsPermutation}
 use Rattle.std.proofs.lemmas.Bool.{cases_Bool}
 use Rattle.std.proofs.lemmas.Bool.Decides.{nat_tests}
-use Rattle.sqlite_keyed.proofs.ListLemmas.{IsPermutation-filter}
+use Rattle.std.proofs.lemmas.List.{drop_all}
+use Rattle.std.proofs.lemmas.List.Elements.{filter-append}
+use Rattle.sqlite_keyed.proofs.ListLemmas.{IsPermutation-filter, all-append}
 use Rattle.sqlite.specs.Order.{Row}
 use Rattle.sqlite.specs.Term.{holds}
 use Rattle.sqlite.specs.Query.{Query, Output, output}
 use Rattle.oftp_tables.specs.Tables.{has_number, body_row, body_rows, bodies_from, less_rowids}
 use Rattle.oftp_tables.proofs.PlaceLemmas.{place}
-use Rattle.oftp_tables.proofs.BodyLemmas.{rows_at, none_before, filter_append}
+use Rattle.oftp_tables.proofs.BodyLemmas.{rows_at, none_before, none_kept}
 use Rattle.oftp_tables.proofs.CutLemmas.{filter-both, filter_same}
 use Rattle.oftp_tables.proofs.SortedLemmas.{found}
 
@@ -30,21 +32,13 @@ body_rows-all : (P : Row → Type 0) → ((n at : ℕ) (b : List ℕ) → P (bod
 body_rows-all P each n at [] = tt
 body_rows-all P each n at (b ∷ bodies) = (each n at b, body_rows-all P each n (at + 1) bodies)
 
-all_append : (P : Row → Type 0) (xs ys : List Row) → AllByRecursion P xs → AllByRecursion P ys → AllByRecursion P (xs ++ ys)
-all_append P [] ys h k = k
-all_append P (x ∷ xs) ys h k = (h.0, all_append P xs ys h.1 k)
-
 pub bodies_from-all : (P : Row → Type 0) → ((n at : ℕ) (b : List ℕ) → P (body_row n at b)) → (n : ℕ) (files : List (List (List ℕ))) → AllByRecursion P (bodies_from n files)
 bodies_from-all P each n [] = tt
-bodies_from-all P each n (f ∷ files) = all_append P (body_rows n 0 f) (bodies_from (n + 1) files) (body_rows-all P each n 0 f) (bodies_from-all P each (n + 1) files)
+bodies_from-all P each n (f ∷ files) = all-append P (body_rows n 0 f) (bodies_from (n + 1) files) (body_rows-all P each n 0 f) (bodies_from-all P each (n + 1) files)
 
 -- the rows of one file from a position on
 from_place : (k from at : ℕ) (bodies : List (List ℕ)) → filter (λ r. nat_le from (place r)) (body_rows k at bodies) ≡ body_rows k (at + (from - at)) (drop (from - at) bodies)
-from_place k from at [] = ap (body_rows k (at + (from - at))) (sym (drop_nothing (from - at)))
-  where
-    drop_nothing : (n : ℕ) → (let none : List (List ℕ) = [] in drop n none ≡ none)
-    drop_nothing zero = refl
-    drop_nothing (suc n) = refl
+from_place k from at [] = ap (body_rows k (at + (from - at))) (sym (drop_all (from - at) [] (omega arith)))
 from_place k from at (b ∷ bodies) =
     elim (cases_Bool (nat_le from at)) [
       | inl here ↦
@@ -74,8 +68,8 @@ number_past : (k n : ℕ) (files : List (List (List ℕ))) → n + length files 
 number_past k n [] h = refl
 number_past k n (f ∷ files) h =
     let other : (n == k) ≡ false = grind (arith, nat_tests, h) in
-    filter_append (has_number k) k (body_rows n 0 f) (bodies_from (n + 1) files)
-    ∙ ap (λ (rows : List Row). rows ++ filter (has_number k) (bodies_from (n + 1) files)) (Rattle.oftp_tables.proofs.BodyLemmas.none_kept (has_number k) k n 0 f (λ at b. other))
+    filter-append (has_number k) (body_rows n 0 f) (bodies_from (n + 1) files)
+    ∙ ap (λ (rows : List Row). rows ++ filter (has_number k) (bodies_from (n + 1) files)) (none_kept (has_number k) n 0 f (λ at b. other))
     ∙ number_past k (n + 1) files (omega (arith, h))
 
 pub no_rows_past : (k from : ℕ) (files : List (List (List ℕ))) → 1 + length files ≤ k → filter (λ r. has_number k r && nat_le from (place r)) (bodies_from 1 files) ≡ []

@@ -1,5 +1,5 @@
 -- What the steps of the migration do.
-use Rattle.std.proofs.Common.{◌≡◌, ◌+◌, ◌<◌, ◌++◌, ◌∙◌, ℕ, List, [], ◌∷◌, map, take, length, get_or, codes, None, Ok, refl, sym, ap, subst, arith, append-nil, append_assoc}
+use Rattle.std.proofs.Common.{◌≡◌, ◌+◌, ◌<◌, ◌++◌, ◌∙◌, ℕ, List, [], ◌∷◌, map, take, length, get_or, codes, Ok, refl, sym, ap, subst, arith, append-nil, append_assoc}
 use Rattle.std.specs.List.{AllByRecursion}
 use Rattle.std.proofs.lemmas.List.{take_more}
 use Rattle.sqlite_tied.specs.Compute.{everything}
@@ -17,19 +17,17 @@ use Rattle.sqlite.specs.Edit.{with_rowid}
 use Rattle.sqlite.specs.Rowids.TheVariants.{Chosen}
 use Rattle.sqlite.specs.Listing.{understood}
 use Rattle.sqlite.specs.Effect.{Database}
-use Rattle.sqlite.specs.Does.{Does}
-use Rattle.sqlite.specs.State.{State, ExecutesInside, mode_of}
-use Rattle.sqlite.proofs.Callers.{IsPlain, command_of, statement_of, runs_as}
+use Rattle.sqlite.specs.State.{State, ExecutesInside}
 use Rattle.oftp_register.specs.declared.entry.ResponseKind.TheVariants.{EndResponse, NegativeEndResponse}
 use Rattle.oftp_register.specs.Register.{Received}
 use Rattle.oftp_tables.specs.Schema.{about, about_tree, note_tree, office_schema, received_note}
 use Rattle.oftp_tables.specs.Transactions.{MayLeave}
 use Rattle.oftp_tables.specs.Making.{Creates}
-use Rattle.oftp_tables.proofs.TermLemmas.{cast_int, cast_null, no_works}
-use Rattle.oftp_tables.proofs.WriteLemmas.{inserts}
+use Rattle.oftp_tables.proofs.TermLemmas.{cast_int, cast_null}
+use Rattle.oftp_tables.proofs.SqlLemmas.{IsRead, is_read}
 use Rattle.oftp_tables.specs.Tables.{HoldIncoming, HoldOutgoing, about_row, about_row_of, note_if_negative, notes_from, number_value, received_row, rows_from}
 use Rattle.oftp_tables.proofs.SplitLemmas.{IsBelow, put_between}
-use Rattle.oftp_tables.proofs.StatementLemmas.{by_number_program, updates_row}
+use Rattle.oftp_tables.proofs.StatementLemmas.{by_number_program, inserts_one, updates_row}
 use Rattle.oftp_tables.specs.Migration.{FirstTables, IsMigrated}
 use Rattle.oftp_tables.specs.MigrationSteps.{AddsNotes, AreNegatives, IsNumber, SetsSchema, Upgrades, empty_note, number_if_negative, numbers_from, put_notes}
 
@@ -47,13 +45,9 @@ note_insert = Insert 7 (Values note_terms 4)
 abbrev notes : Table
 notes = record received_note { tree = note_tree }
 
-note_is : command_of (understood office_schema note_text) ≡ note_insert
+note_read : IsRead note_text note_insert (understood office_schema note_text)
 unfolding understood everything
-note_is = refl
-
-note_plain : IsPlain (understood office_schema note_text)
-unfolding understood everything
-note_plain = (refl, refl)
+note_read = is_read _ _ _ (refl, refl, refl, refl)
 
 note_cast : (number : Row) (rows : List Row) → IsNumber number
     → put_row (with_rowid Chosen rows (cast_row notes (bound_value (column number 0) ∷ Null ∷ Text [] ∷ Text [] ∷ []))) rows ≡ put_row (empty_note number) rows
@@ -62,14 +56,9 @@ note_cast number rows it = rw it.is (simp (cast_null, cast_int))
 pub adds_note : (old new : State) (number : Row) (count : ℕ) → old.now.schema ≡ office_schema → ExecutesInside 0 note_text (bound_value (column number 0) ∷ []) old new (Ok count)
     → AddsNotes (number ∷ []) old.now new.now
 adds_note old new number count has h =
-    let params = bound_value (column number 0) ∷ [] in
-    let text = statement_of note_text (understood office_schema note_text) in
-    let w = runs_as note_text params old new office_schema has note_insert note_is note_plain count h.0 in
     let source : Row = bound_value (column number 0) ∷ Null ∷ Text [] ∷ Text [] ∷ [] in
-    let does = subst (λ s. Does old.step_limit (mode_of old) params (record old.now { schema = s }) text None note_insert (Ok (w.tally, new.now))) has w.changed in
-    let before : Database = record { schema = office_schema; trees = old.now.trees } in
-    let made = inserts (mode_of old) old.step_limit params before text 7 notes note_terms 4 source (w.tally, new.now) refl refl (no_works note_tree) does in
-    record { schema = made.0; notes = λ are. made.1.rows ∙ note_cast number (old.now.trees note_tree) are.0; others = made.1.tables }
+    let it = inserts_one old new note_text 7 notes note_terms 4 (bound_value (column number 0) ∷ []) source count has note_read.command_is note_read.plain refl refl h in
+    record { schema = it.schema; notes = λ are. it.made.rows ∙ note_cast number (old.now.trees note_tree) are.0; others = it.made.tables }
 
 -- ---- all notes
 
@@ -115,17 +104,13 @@ schema_text = codes "UPDATE about SET schema = ?2 WHERE id = ?1"
 abbrev schema_terms : List Term
 schema_terms = lit Null ∷ col 0 1 ∷ []
 
-schema_is : command_of (understood office_schema schema_text) ≡ Update 0 (by_number_program about_tree schema_terms)
+schema_read : IsRead schema_text (Update 0 (by_number_program about_tree schema_terms)) (understood office_schema schema_text)
 unfolding understood everything
-schema_is = refl
-
-schema_plain : IsPlain (understood office_schema schema_text)
-unfolding understood everything
-schema_plain = (refl, refl)
+schema_read = is_read _ _ _ (refl, refl, refl, refl)
 
 pub sets_schema : (old new : State) (count : ℕ) → old.now.schema ≡ office_schema → ExecutesInside 0 schema_text (number_value 1 ∷ number_value 2 ∷ []) old new (Ok count) → SetsSchema old.now new.now
 sets_schema old new count has h =
-    let it = updates_row old new schema_text 0 about schema_terms (number_value 2 ∷ []) 1 count has schema_is schema_plain refl h in
+    let it = updates_row old new schema_text 0 about schema_terms (number_value 2 ∷ []) 1 count has schema_read.command_is schema_read.plain refl h in
     record {
       schema = it.schema;
       sound = it.store;

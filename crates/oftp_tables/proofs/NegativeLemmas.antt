@@ -16,7 +16,7 @@ use Rattle.sqlite.specs.Command.{Command}
 use Rattle.sqlite.specs.Command.TheVariants.{Select}
 use Rattle.sqlite.specs.Listing.{understood, reads_listing}
 use Rattle.sqlite.specs.State.{State, Shown}
-use Rattle.sqlite.proofs.Callers.{IsPlain, command_of, reads_as}
+use Rattle.sqlite.proofs.Callers.{IsPlain, reads_as}
 use Rattle.oftp_register.specs.declared.entry.ResponseKind.{ResponseKind}
 use Rattle.oftp_register.specs.declared.entry.ResponseKind.TheVariants.{EndResponse, NegativeEndResponse}
 use Rattle.oftp_register.specs.Register.{Received}
@@ -27,6 +27,7 @@ use Rattle.sqlite_sql.specs.declared.ops.CompareOp.TheVariants as compare
 use Rattle.oftp_tables.proofs.TermLemmas.{equal, equal_texts}
 use Rattle.oftp_tables.specs.Tables.{kind_text, number_value, received_row, rows_from}
 use Rattle.oftp_tables.proofs.OrderedLemmas.{less}
+use Rattle.oftp_tables.proofs.SqlLemmas.{IsRead, is_read}
 use Rattle.oftp_tables.proofs.SortedLemmas.{ordered_query, found, answers_in_order}
 use Rattle.oftp_tables.specs.MigrationSteps.{AreNegatives, number_if_negative, numbers_from}
 
@@ -45,16 +46,16 @@ query = ordered_query received_tree filter (col 1 0 ∷ []) ((col 1 0, rising) �
 abbrev select : Command
 select = Select (record { lets = []; body = query }) (codes "no" ∷ [])
 
-negatives_are : (command_of (understood first_schema negatives_text) ≡ select) × (reads_listing first_schema negatives_text ≡ false)
+negatives_read : IsRead negatives_text select (understood first_schema negatives_text)
 unfolding understood everything
-negatives_are = (refl, refl)
+negatives_read = is_read _ _ _ (refl, refl, refl, refl)
 
-negatives_plain : IsPlain (understood first_schema negatives_text)
+negatives_unlisted : reads_listing first_schema negatives_text ≡ false
 unfolding understood everything
-negatives_plain = (refl, refl)
+negatives_unlisted = refl
 
 pub plain_at : (schema : Schema) → schema ≡ first_schema → IsPlain (understood schema negatives_text)
-plain_at schema is = subst (λ s. IsPlain (understood s negatives_text)) (sym is) negatives_plain
+plain_at schema is = subst (λ s. IsPlain (understood s negatives_text)) (sym is) negatives_read.plain
 
 pub on_shown : {A E : Type 0} (result : Result A E) (P : A → Type 0) (Q : Type 0) → IfOk result P → ((x : A) → P x → Q) → OnOk result Q
 on_shown (Ok x) P Q h f = f x h
@@ -116,7 +117,7 @@ told_from n (x ∷ xs) =
 
 pub finds_negatives : (old new : State) (rows : List Row) → old.now.schema ≡ first_schema → Shown negatives_text [] old new rows → AreNegatives old.now.trees rows
 finds_negatives old new rows has h r first =
-    let read = reads_as negatives_text [] old new first_schema has select negatives_are.0 negatives_plain negatives_are.1 rows h in
+    let read = reads_as negatives_text [] old new first_schema has select negatives_read.command_is negatives_read.plain negatives_unlisted rows h in
     let xs = r.received in
     let wanted = shown_from 1 xs in
     let same : wanted ≡ map (output query) (found filter [] (old.now.trees received_tree)) = sym (ap (λ rows. map (output query) (found filter [] rows)) first.received ∙ found_from 1 xs) in

@@ -2,6 +2,7 @@
 use Rattle.std.proofs.Common.{◌≡◌, ◌≢◌, ◌≤◌, ◌⊎◌, ◌∙◌, List, [], false, Result, Ok, Err, IfErr, MatchResult, OnOk, IsTrue, inl, inr, sym, ap, subst, arith}
 use Rattle.std.specs.List.Sorted.{IsPermutation}
 use Rattle.std.proofs.lemmas.List.Sorted.{IsPermutation-refl}
+use Rattle.std.proofs.lemmas.Result.{IfErr-weaker, on_ok_weaker}
 use Rattle.sqlite.specs.Order.{Row}
 use Rattle.sqlite.specs.Tree.{Trees}
 use Rattle.sqlite.specs.View.{doubt}
@@ -18,7 +19,7 @@ use Rattle.oftp_tables.specs.Transactions.{IsCommitted, MayLeave}
 use Rattle.oftp_tables.specs.Making.{AreNew, HasFirst, HasOffice, IsAsBefore, IsEmpty, IsNew, about_rows, about_told}
 use Rattle.oftp_tables.proofs.ConnectionLemmas.{on_ok}
 use Rattle.oftp_tables.proofs.AboutLemmas.{first_not_office, not_empty}
-use Rattle.oftp_tables.proofs.SchemaLemmas.{no_tables, same_first, same_schema}
+use Rattle.oftp_tables.proofs.SchemaLemmas.{same_first, same_none, same_schema}
 use Rattle.oftp_tables.specs.Tables.{AreNumbered, Tables, less_rowids, register_in}
 use Rattle.oftp_tables.proofs.BackLemmas.{register_of}
 use Rattle.oftp_tables.specs.Migration.{IsMigrated}
@@ -63,7 +64,7 @@ office_at : (r : Register) (s : State) → s.now.schema ≡ office_schema → Is
 office_at r s ours at =
     elim at.content [
       | inl content ↦ content
-      | inr empty ↦ absurd (not_both s ours (no_tables s.now.schema s.now.trees empty.0 at.sound))
+      | inr empty ↦ absurd (not_both s ours (same_none s.now.schema s.now.trees empty.0 at.sound))
     ]
 
 -- ---- the register that it then has
@@ -159,14 +160,6 @@ module _ (Takes Changes : Database → Type 0) (Made : Database → Database →
   }
   opened (Err fault) known wrong has = record { clean = clean; autocommit = autocommit; wrong = wrong; left = leaves; spared = spares }
 
-if_ok : {T E P Q : Type 0} (result : Result T E) → (P → Q) → OnOk result P → OnOk result Q
-if_ok (Ok x) f h = f h
-if_ok (Err e) f h = tt
-
-if_err : {T : Type 0} {P Q : StoreFault → Type 0} (result : Result T StoreFault) → ((fault : StoreFault) → P fault → Q fault) → IfErr result P → IfErr result Q
-if_err (Ok x) f h = tt
-if_err (Err fault) f h = f fault h
-
 -- ---- the opening
 
 -- the tables are made where there are none
@@ -178,7 +171,7 @@ pub makes_store : (old new : State) (result : Result (Unit {0}) StoreFault) → 
 makes_store old new result none clean autocommit made left named =
     opened IsOpenable IsEmpty (λ old new. IsNew new) IsAt old new clean autocommit (λ r at. at.is_open) (new_content old)
     (λ k is_open db h. elim (left k is_open db h) [ inl before ↦ inl before | inr new ↦ inr (none, new) ]) result (λ k. on_ok result _ (inl none))
-    (λ k. if_err result (λ fault other is. absurd (other is)) named) (λ k r at. if_ok result (λ h. stands_new r old new none at h.0 h.1) (made k at.is_open))
+    (λ k. IfErr-weaker result _ _ (λ fault other is. absurd (other is)) named) (λ k r at. on_ok_weaker result (λ h. stands_new r old new none at h.0 h.1) (made k at.is_open))
 
 -- the tables of schema 2 exist, and `about` is queried
 pub finds_store : (old new : State) (result : Result (Unit {0}) StoreFault) → old.in_transaction ≡ false → old.now.schema ≢ no_schema → old.now.schema ≡ office_schema
@@ -215,9 +208,9 @@ pub migrates_store : (old new : State) (result : Result (Unit {0}) StoreFault) �
     → MatchResult result (λ _. (limits : Limits) → Opens IsMigratable HasFirst IsAtFirst limits old new) (λ fault. Refuses IsMigratable HasFirst IsAtFirst fault old new)
 migrates_store old new result schema clean autocommit known wrong made left =
     opened IsMigratable HasFirst IsMigrated IsAtFirst old new clean autocommit (λ r at. at.is_open) (migrated_content old) left result
-    (λ k. if_ok result (λ about. inl (record { schema = schema; about = about })) (known k))
-    (λ k. if_err result (λ fault told is. (first_only (told is).0, (told is).1)) (wrong k))
-    (λ k r at. if_ok result (λ h. stands_migrated r old new at h.0 h.1) (made k at.is_open))
+    (λ k. on_ok_weaker result (λ about. inl (record { schema = schema; about = about })) (known k))
+    (λ k. IfErr-weaker result _ _ (λ fault told is. (first_only (told is).0, (told is).1)) (wrong k))
+    (λ k r at. on_ok_weaker result (λ h. stands_migrated r old new at h.0 h.1) (made k at.is_open))
   where
     first_only : (about_told old.now.trees ≢ about_rows 1) → ¬ IsMigratable old.now
     first_only other (inl first) = other first.about
@@ -226,4 +219,4 @@ migrates_store old new result schema clean autocommit known wrong made left =
 -- over the tables of schema 2 it has the register that they represented
 pub has_found : (r : Register) (old new : State) (result : Result (Unit {0}) StoreFault) → old.in_transaction ≡ false → IsAt r old → HasOffice old.now → OnOk result (IsUnchanged old new)
     → OnOk result (Has r.limits r new)
-has_found r old new result mode at ours = if_ok result (stands_found r old new ours mode at)
+has_found r old new result mode at ours = on_ok_weaker result (stands_found r old new ours mode at)

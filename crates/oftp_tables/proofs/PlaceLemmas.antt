@@ -4,9 +4,9 @@ use Rattle.std.specs.List.{AllByRecursion}
 use Rattle.std.specs.List.Sorted.{IsPermutation}
 use Rattle.std.proofs.lemmas.Bool.{cases_Bool}
 use Rattle.std.proofs.lemmas.Bool.Decides.{nat_tests}
-use Rattle.std.proofs.lemmas.List.Elements.{recursion_from_All, All-from_recursion}
-use Rattle.std.proofs.lemmas.List.Sorted.{All-permutation, IsPermutation-refl, IsPermutation-cons, IsPermutation-trans, IsPermutation-insert}
+use Rattle.std.proofs.lemmas.List.Sorted.{IsPermutation-refl, IsPermutation-cons, IsPermutation-trans, IsPermutation-insert}
 use Rattle.sqlite_keyed.proofs.ListLemmas.{along_permutation}
+use Rattle.sqlite_trees.proofs.ListLemmas.{all-permutation}
 use Rattle.sqlite_trees.specs.Tree.{IsAscending}
 use Rattle.sqlite.specs.Order.{Row, column}
 use Rattle.oftp_tables.specs.Tables.{number_in, put_by_place, by_place}
@@ -51,9 +51,6 @@ turned x y (z ∷ s) h =
       ]
     ]
 
-all_there : (P : Row → Type 0) (xs ys : List Row) → IsPermutation xs ys → AllByRecursion P xs → AllByRecursion P ys
-all_there P xs ys same all = recursion_from_All P ys (All-permutation P xs ys same (All-from_recursion P xs all))
-
 -- these are the same rows, and so in order of position
 record Same (xs ys : List Row) : Type 0 where
   rows : IsPermutation xs ys
@@ -70,7 +67,7 @@ by_place_same xs ys same apart =
     (λ xs. record { rows = IsPermutation-refl xs; apart = λ h. h; placed = λ h. refl })
     (λ x xs ys h. record {
       rows = IsPermutation-cons x xs ys h.rows;
-      apart = λ a. (all_there _ xs ys h.rows a.0, h.apart a.1);
+      apart = λ a. (all-permutation _ xs ys h.rows a.0, h.apart a.1);
       placed = λ a. ap (put_by_place x) (h.placed a.1);
     })
     (λ x y xs. record {

@@ -3,6 +3,7 @@ use Rattle.std.proofs.Common.{◌≡◌, ◌&&◌, ◌||◌, ℕ, ℤ, Bool, tru
 use Rattle.std.specs.List.{AllByRecursion, list_all}
 use Rattle.std.specs.Ordering.{is_eq, match_ordering}
 use Rattle.std.specs.List.Sorted.{IsPermutation}
+use Rattle.std.proofs.lemmas.Bool.{or_parts}
 use Rattle.std.proofs.lemmas.Cmp.{eq_by_cmp_equiv}
 use Rattle.std.proofs.lemmas.List.Sorted.{IsPermutation-refl, IsPermutation-cons, IsPermutation-trans, IsPermutation-insert}
 use Rattle.sqlite_trees.specs.Tree.{IsAscending}
@@ -66,12 +67,8 @@ fresh_apart : (id : ℤ) (more : Row) (rows : List Row) → AllByRecursion (λ r
     → is_taken rows (Int id ∷ more) ≡ false → AllByRecursion (Others (Int id ∷ more)) rows
 fresh_apart id more [] all h = tt
 fresh_apart id more (r ∷ rows) all h =
-    let parts = or_both (is_eq (value_cmp (rowid r) (Int id))) _ h in
+    let parts = or_parts (is_eq (value_cmp (rowid r) (Int id))) _ h in
     ((parts.0, same_value (id_in (rowid r)) r all.0 (Int id) parts.0), fresh_apart id more rows all.1 parts.1)
-  where
-    or_both : (a b : Bool) → (a || b) ≡ false → (a ≡ false) × (b ≡ false)
-    or_both false b h = (refl, h)
-    or_both true b h = absurd (let e = h in cc)
 
 pub put_numbered : (id : ℤ) (more : Row) (rows : List Row) → AreNumbered rows → is_taken rows (Int id ∷ more) ≡ false → AreNumbered (put_row (Int id ∷ more) rows)
 put_numbered id more rows h fresh =

@@ -7,6 +7,7 @@ use Rattle.sqlite.specs.Steps.{FailsToCommit}
 use Rattle.sqlite.specs.View.{doubt}
 use Rattle.sqlite.proofs.StateLemmas.{survives_then}
 use Rattle.std.proofs.lemmas.Bool.{cases_Bool}
+use Rattle.std.proofs.lemmas.Result.{on_ok_weaker, on_err_weaker}
 use Rattle.sqlite.specs.Order.{Row}
 use Rattle.sqlite.specs.declared.error.Error.{Error}
 use Rattle.sqlite.specs.declared.error.Error.TheVariants.{SqliteFailure}
@@ -82,14 +83,6 @@ dropped old last new kept back = record {
 
 -- ---- statements in order
 
-map_ok : {T E P Q : Type 0} (result : Result T E) → (P → Q) → OnOk result P → OnOk result Q
-map_ok (Ok x) f h = f h
-map_ok (Err e) f h = tt
-
-map_err : {T E P Q : Type 0} (result : Result T E) → (P → Q) → OnErr result P → OnErr result Q
-map_err (Ok x) f h = tt
-map_err (Err e) f h = f h
-
 -- one statement
 pub statement_runs : {S : Type 0} (g : Ghosts S) (old new : Held S) (Before : Database → Type 0) (Made : Database → Database → Type 0)
     (sql : List ℕ) (params : Row) (e : Error) (result : Result ℕ Error) → ((state g old).in_transaction ≡ false → (result ≡ Err e) × (new ≡ old))
@@ -110,7 +103,7 @@ statement_runs g old new Before Made sql params e result ended runs survives mad
 pub runs_weaker : {T E : Type 0} (Before Known : Database → Type 0) (Made Then : Database → Database → Type 0) (old new : State) (result : Result T E) → ((d : Database) → Known d → Before d)
     → ((d e : Database) → Known d → Made d e → Then d e) → Runs Before Made old new result → Runs Known Then old new result
 runs_weaker Before Known Made Then old new result knows makes one = record {
-  done = λ clean within known. map_ok result (λ made. (makes old.now new.now known made.0, made.1)) (one.done clean within (knows old.now known));
+  done = λ clean within known. on_ok_weaker result (λ made. (makes old.now new.now known made.0, made.1)) (one.done clean within (knows old.now known));
   failed = λ clean within known. one.failed clean within (knows old.now known);
   survives = one.survives;
 }
@@ -131,10 +124,10 @@ pub runs_then : {T U E F : Type 0} (Before Between : Database → Type 0) (First
 runs_then Before Between First Next Both a b c x result so both one two = record {
   done = λ clean within before.
       let first = one.done (earlier clean) within before in
-      map_ok result (λ next. (both a.now b.now c.now first.0 next.0, stays_then a b c first.1 next.1)) (two.done clean (inside first.1) (so a.now b.now before first.0));
+      on_ok_weaker result (λ next. (both a.now b.now c.now first.0 next.0, stays_then a b c first.1 next.1)) (two.done clean (inside first.1) (so a.now b.now before first.0));
   failed = λ clean within before.
       let first = one.done (earlier clean) within before in
-      map_err result (stays_keeps a b c first.1) (two.failed clean (inside first.1) (so a.now b.now before first.0));
+      on_err_weaker result (stays_keeps a b c first.1) (two.failed clean (inside first.1) (so a.now b.now before first.0));
   survives = survives_then a b c _ _ (λ _. ⊥) (λ _ db none. none) (λ _ db none. none) one.survives two.survives;
 }
   where
@@ -178,10 +171,7 @@ module _ (Before : Database → Type 0) (Made : Database → Database → Type 0
       earlier clean = omega (arith, survives.clean, clean)
 
       undone : KeepsCommit (record old { in_transaction = true }) last → IsRolledBack last new → IsUndone old new
-      undone kept back = record {
-        was_open = λ h. kept.was_open (back.was_open h);
-        undone = λ h. let same = kept.committed (back.was_open h) in ((back.undone h).0 ∙ same, (back.undone h).1 ∙ same);
-      }
+      undone kept back = let it = dropped (record old { in_transaction = true }) last new kept back in record { was_open = it.was_open; undone = it.undone }
 
   -- its commit was tried
   pub transacts_ends : {T E : Type 0} (x : T) (result : Result (Unit {0}) Error) → Runs {E = E} Before Made (record old { in_transaction = true }) last (Ok x) → new.in_transaction ≡ false
@@ -190,7 +180,7 @@ module _ (Before : Database → Type 0) (Made : Database → Database → Type 0
   transacts_ends x result inside mode ok err survives = record {
     clean = omega (arith, inside.survives.clean, survives.clean);
     mode = mode;
-    done = λ clean within before. let made = inside.done (earlier clean) (begun within) before in map_ok result (λ h. ended made.0 made.1 h.1) (ok clean);
+    done = λ clean within before. let made = inside.done (earlier clean) (begun within) before in on_ok_weaker result (λ h. ended made.0 made.1 h.1) (ok clean);
     failed = λ clean within before. fails result (inside.done (earlier clean) (begun within) before).1 (err clean);
     left = λ clean within before db h. elim (survives.crash clean db h) [
       | inl then ↦ elim (inside.survives.crash (earlier clean) db then) [ inl first ↦ inl first | inr none ↦ absurd none ]

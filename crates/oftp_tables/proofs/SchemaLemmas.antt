@@ -1,5 +1,5 @@
 -- The list of objects determines the schema, so opening after a crash finds the tables that the office made.
-use Rattle.std.proofs.Common.{◌≡◌, ◌+◌, ◌≤◌, ℕ, zero, suc, pos, true, false, List, [], ◌∷◌, length, map, filter, slice_get, Some, Ok, Err, inl, inr, refl, sym, ap, subst, ◌∙◌, arith}
+use Rattle.std.proofs.Common.{◌≡◌, ◌+◌, ◌≤◌, ℕ, zero, suc, pos, true, false, List, [], ◌∷◌, length, map, filter, slice_get, Some, inl, inr, refl, sym, ap, subst, ◌∙◌, arith}
 use Rattle.std.specs.List.{AllByRecursion, AllZip}
 use Rattle.std.specs.Char.{to_ascii_lowercase}
 use Rattle.std.proofs.lemmas.Map.Text.{is_eq-slice_cmp}
@@ -12,12 +12,12 @@ use Rattle.sqlite_trees.specs.Tree.{IsAscending}
 use Rattle.sqlite_schema.specs.Names.{same_name}
 use Rattle.sqlite_trees.specs.Objects.{catalog_tree}
 use Rattle.sqlite_rules.specs.Lists.{Has}
+use Rattle.sqlite_rules.proofs.ListLemmas.{all_has}
 use Rattle.sqlite.specs.Table.{Table}
 use Rattle.sqlite.specs.Schema.{Schema}
 use Rattle.sqlite_schema.specs.declared.schema.Index.{Index}
 use Rattle.sqlite_schema.specs.declared.schema.View.{View as Stored}
 use Rattle.sqlite_catalog.specs.Listing.{IsSound, IsTableRow, IsIndexRow, IsViewRow, IsDefined, automatic, is_view_row, is_table_row, is_index_row}
-use Rattle.std.proofs.Common.{Result, IfOk, IfErr}
 use Rattle.oftp_tables.specs.Schema.{first_schema, office_schema, no_schema}
 use Rattle.oftp_tables.proofs.WriteLemmas.{same_value}
 
@@ -53,11 +53,6 @@ one_unique (u ∷ us) zero key few h = refl
 one_unique (u ∷ []) (suc at) key few h = absurd (let e = h in cc)
 one_unique (u ∷ v ∷ us) (suc at) key few h = absurd (omega (arith, few))
 
-has_all : {X : Type 0} (P : X → Type 0) (xs : List X) (x : X) → AllByRecursion P xs → Has xs x → P x
-has_all P [] x all h = absurd h
-has_all P (y ∷ ys) x all (inl is) = subst P (sym is) all.0
-has_all P (y ∷ ys) x all (inr h) = has_all P ys x all.1 h
-
 named_itself : (name : List ℕ) → same_name name name ≡ true
 unfolding same_name
 named_itself name = is_eq-slice_cmp (map to_ascii_lowercase name) (map to_ascii_lowercase name) ∙ (bytes_eq-Decides (map to_ascii_lowercase name) (map to_ascii_lowercase name)).1 refl
@@ -68,8 +63,8 @@ apart a b is no_match = let both = sym (named_itself a) ∙ ap (same_name a) is 
 one_table : (ts : List Table) (a b : Table) → IsAscending (λ (s t : Table). same_name s.name t.name ≡ false) ts → Has ts a → Has ts b → a.name ≡ b.name → a ≡ b
 one_table [] a b named p q is = absurd p
 one_table (t ∷ ts) a b named (inl p) (inl q) is = p ∙ sym q
-one_table (t ∷ ts) a b named (inl p) (inr q) is = absurd (apart t.name b.name (sym (ap (λ (x : Table). x.name) p) ∙ is) (has_all _ ts b named.0 q))
-one_table (t ∷ ts) a b named (inr p) (inl q) is = absurd (apart t.name a.name (sym (ap (λ (x : Table). x.name) q) ∙ sym is) (has_all _ ts a named.0 p))
+one_table (t ∷ ts) a b named (inl p) (inr q) is = absurd (apart t.name b.name (sym (ap (λ (x : Table). x.name) p) ∙ is) (all_has _ ts b named.0 q))
+one_table (t ∷ ts) a b named (inr p) (inl q) is = absurd (apart t.name a.name (sym (ap (λ (x : Table). x.name) q) ∙ sym is) (all_has _ ts a named.0 p))
 one_table (t ∷ ts) a b named (inr p) (inr q) is = one_table ts a b named.1 p q is
 
 defined_same : (t : Table) (i j : Index) (v : Value) → length t.uniques ≤ 1 → i.tree ≡ j.tree → IsDefined t i v → IsDefined t j v → i ≡ j
@@ -91,7 +86,7 @@ index_same : (ts : List Table) → IsAscending (λ (s t : Table). same_name s.na
 index_same ts named few row i j p q =
     let owner = same_words _ p.table.name q.table.name p.described.owner_is q.described.owner_is in
     let table : p.table ≡ q.table = one_table ts p.table q.table named p.listed q.listed owner in
-    defined_same q.table i j (column row 4) (has_all _ ts q.table few q.listed) (same_tree _ i.tree j.tree p.described.id q.described.id)
+    defined_same q.table i j (column row 4) (all_has _ ts q.table few q.listed) (same_tree _ i.tree j.tree p.described.id q.described.id)
     (subst (λ t. IsDefined t i (column row 4)) table p.defined) q.defined
 
 no_views : (rows : List Row) (ws : List Stored) → AllZip IsViewRow rows [] → AllZip IsViewRow rows ws → ws ≡ []
@@ -118,17 +113,6 @@ same_schema s db = schema_is office_schema s db refl (omega arith, (omega arith,
 
 pub same_first : (s : Schema) (db : Trees) → IsSound first_schema db → IsSound s db → s ≡ first_schema
 same_first s db = schema_is first_schema s db refl (omega arith, (omega arith, (omega arith, (omega arith, (omega arith, (omega arith, (omega arith, tt)))))))
-
-pub no_tables : (s : Schema) (db : Trees) → IsSound no_schema db → IsSound s db → s ≡ no_schema
-no_tables s db = schema_is no_schema s db refl tt
-
-pub if_ok : {A E : Type 0} (result : Result A E) (P Q : A → Type 0) → IfOk result P → ((x : A) → P x → Q x) → IfOk result Q
-if_ok (Ok x) P Q h f = f x h
-if_ok (Err e) P Q h f = tt
-
-pub if_err : {A E : Type 0} (result : Result A E) (P Q : E → Type 0) → IfErr result P → ((x : E) → P x → Q x) → IfErr result Q
-if_err (Ok x) P Q h f = tt
-if_err (Err e) P Q h f = f e h
 
 pub same_none : (s : Schema) (db : Trees) → IsSound no_schema db → IsSound s db → s ≡ no_schema
 same_none s db = schema_is no_schema s db refl tt

@@ -2,8 +2,8 @@
 use Rattle.std.proofs.Common.{◌≡◌, ◌==◌, ◌+◌, ◌<◌, ◌≤◌, ℕ, pos, ◌<ℤ◌, true, false, List, [], ◌∷◌, ◌++◌, length, refl, sym, ap, subst, ◌∙◌, arith, append_assoc, Equal, Greater}
 use Rattle.std.specs.List.{AllByRecursion}
 use Rattle.std.proofs.lemmas.Int.{ints}
-use Rattle.std.proofs.lemmas.Bool.Decides.{nat_tests}
 use Rattle.std.specs.Cmp.{int_cmp_is}
+use Rattle.sqlite_keyed.proofs.ListLemmas.{all-append}
 use Rattle.sqlite_value.proofs.OrderLemmas.{value_cmp-Int}
 use Rattle.sqlite.specs.declared.types.Value.TheVariants.{Int}
 use Rattle.sqlite.specs.Order.{Row, column, value_cmp}
@@ -13,6 +13,7 @@ use Rattle.oftp_tables.proofs.TermLemmas.{equal, equal_numbers}
 use Rattle.oftp_tables.proofs.QueryLemmas.{chosen}
 use Rattle.oftp_tables.specs.Tables.{number_value, rows_from}
 use Rattle.oftp_tables.proofs.OrderedLemmas.{less}
+use Rattle.oftp_tables.proofs.NumberLemmas.{unlike, above, alike}
 
 greater : (m n : ℕ) → n < m → value_cmp (Int (pos m)) (Int (pos n)) ≡ Greater
 greater m n h =
@@ -62,15 +63,6 @@ without_between k r (x ∷ lo) hi is split =
 abbrev pub by_number : List Term
 by_number = equal (col 1 0) (col 0 0) ∷ []
 
-unlike : (m n : ℕ) → m < n → (m == n) ≡ false
-unlike m n h = grind (arith, nat_tests, h)
-
-above : (m n : ℕ) → n < m → (m == n) ≡ false
-above m n h = grind (arith, nat_tests, h)
-
-alike : (n : ℕ) → (n == n) ≡ true
-alike n = grind (arith, nat_tests)
-
 module _ (project : List Term) (k : ℕ) (more : Row) where
   none_above : (hi : List Row) → AllByRecursion (IsAbove k) hi → chosen by_number project (number_value k ∷ more) hi ≡ []
   none_above [] h = refl
@@ -93,10 +85,6 @@ abbrev pub pieces_from : {X : Type 0} → (ℕ → X → List Row) → ℕ → L
 pieces_from piece n [] = []
 pieces_from piece n (x ∷ xs) = piece n x ++ pieces_from piece (n + 1) xs
 
-both_all : (P : Row → Type 0) (xs ys : List Row) → AllByRecursion P xs → AllByRecursion P ys → AllByRecursion P (xs ++ ys)
-both_all P [] ys h k = k
-both_all P (x ∷ xs) ys h k = (h.0, both_all P xs ys h.1 k)
-
 -- the rows have this number
 abbrev pub HaveNumber : ℕ → List Row → Type 0
 HaveNumber n = AllByRecursion (λ r. column r 0 ≡ Int (pos n))
@@ -112,11 +100,11 @@ all_above n k (r ∷ rows) h are = (record { number = n; is = are.0; above = h }
 module _ {X : Type 0} (piece : ℕ → X → List Row) (numbered : (n : ℕ) (x : X) → HaveNumber n (piece n x)) where
   pub pieces_below : (k n : ℕ) (xs : List X) → n + length xs ≤ k → AllByRecursion (IsBelow k) (pieces_from piece n xs)
   pieces_below k n [] h = tt
-  pieces_below k n (x ∷ xs) h = both_all (IsBelow k) (piece n x) _ (all_below n k (piece n x) (omega (arith, h)) (numbered n x)) (pieces_below k (n + 1) xs (omega (arith, h)))
+  pieces_below k n (x ∷ xs) h = all-append (IsBelow k) (piece n x) _ (all_below n k (piece n x) (omega (arith, h)) (numbered n x)) (pieces_below k (n + 1) xs (omega (arith, h)))
 
   pub pieces_above : (k n : ℕ) (xs : List X) → k < n → AllByRecursion (IsAbove k) (pieces_from piece n xs)
   pieces_above k n [] h = tt
-  pieces_above k n (x ∷ xs) h = both_all (IsAbove k) (piece n x) _ (all_above n k (piece n x) h (numbered n x)) (pieces_above k (n + 1) xs (omega (arith, h)))
+  pieces_above k n (x ∷ xs) h = all-append (IsAbove k) (piece n x) _ (all_above n k (piece n x) h (numbered n x)) (pieces_above k (n + 1) xs (omega (arith, h)))
 
   pieces_at : (k n : ℕ) (before : List X) (x : X) (after : List X) → k ≡ n + length before
       → pieces_from piece n (before ++ x ∷ after) ≡ pieces_from piece n before ++ (piece k x ++ pieces_from piece (k + 1) after)

@@ -1,12 +1,12 @@
 -- The entry with a number, and what a query by a number finds.
 use Rattle.std.proofs.Common.{◌≡◌, ◌==◌, ◌+◌, ◌^◌, ◌<◌, ◌≤◌, ℕ, zero, suc, Bool, true, false, cond, List, [], ◌∷◌, ◌++◌, length, flat_map, Some, None, Result, Ok, Err, refl, ap, subst, ◌∙◌, arith}
-use Rattle.std.proofs.lemmas.Bool.Decides.{nat_tests}
 use Rattle.sqlite.specs.Order.{Row}
 use Rattle.oftp_register.specs.declared.change.Cause.{Cause}
 use Rattle.oftp_register.specs.declared.change.Cause.TheVariants.{Unknown}
 use Rattle.oftp_register.specs.Changes.{at_number, mapped}
 use Rattle.oftp_register.specs.LookUps.{entry_at}
 use Rattle.oftp_tables.specs.Tables.{rows_from}
+use Rattle.oftp_tables.proofs.NumberLemmas.{unlike, above, alike}
 
 -- a number has an entry, or not
 pub data Spot {X : Type 0} (k : ℕ) (xs : List X) : Type 0 where
@@ -57,15 +57,6 @@ entry_far zero xs few far = refl
 entry_far (suc k) xs few far = entry_past k xs (omega (arith, few, far))
 
 -- ---- what a query by the number returns
-
-unlike : (m n : ℕ) → m < n → (m == n) ≡ false
-unlike m n h = grind (arith, nat_tests, h)
-
-above : (m n : ℕ) → n < m → (m == n) ≡ false
-above m n h = grind (arith, nat_tests, h)
-
-alike : (n : ℕ) → (n == n) ≡ true
-alike n = grind (arith, nat_tests)
 
 module _ {X E : Type 0} (row : ℕ → X → Row) (test : Row → Bool) (show : Row → E) (k : ℕ) (same : (n : ℕ) (x : X) → test (row n x) ≡ (n == k)) where
   pub shows_low : (n : ℕ) (xs : List X) → k < n → flat_map (λ r. cond (test r) (show r ∷ []) []) (rows_from row n xs) ≡ []

@@ -50,17 +50,26 @@ puts_in k t source old new made = record {
   others = made.tables;
 }
 
--- an INSERT of one row with its number
-pub inserts_row : (old new : State) (text : List ℕ) (at : ℕ) (t : Table) (terms : List Term) (width : ℕ) (params source : Row) (k count : ℕ) → old.now.schema ≡ office_schema
+-- an INSERT of one row
+pub inserts_one : (old new : State) (text : List ℕ) (at : ℕ) (t : Table) (terms : List Term) (width : ℕ) (params source : Row) (count : ℕ) → old.now.schema ≡ office_schema
     → command_of (understood office_schema text) ≡ Insert at (Values terms width) → IsPlain (understood office_schema text) → slice_get office_schema.tables at ≡ Some (simple t)
-    → value_rows params width (length terms / width) terms ≡ source ∷ [] → ExecutesInside 0 text params old new (Ok count) → Moves (PutsIn k (simple t) source) old.now new.now
-inserts_row old new text at t terms width params source k count has is plain found given h =
+    → value_rows params width (length terms / width) terms ≡ source ∷ [] → ExecutesInside 0 text params old new (Ok count)
+    → Moves (Inserted office_schema (simple t) source) old.now new.now
+inserts_one old new text at t terms width params source count has is plain found given h =
     let w = runs_as text params old new office_schema has (Insert at (Values terms width)) is plain count h.0 in
     let statement = statement_of text (understood office_schema text) in
     let does = λ (s : Schema). Does old.step_limit (mode_of old) params (record old.now { schema = s }) statement None (Insert at (Values terms width)) (Ok (w.tally, new.now)) in
     let made = inserts (mode_of old) old.step_limit params (record { schema = office_schema; trees = old.now.trees }) statement at t terms width source (w.tally, new.now)
     found given (no_works t.tree) (subst does has w.changed) in
-    record { schema = made.0; made = puts_in k t source old.now.trees new.now.trees made.1; store = w.sound }
+    record { schema = made.0; made = made.1; store = w.sound }
+
+-- with its number
+pub inserts_row : (old new : State) (text : List ℕ) (at : ℕ) (t : Table) (terms : List Term) (width : ℕ) (params source : Row) (k count : ℕ) → old.now.schema ≡ office_schema
+    → command_of (understood office_schema text) ≡ Insert at (Values terms width) → IsPlain (understood office_schema text) → slice_get office_schema.tables at ≡ Some (simple t)
+    → value_rows params width (length terms / width) terms ≡ source ∷ [] → ExecutesInside 0 text params old new (Ok count) → Moves (PutsIn k (simple t) source) old.now new.now
+inserts_row old new text at t terms width params source k count has is plain found given h =
+    let it = inserts_one old new text at t terms width params source count has is plain found given h in
+    record { schema = it.schema; made = puts_in k t source old.now.trees new.now.trees it.made; store = it.store }
 
 -- what such an UPDATE selects: the rowid, and the new row
 abbrev pub shown_terms : List Term → List Term
