@@ -95,8 +95,8 @@ by_table M each (commands.Nerp s) = each Nerp (nerp_table (length s.text)) s (se
 by_table M each commands.Rtr = each (Unit {0}) (single_table (codes "P")) tt (search rules)
 
 -- so the fields of a command's table follow one another
-parts_of : (c : Command) → of_table c (λ S t s. Contiguous 0 t.rows t.end)
-parts_of = by_table (λ F G. F (λ S t s. Contiguous 0 t.rows t.end)) (λ S t s parts. parts)
+contiguous_of : (c : Command) → of_table c (λ S t s. Contiguous 0 t.rows t.end)
+contiguous_of = by_table (λ F G. F (λ S t s. Contiguous 0 t.rows t.end)) (λ S t s parts. parts)
 
 -- A command is read if its octets are exactly read by a table, which is that of each command that they encode, and no two commands have the
 -- same fields of it.
@@ -127,10 +127,10 @@ again_text {S} {r} {o} table text at exact parts counted same s h =
 -- ---- SSRM, CDT, CD and RTR, which have no fields
 
 pub ssrm_again : (o : List ℕ) → IsKind (codes "I") o → (s : Unit {0}) → IsSpelled ssrm_table s o → ssrm_of o ≡ Ok s
-ssrm_again o kind s h = again_of (ssrm_exact o kind) (λ s. parts_of commands.Ssrm) (λ s u e. refl) s h
+ssrm_again o kind s h = again_of (ssrm_exact o kind) (λ s. contiguous_of commands.Ssrm) (λ s u e. refl) s h
 
 pub cdt_again : (o : List ℕ) → IsKind (codes "C") o → (s : Unit {0}) → IsSpelled cdt_table s o → cdt_of o ≡ Ok s
-cdt_again o kind s h = again_of (cdt_exact o kind) (λ s. parts_of commands.Cdt) (λ s u e. refl) s h
+cdt_again o kind s h = again_of (cdt_exact o kind) (λ s. contiguous_of commands.Cdt) (λ s u e. refl) s h
 
 pub single_again : (c : ℕ) (o : List ℕ) → IsKind (c ∷ []) o → (s : Unit {0}) → IsSpelled (single_table (c ∷ [])) s o → single_of o ≡ Ok s
 single_again c o kind s h = again_of (single_exact c o kind) (λ s. search rules) (λ s u e. refl) s h
@@ -153,7 +153,7 @@ ssid_same s t (_, (level, (code, (password, (buffer, (mode, (compression, (resta
 }
 
 pub ssid_again : (o : List ℕ) → IsKind (codes "X") o → (s : Ssid) → IsSpelled ssid_table s o → ssid_of o ≡ Ok s
-ssid_again o kind s h = again_of (ssid_exact o kind) (λ s. parts_of (commands.Ssid s)) ssid_same s h
+ssid_again o kind s h = again_of (ssid_exact o kind) (λ s. contiguous_of (commands.Ssid s)) ssid_same s h
 
 -- ---- SFID
 
@@ -187,7 +187,7 @@ sfid_table_is s o h =
 
 pub sfid_again : (o : List ℕ) → IsKind (codes "H") o → (s : Sfid) → IsSpelled (sfid_table_of s) s o → sfid_of o ≡ Ok s
 sfid_again o kind s h =
-    again_in {T = sfid_table_of} (sfid_exact o kind) (λ s. parts_of (commands.Sfid s)) (λ s h. sfid_table_is s o h)
+    again_in {T = sfid_table_of} (sfid_exact o kind) (λ s. contiguous_of (commands.Sfid s)) (λ s h. sfid_table_is s o h)
     (sfid_same (has_records (format_of (part 106 1 o))) (number (part 162 3 o))) s h
 
 -- ---- SFPA
@@ -196,7 +196,7 @@ sfpa_same : (s t : Sfpa) → EachSame sfpa_table.rows s t → s ≡ t
 sfpa_same s t (_, (restart, _)) = λ i. record { restart = restart i }
 
 pub sfpa_again : (o : List ℕ) → IsKind (codes "2") o → (s : Sfpa) → IsSpelled sfpa_table s o → sfpa_of o ≡ Ok s
-sfpa_again o kind s h = again_of (sfpa_exact o kind) (λ s. parts_of (commands.Sfpa s)) sfpa_same s h
+sfpa_again o kind s h = again_of (sfpa_exact o kind) (λ s. contiguous_of (commands.Sfpa s)) sfpa_same s h
 
 -- ---- SFNA
 
@@ -205,7 +205,7 @@ sfna_same n s t (_, (reason, (retry, (_, (text, _))))) = λ i. record { reason =
 
 pub sfna_again : (o : List ℕ) → IsKind (codes "3") o → (s : Sfna) → IsSpelled (sfna_table (length s.text)) s o → sfna_of o ≡ Ok s
 sfna_again o kind s h =
-    again_text sfna_table (λ s. s.text) 4 (sfna_exact o kind) (λ s. parts_of (commands.Sfna s)) (λ s h. h.fields.1.1.1.0) sfna_same s h
+    again_text sfna_table (λ s. s.text) 4 (sfna_exact o kind) (λ s. contiguous_of (commands.Sfna s)) (λ s h. h.fields.1.1.1.0) sfna_same s h
 
 -- ---- DATA
 
@@ -214,7 +214,7 @@ data_same n s t (_, (payload, _)) = payload
 
 pub data_again : (o : List ℕ) → IsKind (codes "D") o → (s : List ℕ) → IsSpelled (data_table (length s)) s o → data_of o ≡ Ok s
 data_again o kind s h =
-    again_in {T = λ s. data_table (length s)} (data_exact o kind) (λ s. parts_of (commands.Data s))
+    again_in {T = λ s. data_table (length s)} (data_exact o kind) (λ s. contiguous_of (commands.Data s))
     (λ s h. let whole : length o - 1 ≡ length s = omega (arith, h.whole) in ap data_table whole) (data_same (length o - 1)) s h
 
 -- ---- EFID
@@ -223,7 +223,7 @@ efid_same : (s t : Efid) → EachSame efid_table.rows s t → s ≡ t
 efid_same s t (_, (records, (units, _))) = λ i. record { records = records i; units = units i }
 
 pub efid_again : (o : List ℕ) → IsKind (codes "T") o → (s : Efid) → IsSpelled efid_table s o → efid_of o ≡ Ok s
-efid_again o kind s h = again_of (efid_exact o kind) (λ s. parts_of (commands.Efid s)) efid_same s h
+efid_again o kind s h = again_of (efid_exact o kind) (λ s. contiguous_of (commands.Efid s)) efid_same s h
 
 -- ---- EFPA
 
@@ -231,7 +231,7 @@ efpa_same : (s t : Efpa) → EachSame efpa_table.rows s t → s ≡ t
 efpa_same s t (_, (change_direction, _)) = λ i. record { change_direction = flag_one s.change_direction t.change_direction change_direction i }
 
 pub efpa_again : (o : List ℕ) → IsKind (codes "4") o → (s : Efpa) → IsSpelled efpa_table s o → efpa_of o ≡ Ok s
-efpa_again o kind s h = again_of (efpa_exact o kind) (λ s. parts_of (commands.Efpa s)) efpa_same s h
+efpa_again o kind s h = again_of (efpa_exact o kind) (λ s. contiguous_of (commands.Efpa s)) efpa_same s h
 
 -- ---- EFNA
 
@@ -240,7 +240,7 @@ efna_same n s t (_, (reason, (_, (text, _)))) = λ i. record { reason = reason i
 
 pub efna_again : (o : List ℕ) → IsKind (codes "5") o → (s : Efna) → IsSpelled (efna_table (length s.text)) s o → efna_of o ≡ Ok s
 efna_again o kind s h =
-    again_text efna_table (λ s. s.text) 3 (efna_exact o kind) (λ s. parts_of (commands.Efna s)) (λ s h. h.fields.1.1.0) efna_same s h
+    again_text efna_table (λ s. s.text) 3 (efna_exact o kind) (λ s. contiguous_of (commands.Efna s)) (λ s h. h.fields.1.1.0) efna_same s h
 
 -- ---- ESID
 
@@ -249,7 +249,7 @@ esid_same n s t (_, (reason, (_, (text, (_, _))))) = λ i. record { reason = rea
 
 pub esid_again : (o : List ℕ) → IsKind (codes "F") o → (s : Esid) → IsSpelled (esid_table (length s.text)) s o → esid_of o ≡ Ok s
 esid_again o kind s h =
-    again_text esid_table (λ s. s.text) 3 (esid_exact o kind) (λ s. parts_of (commands.Esid s)) (λ s h. h.fields.1.1.0) esid_same s h
+    again_text esid_table (λ s. s.text) 3 (esid_exact o kind) (λ s. contiguous_of (commands.Esid s)) (λ s h. h.fields.1.1.0) esid_same s h
 
 -- ---- EERP
 
@@ -258,7 +258,7 @@ eerp_same s t (_, (dataset, (_, (date, (time, (user, (destination, (originator, 
     λ i. record { dataset = dataset i; date = date i; time = time i; user = user i; destination = destination i; originator = originator i }
 
 pub eerp_again : (o : List ℕ) → IsKind (codes "E") o → (s : Eerp) → IsSpelled eerp_table s o → eerp_of o ≡ Ok s
-eerp_again o kind s h = again_of (eerp_exact o kind) (λ s. parts_of (commands.Eerp s)) eerp_same s h
+eerp_again o kind s h = again_of (eerp_exact o kind) (λ s. contiguous_of (commands.Eerp s)) eerp_same s h
 
 -- ---- NERP
 
@@ -276,4 +276,4 @@ nerp_same n s t (_, (dataset, (_, (date, (time, (destination, (originator, (crea
 
 pub nerp_again : (o : List ℕ) → IsKind (codes "N") o → (s : Nerp) → IsSpelled (nerp_table (length s.text)) s o → nerp_of o ≡ Ok s
 nerp_again o kind s h =
-    again_text nerp_table (λ s. s.text) 128 (nerp_exact o kind) (λ s. parts_of (commands.Nerp s)) (λ s h. h.fields.1.1.1.1.1.1.1.1.1.0) nerp_same s h
+    again_text nerp_table (λ s. s.text) 128 (nerp_exact o kind) (λ s. contiguous_of (commands.Nerp s)) (λ s h. h.fields.1.1.1.1.1.1.1.1.1.0) nerp_same s h
