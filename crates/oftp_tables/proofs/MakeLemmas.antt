@@ -1,5 +1,5 @@
 -- What the CREATE statements make.
-use Rattle.std.proofs.Common.{◌≡◌, ◌+◌, ◌<◌, ◌≤◌, ◌∙◌, ℕ, zero, suc, pos, List, [], ◌∷◌, ◌++◌, codes, true, false, None, Result, Ok, Err, IfErr, IsTrue, inl, inr, refl, sym, ap, subst, arith}
+use Rattle.std.proofs.Common.{◌≡◌, ◌+◌, ◌<◌, ◌≤◌, ◌∙◌, ℕ, zero, suc, pos, List, [], ◌∷◌, true, false, None, Result, Ok, Err, IfErr, IsTrue, inl, inr, refl, sym, ap, subst, arith}
 use Rattle.std.specs.List.{AllByRecursion}
 use Rattle.sqlite_keyed.proofs.ListLemmas.{all-append}
 use Rattle.sqlite_tied.specs.Compute.{everything}
@@ -29,7 +29,7 @@ use Rattle.sqlite_trees.specs.declared.store.Store.{Ghosts}
 use Rattle.oftp_tables.specs.Transactions.{IsInside, Runs}
 use Rattle.sqlite.proofs.Callers.{runs_as}
 use Rattle.oftp_tables.specs.Schema.{about, office_schema, schema_at, table_at, text_at}
-use Rattle.oftp_tables.specs.Making.{Creates, FailsToKeep, FailsToMake, HasEmptyTables, HasTables, IsEmpty, IsMakingError, IsNew, add_about_text}
+use Rattle.oftp_tables.specs.Making.{Creates, FailsToMake, HasEmptyTables, HasTables, IsEmpty, IsMakingError, IsNew, add_about_text}
 use Rattle.oftp_tables.specs.Tables.{about_row}
 use Rattle.oftp_tables.proofs.WriteLemmas.{same_value, went}
 use Rattle.oftp_tables.proofs.StatementLemmas.{inserts_one}
@@ -42,16 +42,29 @@ record IsMeant (n : ℕ) : Type 0 where
   table : table_defined_by (text_at n) ≡ Ok (table_at n)
   uncounted : lacks_sequence (schema_at (suc n)) ≡ false
 
-meant : (n : ℕ) → n < 8 → IsMeant n
+-- each text is read here, and not in the clauses below, which are read twice
+all_meant : IsMeant 0 × IsMeant 1 × IsMeant 2 × IsMeant 3 × IsMeant 4 × IsMeant 5 × IsMeant 6 × IsMeant 7
 unfolding understood everything
-meant zero h = record { read = is_read _ _ _ (refl, refl, refl, refl); table = refl; uncounted = refl }
-meant (suc zero) h = record { read = is_read _ _ _ (refl, refl, refl, refl); table = refl; uncounted = refl }
-meant (suc (suc zero)) h = record { read = is_read _ _ _ (refl, refl, refl, refl); table = refl; uncounted = refl }
-meant (suc (suc (suc zero))) h = record { read = is_read _ _ _ (refl, refl, refl, refl); table = refl; uncounted = refl }
-meant (suc (suc (suc (suc zero)))) h = record { read = is_read _ _ _ (refl, refl, refl, refl); table = refl; uncounted = refl }
-meant (suc (suc (suc (suc (suc zero))))) h = record { read = is_read _ _ _ (refl, refl, refl, refl); table = refl; uncounted = refl }
-meant (suc (suc (suc (suc (suc (suc zero)))))) h = record { read = is_read _ _ _ (refl, refl, refl, refl); table = refl; uncounted = refl }
-meant (suc (suc (suc (suc (suc (suc (suc zero))))))) h = record { read = is_read _ _ _ (refl, refl, refl, refl); table = refl; uncounted = refl }
+all_meant = (
+  record { read = is_read _ _ _ (refl, refl, refl, refl); table = refl; uncounted = refl },
+  record { read = is_read _ _ _ (refl, refl, refl, refl); table = refl; uncounted = refl },
+  record { read = is_read _ _ _ (refl, refl, refl, refl); table = refl; uncounted = refl },
+  record { read = is_read _ _ _ (refl, refl, refl, refl); table = refl; uncounted = refl },
+  record { read = is_read _ _ _ (refl, refl, refl, refl); table = refl; uncounted = refl },
+  record { read = is_read _ _ _ (refl, refl, refl, refl); table = refl; uncounted = refl },
+  record { read = is_read _ _ _ (refl, refl, refl, refl); table = refl; uncounted = refl },
+  record { read = is_read _ _ _ (refl, refl, refl, refl); table = refl; uncounted = refl },
+)
+
+meant : (n : ℕ) → n < 8 → IsMeant n
+meant zero h = all_meant.0
+meant (suc zero) h = all_meant.1
+meant (suc (suc zero)) h = all_meant.2
+meant (suc (suc (suc zero))) h = all_meant.3
+meant (suc (suc (suc (suc zero)))) h = all_meant.4
+meant (suc (suc (suc (suc (suc zero))))) h = all_meant.5
+meant (suc (suc (suc (suc (suc (suc zero)))))) h = all_meant.6
+meant (suc (suc (suc (suc (suc (suc (suc zero))))))) h = all_meant.7
 meant (suc (suc (suc (suc (suc (suc (suc (suc n)))))))) h = absurd (omega arith)
 
 pub makes : (n count : ℕ) (old new : State) → n < 8 → HasTables n old.now → ExecutesInside 0 (text_at n) [] old new (Ok count) → Creates n old.now new.now
