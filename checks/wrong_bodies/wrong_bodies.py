@@ -37,10 +37,10 @@ the crate is proved with it; as BAD EDIT if it can't be applied or doesn't compi
 removed; and if it names no refusal, or another.
 
 The ledger, checks/wrong_bodies/ledger.txt, has a line for each crate with edits: the sum of its src/, specs/, proofs/ and edits when all
-were refused, their number, and the day. A crate that has changed since, in more than its comments, has to be tried again. The sum doesn't
-cover the crates below: a contract there can change what refuses an edit, and so can another toolchain. That is why the trial of the day
-tries each crate again in turn. It takes some minutes: a crate whose edits take longer is tried in parts, another each time. The last line
-is `N passed, M failed`.
+were refused, their number, and the day. A crate that has changed since, in more than its comments and where its imported names stand, has
+to be tried again. The sum doesn't cover the crates below: a contract there can change what refuses an edit, and so can another toolchain.
+That is why the trial of the day tries each crate again in turn. It takes some minutes: a crate whose edits take longer is tried in parts,
+another each time. The last line is `N passed, M failed`.
 """
 
 import datetime
@@ -63,7 +63,7 @@ from program import ROOT
 LEDGER = ROOT / "checks" / "wrong_bodies" / "ledger.txt"
 PARTS = ("src", "specs", "proofs")
 # What a line of comment begins with, by the suffix of a file.
-COMMENTS = {".rt": b"//", ".antt": b"--"}
+COMMENTS = {".rt": "//", ".antt": "--"}
 # After this many processor seconds the trial of the day begins no other check.
 DAY = 300
 # What a proof reports if an edit removed a name that it cites, and what then depends on that proof.
@@ -414,15 +414,35 @@ def fit():
     return len(edits) + lost, lost + unknown_words(edits)
 
 
+# An import of Rattle, up to its semicolon, and one of antt, in one line. What is exported counts as it is written.
+IMPORTS = {
+    ".rt": re.compile(r"^[ \t]*(?:ghost )?use ([^;]+);\n", re.M),
+    ".antt": re.compile(r"^use (.+)\n", re.M),
+}
+
+
+def brought(path):
+    """The names that an import brings, whatever crate and module has them."""
+    front, _, group = path.partition("{")
+    words = group.rstrip("} \n").split(",") if group else [re.split(r"::|\.", path)[-1]]
+    own = re.split(r"::|\.", front.rstrip(":."))[-1]
+    return [" ".join(it.split()).replace("self", own) for it in words if it.strip()]
+
+
 def code_of(path):
-    """The octets of a file without its lines of comment, which the prover doesn't read."""
-    mark = COMMENTS.get(path.suffix)
-    lines = path.read_bytes().splitlines(keepends=True)
-    return b"".join(it for it in lines if not mark or not it.lstrip().startswith(mark))
+    """A file without what changes no body: its lines of comment, which the prover doesn't read, and where its imported names stand. The names
+    themselves count."""
+    mark, imports = COMMENTS.get(path.suffix), IMPORTS.get(path.suffix)
+    lines = path.read_text(encoding="utf-8", errors="surrogateescape").splitlines(keepends=True)
+    text = "".join(it for it in lines if not mark or not it.lstrip().startswith(mark))
+    names = sorted({it for path in imports.findall(text) for it in brought(path)}) if imports else []
+    rest = imports.sub("", text) if imports else text
+    return "\n".join([*names, rest]).encode(errors="surrogateescape")
 
 
 def sum_of(crate, without=()):
-    """The sum of a crate's sources and of its edits, wherever they are, without the edits of these names. Comments don't count."""
+    """The sum of a crate's sources and of its edits, wherever they are, without the edits of these names. Comments don't count, nor where
+    imported names stand."""
     folder = ROOT / "crates" / crate
     files = {str(it.relative_to(folder)): it for part in PARTS for it in (folder / part).rglob("*") if it.is_file()}
     files.update({it.name: it for it in edits_of([crate]) if it.stem not in without})
