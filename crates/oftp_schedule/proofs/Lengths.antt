@@ -1,5 +1,5 @@
 -- Nothing moves the begin and the end of a session, and once the station ends nothing gives an answer more time.
-use Rattle.std.proofs.Common.{inl, inr, subst, ◌≡◌, ℕ, zero, suc, ◌+◌, ◌==◌, ◌≤◌, ◌^◌, max, nat_lt, Bool, true, false, if◌then◌else◌, List, [], ◌∷◌, ◌++◌, Option, Some, None, map, filter, refl, ap, sym, ◌∙◌, arith}
+use Rattle.std.proofs.Common.{inl, inr, subst, ◌≡◌, ℕ, zero, suc, ◌+◌, ◌==◌, ◌≤◌, max, Bool, true, false, if◌then◌else◌, List, [], ◌∷◌, ◌++◌, Option, Some, None, map, filter, refl, ap, sym, ◌∙◌, arith}
 use Rattle.std.proofs.lemmas.Bool.Decides.{eqb_tells}
 use Rattle.oftp_schedule.specs.declared.connection.Door.{Door}
 use Rattle.oftp_schedule.specs.declared.connection.Door.TheVariants.{Partners, Commands, Requests, Calls}
@@ -16,9 +16,8 @@ use Rattle.oftp_schedule.specs.declared.connection.Signal.TheVariants.{Waits, En
 use Rattle.oftp_schedule.specs.declared.connection.Arrival.{Arrival}
 use Rattle.oftp_schedule.specs.declared.connection.Event.{Event}
 use Rattle.oftp_schedule.specs.declared.connection.Event.TheVariants.{Knock, Accepted, Passed, Told, Due, Reviewed, Over}
-use Rattle.oftp_schedule.specs.declared.connection.Reason.TheVariants.{Stopping}
 use Rattle.oftp_schedule.specs.declared.connection.Reply.{Reply}
-use Rattle.oftp_schedule.specs.declared.connection.Reply.TheVariants.{Stay, Become, Queue, Want, Respond, Refuse, Connect, Redial, Yield, Farewell, Leave, Break}
+use Rattle.oftp_schedule.specs.declared.connection.Reply.TheVariants.{Yield, Leave, Break}
 use Rattle.oftp_schedule.specs.declared.connection.Choice.{Choice}
 use Rattle.oftp_schedule.specs.declared.connection.Choice.TheVariants.{Nothing, Finish, Settle, Admit, Inspect, Start, Proceed, Consult, Perform, Lend, Seek, Depart}
 use Rattle.oftp_schedule.specs.declared.connection.Course.{Course}
@@ -26,10 +25,12 @@ use Rattle.oftp_schedule.specs.declared.connection.Session.{Session}
 use Rattle.oftp_schedule.specs.declared.connection.Step.{Step}
 use Rattle.oftp_schedule.specs.declared.connection.Connection.{Connection}
 use Rattle.oftp_schedule.specs.declared.connection.Limits.{Limits}
+use Rattle.oftp_schedule.specs.declared.connection.Partner.{Partner}
 use Rattle.oftp_schedule.specs.Rules.{after_step, at_end, answering, answered_whole, went, rule, hurried_phase, is_arriving_phase, ends_session, is_other, connection_at, phase_at, became, owed_phase, shared_phase}
 use Rattle.oftp_schedule.specs.Machine.{State, is_ending, hasty, limits_in, limits_now, new_call, at_door, edited, after_session, replied, in_numbers, replied_at, accepted_at, received, choice, chosen, Move, step, Tell, Ask}
 use Rattle.oftp_schedule.specs.Deadlines.{session_of, KeepsEnds, IsHastened, is_of, is_for, IsLeft, left_by}
 use Rattle.oftp_schedule.proofs.Numbers.{same, differs, became_same, other_same, pushed, map_phase, edited_phase, at_number}
+use Rattle.oftp_schedule.proofs.Editing.{ReplyHolds, numbers_hold, edit_holds}
 use Rattle.oftp_schedule.proofs.Fitting.{IsDistinct, settles, Settles, begins, Begins, asks, Asks, ChoiceFits, choice_fits}
 use Rattle.oftp_schedule.proofs.Deadlines.{Spared, unmoved_by, chosen_spares}
 
@@ -66,20 +67,6 @@ shared_keeps x k q h = h
 
 -- 1. A reply to its own connection
 
-abbrev ReplyHolds : (Phase → Type 0) → Reply → Type 0
-ReplyHolds K Stay = Unit {0}
-ReplyHolds K (Become q) = K q
-ReplyHolds K (Queue q) = K q
-ReplyHolds K (Want n) = Unit {0}
-ReplyHolds K (Respond q) = K q
-ReplyHolds K (Refuse q why) = K q
-ReplyHolds K (Connect q) = K q
-ReplyHolds K (Redial q) = K q
-ReplyHolds K (Yield q) = K q
-ReplyHolds K (Farewell q) = K q
-ReplyHolds K (Leave why) = Unit {0}
-ReplyHolds K (Break why) = Unit {0}
-
 abbrev ReplyKeeps : Session → Reply → Type 0
 ReplyKeeps x r = ReplyHolds (Keeps x) r
 
@@ -92,7 +79,7 @@ keeps_firm x = (λ i. tt, owed_keeps x)
 
 edited_holds : (K : Phase → Type 0) → IsFirm K → (s : State) (c : Connection) (r : Reply) → phase_at c.id s.connections ≡ Some c.phase → K c.phase → ReplyHolds K r
     → HoldsAt K (phase_at c.id (edited s c r))
-edited_holds K firm s c r e f k = cases r k
+edited_holds K firm s c r e f k = edit_holds (λ cs. HoldsAt K (phase_at c.id cs)) K s c same_phase set moved wants out r k
   where
     set : (q : Phase) → K q → HoldsAt K (phase_at c.id (map (became c.id q) s.connections))
     set q k = rw (became_same c.id q s.connections, e) k
@@ -103,24 +90,15 @@ edited_holds K firm s c r e f k = cases r k
     moved : (q : Phase) → K q → HoldsAt K (phase_at c.id (filter (is_other c.id) s.connections ++ at_door c.id c.door q ∷ []))
     moved q k = rw (pushed c.id (filter (is_other c.id) s.connections) (at_door c.id c.door q), other_same c.id s.connections, same c.id) k
 
-    cases : (r : Reply) → ReplyHolds K r → HoldsAt K (phase_at c.id (edited s c r))
-    cases Stay k = rw e f
-    cases (Become q) k = set q k
-    cases (Queue q) k = moved q k
-    cases (Want n) k = rw (
+    wants : (n : Partner) → HoldsAt K (phase_at c.id (map (became c.id (Calling s.next)) s.connections ++ at_door s.next Calls (Wanted (new_call s.limits n (By c.id))) ∷ []))
+    wants n = rw (
       pushed c.id (map (became c.id (Calling s.next)) s.connections) (at_door s.next Calls (Wanted (new_call s.limits n (By c.id)))),
-      became_same c.id
-          (Calling s.next) s.connections,
+      became_same c.id (Calling s.next) s.connections,
       e,
     ) (firm.0 s.next)
-    cases (Respond q) k = set q k
-    cases (Refuse q why) k = set q k
-    cases (Connect q) k = set q k
-    cases (Redial q) k = set q k
-    cases (Yield q) k = moved q k
-    cases (Farewell q) k = set q k
-    cases (Leave why) k = out
-    cases (Break why) k = out
+
+    same_phase : HoldsAt K (phase_at c.id s.connections)
+    same_phase = rw e f
 
 after_holds : (K : Phase → Type 0) → IsFirm K → (b : Bool) (id : ℕ) (cs : List Connection) → HoldsAt K (phase_at id cs) → HoldsAt K (phase_at id (after_session b cs))
 after_holds K firm true id cs h = rw (edited_phase owed_phase id cs) (less (phase_at id cs) h)
@@ -129,10 +107,6 @@ after_holds K firm true id cs h = rw (edited_phase owed_phase id cs) (less (phas
     less None h = tt
     less (Some q) h = firm.1 q h
 after_holds K firm false id cs h = h
-
-numbers_hold : (K : Phase → Type 0) (next : ℕ) (r : Reply) → ReplyHolds K r → ReplyHolds K (in_numbers next r)
-numbers_hold K next (Want n) k = elim (nat_lt next (2 ^ 63)) as (λ b. ReplyHolds K (if b then Want n else Leave Stopping)) [ true ↦ tt | false ↦ tt ]
-numbers_hold K next r k = k
 
 replied_holds : (K : Phase → Type 0) → IsFirm K → (id : ℕ) (s : State) (at : Option Connection) (f : Connection → Reply) (p : Phase) → connection_at id s.connections ≡ at
     → phase_at id s.connections ≡ Some p → K p → ((c : Connection) → c.phase ≡ p → ReplyHolds K (f c)) → HoldsAt K (phase_at id (replied_at s at f).0.connections)
@@ -263,16 +237,7 @@ asks_none r p x e h = cc
 left_by_keeps : (s : State) (c : Choice) (p : Phase) (x : Session) → session_of p ≡ Some x → Keeps x (left_by s c p)
 left_by_keeps s (Finish st) p x e = hurried_keeps x (s.now + s.limits.farewell) p (itself p x e)
 left_by_keeps s (Consult i) p x e = shared_keeps x s.limits.share p (itself p x e)
-left_by_keeps s Nothing p x e = itself p x e
-left_by_keeps s (Settle i r) p x e = itself p x e
-left_by_keeps s (Admit d) p x e = itself p x e
-left_by_keeps s Inspect p x e = itself p x e
-left_by_keeps s (Start i y) p x e = itself p x e
-left_by_keeps s (Proceed i y) p x e = itself p x e
-left_by_keeps s (Perform i) p x e = itself p x e
-left_by_keeps s (Lend i) p x e = itself p x e
-left_by_keeps s (Seek i c) p x e = itself p x e
-left_by_keeps s (Depart st) p x e = itself p x e
+left_by_keeps s c p x e = itself p x e
 
 spared_keeps : (s : State) (c : Choice) (p : Phase) (x : Session) (o : Option Phase) → session_of p ≡ Some x → Spared s c p o → KeepsAt x o
 spared_keeps s c p x o e (inl f) = rw f (left_by_keeps s c p x e)
@@ -390,17 +355,7 @@ settled_by u o b r h = cc
 
 left_by_by : (s : State) (c : Choice) (u o : ℕ) → IsBy (max u s.now) (left_by s c (Answered u o))
 left_by_by s (Finish st) u o = omega arith
-left_by_by s (Consult i) u o = omega arith
-left_by_by s Nothing u o = omega arith
-left_by_by s (Settle i r) u o = omega arith
-left_by_by s (Admit d) u o = omega arith
-left_by_by s Inspect u o = omega arith
-left_by_by s (Start i y) u o = omega arith
-left_by_by s (Proceed i y) u o = omega arith
-left_by_by s (Perform i) u o = omega arith
-left_by_by s (Lend i) u o = omega arith
-left_by_by s (Seek i c) u o = omega arith
-left_by_by s (Depart st) u o = omega arith
+left_by_by s c u o = omega arith
 
 spared_by : (s : State) (c : Choice) (u o : ℕ) (at : Option Phase) → Spared s c (Answered u o) at → HoldsAt (IsBy (max u s.now)) at
 spared_by s c u o at (inl f) = rw f (left_by_by s c u o)

@@ -139,32 +139,14 @@ known id hi cs p h o =
     let none : hi ≤ id → phase_at id cs ≡ None = λ l. above_none id hi cs l o in
     grind (arith, nat_tests, none, h)
 
--- the one that is found first is the one of its number
-pub found : (t : Connection → Bool) (hi : ℕ) (cs : List Connection) (d : Connection) → find t cs ≡ Some d → Distinct hi cs → (phase_at d.id cs ≡ Some d.phase) × (t d ≡ true)
-found t hi [] d f o = cc
-found t hi (c ∷ cs) d f o =
-    let P : Type 0 = (phase_at d.id (c ∷ cs) ≡ Some d.phase) × (t d ≡ true) in
-    let yes : t c ≡ true → c ≡ d → P = λ p e. subst (λ (d : Connection). (phase_at d.id (c ∷ cs) ≡ Some d.phase) × (t d ≡ true)) e (at_head c cs, p) in
-    let no : t c ≡ false → find t cs ≡ Some d → P =
-    λ _ g. let h = found t hi cs d g o.1.1 in (past c cs d h.0 o.1.0, h.1)
-    in
-    split (t c) (find t cs) c d f P yes no
+-- who is found passes the test
+pub passes : (t : Connection → Bool) (cs : List Connection) (c : Connection) → find t cs ≡ Some c → t c ≡ true
+passes t [] c f = cc
+passes t (d ∷ cs) c f = split (passes t cs c) (t d) refl f
   where
-    at_head : (c : Connection) (cs : List Connection) → phase_at c.id (c ∷ cs) ≡ Some c.phase
-    at_head c cs = grind (arith, nat_tests)
-
-    past : (c : Connection) (cs : List Connection) (d : Connection) → phase_at d.id cs ≡ Some d.phase → phase_at c.id cs ≡ None → phase_at d.id (c ∷ cs) ≡ Some d.phase
-    past c cs d h low = by (c.id == d.id) refl
-      where
-        by : (b : Bool) → (c.id == d.id) ≡ b → phase_at d.id (c ∷ cs) ≡ Some d.phase
-        by true y =
-            let q : c.id ≡ d.id = grind (arith, nat_tests, y) in
-            let bad : Some d.phase ≡ None = sym h ∙ ap (λ i. phase_at i cs) (sym q) ∙ low in cc
-        by false n = ap (λ b. cond b (Some c.phase) (phase_at d.id cs)) n ∙ h
-
-    split : (b : Bool) (o : Option Connection) (c d : Connection) → cond b (Some c) o ≡ Some d → (P : Type 0) → (b ≡ true → c ≡ d → P) → (b ≡ false → o ≡ Some d → P) → P
-    split true o c d e P onto past_it = onto refl (cc)
-    split false o c d e P onto past_it = past_it refl e
+    split : (find t cs ≡ Some c → t c ≡ true) → (b : Bool) → t d ≡ b → cond b (Some d) (find t cs) ≡ Some c → t c ≡ true
+    split more true y f = let q : d ≡ c = cc in ap t (sym q) ∙ y
+    split more false n f = more f
 
 -- the connection with a number, and its phase
 pub at_number : (id : ℕ) (cs : List Connection) (c : Connection) → connection_at id cs ≡ Some c → (c.id ≡ id) × (phase_at id cs ≡ Some c.phase)

@@ -5,7 +5,7 @@ use Rattle.oftp_schedule.specs.declared.connection.Phase.{Phase}
 use Rattle.oftp_schedule.specs.declared.connection.Connection.{Connection}
 use Rattle.oftp_schedule.specs.Rules.{is_other, connection_at, phase_at, became}
 use Rattle.oftp_schedule.specs.Machine.{at_door}
-use Rattle.oftp_schedule.proofs.Numbers.{Distinct, same, above_none, at_number}
+use Rattle.oftp_schedule.proofs.Numbers.{Distinct, same, above_none, passes, at_number}
 
 -- its phase
 abbrev pub phase_of : Option Connection → Option Phase
@@ -116,3 +116,7 @@ found_at t hi (c ∷ cs) d f o =
     split : (b : Bool) (o : Option Connection) (c d : Connection) → cond b (Some c) o ≡ Some d → (P : Type 0) → (c ≡ d → P) → (o ≡ Some d → P) → P
     split true o c d e P here on = here (cc)
     split false o c d e P here on = on e
+
+-- and passes the test
+pub found : (t : Connection → Bool) (hi : ℕ) (cs : List Connection) (d : Connection) → find t cs ≡ Some d → Distinct hi cs → (phase_at d.id cs ≡ Some d.phase) × (t d ≡ true)
+found t hi cs d f o = ((at_number d.id cs d (found_at t hi cs d f o)).1, passes t cs d f)

@@ -32,7 +32,8 @@ use Rattle.oftp_schedule.specs.Machine.{State, limits_now, with_connections, qui
 use Rattle.oftp_schedule.specs.History.{Note, Heard, Ordered, history, watch}
 use Rattle.oftp_schedule.specs.Life.{Stage, Unbegun, Coming, Unjudged, Let_in, In_step, Between_steps, Deserted, Cut_off, Ending, Going, Leaving, Unread, Whole, In_hand, Carried_out, In_copy, Awaits_call, Has_answer, Seeking, Located, Ringing, Standing, Closed, Broken, entered, heard, printed, closed, denied, ordered, is_about, life, stage_in, stage_from, stage_of}
 use Rattle.oftp_schedule.specs.Apart.{one_if, how_many, IsRested, IsDated, IsBrief, IsPaced, ChosenApart, NoJob}
-use Rattle.oftp_schedule.proofs.Numbers.{became_same, edited_phase, map_phase, set_to, found, at_number, no_number}
+use Rattle.oftp_schedule.proofs.Numbers.{became_same, edited_phase, map_phase, set_to, at_number, no_number}
+use Rattle.oftp_schedule.proofs.Places.{found}
 use Rattle.oftp_schedule.proofs.Fitting.{IsDistinct, settles, Settles, Asks, ChoiceFits, choice_fits, step_distinct, run_distinct}
 use Rattle.oftp_schedule.proofs.Alone.{choice_apart}
 use Rattle.oftp_schedule.proofs.Pacing.{IsOther, choice_paced}
