@@ -1,5 +1,5 @@
 -- The next time is at most each deadline, nobody else moves one, and none is past where nothing is chosen, nor is the next time.
-use Rattle.std.proofs.Common.{◌||◌, inl, inr, ◌⊎◌, max, min, nat_le, nat_lt, subst, ◌≡◌, ◌≢◌, ℕ, ◌+◌, ◌-◌, ◌<◌, ◌==◌, ◌^◌, Bool, true, false, cond, if◌then◌else◌, List, [], ◌∷◌, ◌++◌, Option, Some, None, map, filter, find, count_by, refl, ap, sym, ◌∙◌, arith}
+use Rattle.std.proofs.Common.{inl, inr, ◌⊎◌, max, min, nat_le, nat_lt, subst, ◌≡◌, ◌≢◌, ℕ, ◌+◌, ◌-◌, ◌<◌, ◌==◌, ◌^◌, Bool, true, false, cond, if◌then◌else◌, List, [], ◌∷◌, ◌++◌, Option, Some, None, map, filter, find, count_by, refl, ap, sym, ◌∙◌, arith}
 use Rattle.std.proofs.lemmas.Bool.Decides.{nat_tests, eqb_tells}
 use Rattle.std.specs.List.{list_any}
 use Rattle.oftp_schedule.specs.declared.connection.Door.{Door}
@@ -33,11 +33,12 @@ use Rattle.oftp_schedule.specs.declared.connection.Connection.{Connection}
 use Rattle.oftp_schedule.specs.Rules.{is_awaited, rule, due, is_over, is_late, late, hurried_phase, is_between_phase, is_guest_phase, is_arriving_phase, in_phase, is_ripe_phase, is_ripe, is_at, calls, ends_session, is_other, connection_at, phase_at, became, owed_phase, shared_phase}
 use Rattle.oftp_schedule.specs.Machine.{State, Turn, limits_now, with_next, with_connections, new_call, at_door, edited, after_session, replied, in_numbers, replied_at, places, gate, with_gate, knocked, first_phase, makes_room, evicted, accepted, accepted_at, rested, with_call, due_to, reviewed, received, is_to_yield, yielded, yield_to, way_given, is_knocked, choice, welcomed, chosen, Move, step, start, run, Tell, Ask, earlier, first_due, rest_over, to_come, clock_time, ripe_time, first_ripe, waits_for_room, yield_time, yield_time_of, time_of, way_time, consult, is_busy, quiet_until, quiet_time, next_time}
 use Rattle.oftp_schedule.specs.Deadlines.{AtMost, KnowsDeadlines, KnowsClock, KnowsRests, KnowsRoom, KnowsQuiet, KnowsWay, is_for, IsLeft, IsUnmovedBy, left_by, IsSpared, IsUnmoved, NoLater, IsKept, IsStill, IsOnTime, GivesWay, IsToCome}
-use Rattle.oftp_schedule.proofs.Numbers.{became_other, other_same, other_other, or_last, pushed, map_phase, edited_phase, Distinct-map, at_number}
-use Rattle.oftp_schedule.proofs.Places.{found}
-use Rattle.oftp_schedule.proofs.Fitting.{IsDistinct}
+use Rattle.oftp_schedule.proofs.Numbers.{or_last, pushed, map_phase, edited_phase, Distinct-map, at_number}
+use Rattle.oftp_schedule.proofs.Places.{found, became_other, other_same, other_other}
+use Rattle.oftp_schedule.proofs.Fitting.{IsDistinct, run_keeps}
 use Rattle.oftp_schedule.proofs.Still.{nobody, stillness, settle_something}
 use Rattle.oftp_schedule.proofs.Editing.{edit_holds, any_reply}
+use Rattle.oftp_schedule.proofs.Counting.{none_any}
 
 -- 1. The next time
 
@@ -95,14 +96,6 @@ of_others s u h = at_right u (first_due s.connections) (earlier (rests s) (other
 
 of_ways : (s : State) (u : ℕ) → AtMost u (ways s) → AtMost u (next_time s)
 of_ways s u h = of_others s u (at_right u (clock_time s.now s.clock) (earlier (waits_for_room s) (ways s)) (at_right u (waits_for_room s) (ways s) h))
-
-none_any : (t : Connection → Bool) (cs : List Connection) → find t cs ≡ None → list_any t cs ≡ false
-none_any t [] f = refl
-none_any t (c ∷ cs) f = split (none_any t cs) (t c) f
-  where
-    split : (find t cs ≡ None → list_any t cs ≡ false) → (b : Bool) → cond b (Some c) (find t cs) ≡ None → (b || list_any t cs) ≡ false
-    split more true f = cc
-    split more false f = more f
 
 pub knows_deadlines : (s : State) → KnowsDeadlines s
 knows_deadlines s id u p e d = at_left u (first_due s.connections) (earlier (rests s) (others s)) (first_due_least id s.connections p u e d)
@@ -532,10 +525,6 @@ step_rest : (s : State) (m : Move) → DoorsRest s → DoorsRest (step s m).0
 step_rest s (Tell e) h = received_rest s e h
 step_rest s Ask h = chosen_rest s (choice s) h
 
-run_rest : (s : State) (ms : List Move) → DoorsRest s → DoorsRest (run s ms)
-run_rest s [] h = h
-run_rest s (m ∷ ms) h = run_rest (step s m).0 ms (step_rest s m h)
-
 to_come_of : (s : State) → DoorsRest s → IsToCome s
 to_come_of s h t still some small e =
     let f = nobody (find (is_late s.now) s.connections) (λ c. Settle c.id (late s.now (limits_now s) c.door c.phase))
@@ -552,4 +541,4 @@ to_come_of s h t still some small e =
     room = elim (is_knocked s.partners) as (λ b. IsAhead s.now (if b then first_ripe s.now s.connections else None)) [ true ↦ ahead_ripe s.now s.connections | false ↦ tt ]
 
 pub is_to_come : (l : Limits) (ms : List Move) → IsToCome (run (start l) ms)
-is_to_come l ms = to_come_of (run (start l) ms) (run_rest (start l) ms (λ k. tt, λ k. tt, λ k. tt))
+is_to_come l ms = to_come_of (run (start l) ms) (run_keeps DoorsRest (λ s m o h. step_rest s m h) (start l) ms tt (λ k. tt, λ k. tt, λ k. tt))

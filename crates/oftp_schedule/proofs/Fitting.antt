@@ -22,8 +22,8 @@ use Rattle.oftp_schedule.specs.declared.connection.Connection.{Connection}
 use Rattle.oftp_schedule.specs.declared.connection.Limits.{Limits}
 use Rattle.oftp_schedule.specs.Rules.{answering, answered, rule, due, is_over, is_late, once_less, late, dismissal, is_dismissed, concerns, hurried, is_between_phase, is_guest_phase, is_query_phase, is_update_phase, is_owed_phase, is_wanted_phase, is_connected_phase, in_phase, is_ripe, ends_session, has_id, is_other, connection_at, phase_at, became, owed, shared, orphan_phase, is_orphan, told_phase, is_to_tell}
 use Rattle.oftp_schedule.specs.Machine.{State, Turn, limits_now, new_call, at_door, edited, after_session, numbers, replied, in_numbers, replied_at, first_phase, received, yielded, choice, welcomed, chosen, Move, step, run, Tell, Ask}
-use Rattle.oftp_schedule.proofs.Numbers.{Distinct, other_same, Distinct-map, Distinct-filter, Distinct-push, Distinct-new, known}
-use Rattle.oftp_schedule.proofs.Places.{found}
+use Rattle.oftp_schedule.proofs.Numbers.{Distinct, Distinct-map, Distinct-filter, Distinct-push, Distinct-new, known}
+use Rattle.oftp_schedule.proofs.Places.{found, other_same}
 use Rattle.oftp_schedule.proofs.Receiving.{Edits, received_holds}
 use Rattle.oftp_schedule.proofs.Cases.{each_door}
 use Rattle.oftp_schedule.proofs.Choosing.{IsHead, IsNext, IsUpdate, IsGuests, IsCalls, May, Settling, head_passes, head_at, of_choice}

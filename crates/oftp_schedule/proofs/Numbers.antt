@@ -4,7 +4,7 @@ use Rattle.std.proofs.lemmas.Bool.Decides.{nat_tests}
 use Rattle.oftp_schedule.specs.declared.connection.Door.{Door}
 use Rattle.oftp_schedule.specs.declared.connection.Phase.{Phase}
 use Rattle.oftp_schedule.specs.declared.connection.Connection.{Connection}
-use Rattle.oftp_schedule.specs.Rules.{is_other, connection_at, phase_at, became}
+use Rattle.oftp_schedule.specs.Rules.{connection_at, phase_at, became}
 use Rattle.oftp_schedule.specs.Machine.{at_door}
 
 -- each number is below hi, and none stands twice
@@ -27,18 +27,6 @@ became_same id q [] = refl
 became_same id q (c ∷ cs) =
     elim (c.id == id) as (λ b. cond b (Some (cond b q c.phase)) (phase_at id (map (became id q) cs)) ≡ set_to q (cond b (Some c.phase) (phase_at id cs)))
     [ true ↦ refl | false ↦ became_same id q cs ]
-
-pub became_other : (i id : ℕ) (q : Phase) (cs : List Connection) → i ≢ id → phase_at id (map (became i q) cs) ≡ phase_at id cs
-became_other i id q [] ne = refl
-became_other i id q (c ∷ cs) ne = let h = became_other i id q cs ne in grind (arith, nat_tests, h)
-
-pub other_same : (id : ℕ) (cs : List Connection) → phase_at id (filter (is_other id) cs) ≡ None
-other_same id [] = refl
-other_same id (c ∷ cs) = let h = other_same id cs in grind (arith, nat_tests, h)
-
-pub other_other : (i id : ℕ) (cs : List Connection) → i ≢ id → phase_at id (filter (is_other i) cs) ≡ phase_at id cs
-other_other i id [] ne = refl
-other_other i id (c ∷ cs) ne = let h = other_other i id cs ne in grind (arith, nat_tests, h)
 
 -- the phase in the list, else that of the connection at its end
 abbrev pub or_last : Option Phase → Bool → Phase → Option Phase
@@ -161,11 +149,3 @@ at_number id (d ∷ cs) c e = cases (λ h. at_number id cs c h) (d.id == id) ref
         subst (λ (x : Connection). (x.id ≡ id) × (phase_at id (d ∷ cs) ≡ Some x.phase)) q (i, ap (λ b. cond b (Some d.phase) (phase_at id cs)) y)
     cases again false n e =
         let h = again e in (h.0, ap (λ b. cond b (Some d.phase) (phase_at id cs)) n ∙ h.1)
-
-pub no_number : (id : ℕ) (cs : List Connection) → connection_at id cs ≡ None → phase_at id cs ≡ None
-no_number id [] e = refl
-no_number id (d ∷ cs) e = cases (λ h. no_number id cs h) (d.id == id) refl e
-  where
-    cases : (connection_at id cs ≡ None → phase_at id cs ≡ None) → (b : Bool) → (d.id == id) ≡ b → cond b (Some d) (connection_at id cs) ≡ None → phase_at id (d ∷ cs) ≡ None
-    cases again true y e = cc
-    cases again false n e = ap (λ b. cond b (Some d.phase) (phase_at id cs)) n ∙ again e

@@ -18,6 +18,9 @@ phase_found id (c ∷ cs) =
     elim (c.id == id) as (λ b. cond b (Some c.phase) (phase_at id cs) ≡ phase_of (cond b (Some c) (connection_at id cs)))
     [ true ↦ refl | false ↦ phase_found id cs ]
 
+pub no_number : (id : ℕ) (cs : List Connection) → connection_at id cs ≡ None → phase_at id cs ≡ None
+no_number id cs e = phase_found id cs ∙ ap phase_of e
+
 pub absent : (id : ℕ) (cs : List Connection) → phase_at id cs ≡ None → connection_at id cs ≡ None
 absent id cs e = cases (connection_at id cs) (sym (phase_found id cs) ∙ e)
   where
@@ -55,6 +58,19 @@ removed id (c ∷ cs) = let h = removed id cs in grind (arith, nat_tests, h)
 pub removed_elsewhere : (i id : ℕ) (cs : List Connection) → i ≢ id → connection_at id (filter (is_other i) cs) ≡ connection_at id cs
 removed_elsewhere i id [] ne = refl
 removed_elsewhere i id (c ∷ cs) ne = let h = removed_elsewhere i id cs ne in grind (arith, nat_tests, h)
+
+-- so its phase is as it was
+same_phase : (id : ℕ) (cs ds : List Connection) → connection_at id ds ≡ connection_at id cs → phase_at id ds ≡ phase_at id cs
+same_phase id cs ds e = phase_found id ds ∙ ap phase_of e ∙ sym (phase_found id cs)
+
+pub became_other : (i id : ℕ) (q : Phase) (cs : List Connection) → i ≢ id → phase_at id (map (became i q) cs) ≡ phase_at id cs
+became_other i id q cs ne = same_phase id cs (map (became i q) cs) (became_elsewhere i id q cs ne)
+
+pub other_same : (id : ℕ) (cs : List Connection) → phase_at id (filter (is_other id) cs) ≡ None
+other_same id cs = no_number id (filter (is_other id) cs) (removed id cs)
+
+pub other_other : (i id : ℕ) (cs : List Connection) → i ≢ id → phase_at id (filter (is_other i) cs) ≡ phase_at id cs
+other_other i id cs ne = same_phase id cs (filter (is_other i) cs) (removed_elsewhere i id cs ne)
 
 -- the one in the list, else the one at its end
 abbrev pub or_at_end : Option Connection → Bool → Connection → Option Connection
