@@ -12,8 +12,8 @@ use Rattle.oftp_schedule.specs.declared.connection.Limits.{Limits}
 use Rattle.oftp_schedule.specs.Rules.{at_office, in_session, is_between_phase, is_copying_phase, is_up_phase, is_arriving_phase, in_phase, connection_at, phase_at, became}
 use Rattle.oftp_schedule.specs.Machine.{State, replied_at, is_reviewing, received, choice, welcomed, chosen, first_clock, start, Move, step, run, Tell, Ask, is_busy}
 use Rattle.oftp_schedule.specs.Apart.{one_if, how_many, jobs_at_office, IsApart, NoJob, NoSession, NoCopy, ChosenApart}
-use Rattle.oftp_schedule.proofs.Choosing.{IsFree, May, whoever, of_choice}
-use Rattle.oftp_schedule.proofs.Receiving.{received_steady}
+use Rattle.oftp_schedule.proofs.Choices.{IsFree, May, whoever, of_choice}
+use Rattle.oftp_schedule.proofs.Events.{received_steady}
 use Rattle.oftp_schedule.proofs.Fitting.{IsDistinct, run_keeps, ChoiceFits, choice_fits}
 use Rattle.oftp_schedule.proofs.Counting.{one_if_le, counted_became, none_found, not_any}
 use Rattle.oftp_schedule.proofs.Apart.{IsRare, through, received_le, target, gain, chosen_gain}

@@ -31,7 +31,7 @@ use Rattle.oftp_schedule.specs.Machine.{State, Turn, limits_now, new_call, at_do
 use Rattle.oftp_schedule.specs.Apart.{one_if, how_many}
 use Rattle.oftp_schedule.proofs.Numbers.{Distinct, Distinct-map}
 use Rattle.oftp_schedule.proofs.Places.{found}
-use Rattle.oftp_schedule.proofs.Receiving.{Edits, received_holds}
+use Rattle.oftp_schedule.proofs.Events.{Edits, received_holds}
 use Rattle.oftp_schedule.proofs.Fitting.{IsDistinct, settles, Settles, ChoiceFits}
 use Rattle.oftp_schedule.proofs.Counting.{untouched, counted_became, counted_removed, counted_pushed, counted_edited}
 

@@ -51,7 +51,7 @@ use Rattle.oftp_schedule.proofs.Fitting.{IsDistinct, step_distinct, settles, Set
 use Rattle.oftp_schedule.proofs.Counting.{none_found}
 use Rattle.oftp_schedule.proofs.Within.{step_limits}
 use Rattle.oftp_schedule.proofs.Editing.{edit_holds, any_reply}
-use Rattle.oftp_schedule.proofs.Choosing.{IsHead, IsGuests, IsCalls, May, whoever, head_there, head_passes, of_choice}
+use Rattle.oftp_schedule.proofs.Choices.{IsHead, IsGuests, IsCalls, May, whoever, head_there, head_passes, of_choice}
 use Rattle.oftp_schedule.proofs.Timely.{choice_less}
 
 -- 1. What may become of a call

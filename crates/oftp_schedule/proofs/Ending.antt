@@ -7,8 +7,8 @@ use Rattle.oftp_schedule.specs.Rules.{connection_at}
 use Rattle.oftp_schedule.specs.Machine.{State, is_ending, replied_at, or_else, finish, choice, welcomed, chosen, Move, step, Tell, Ask}
 use Rattle.oftp_schedule.specs.Ends.{begins_anew, BeginsNothing, IsOver, Departs}
 use Rattle.oftp_schedule.proofs.Still.{Rest}
-use Rattle.oftp_schedule.proofs.Choosing.{May, whoever, of_choice}
-use Rattle.oftp_schedule.proofs.Receiving.{received_steady}
+use Rattle.oftp_schedule.proofs.Choices.{May, whoever, of_choice}
+use Rattle.oftp_schedule.proofs.Events.{received_steady}
 
 -- what begins anew is chosen only where the station goes on
 may_anew : (s : State) (c : Choice) → is_ending s.course ≡ true → May s c → begins_anew c ≡ false

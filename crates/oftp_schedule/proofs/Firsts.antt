@@ -9,7 +9,7 @@ use Rattle.oftp_schedule.specs.declared.connection.Session.{Session}
 use Rattle.oftp_schedule.specs.Rules.{is_guest_phase, is_query_phase, is_update_phase, is_owed_phase, is_wanted_phase, is_connected_phase}
 use Rattle.oftp_schedule.specs.Machine.{State, choice}
 use Rattle.oftp_schedule.specs.Order.{number_of, first_in, first_update, IsFirst}
-use Rattle.oftp_schedule.proofs.Choosing.{IsHead, IsNext, IsUpdate, IsGuests, IsCalls, May, whoever, head_number, of_choice}
+use Rattle.oftp_schedule.proofs.Choices.{IsHead, IsNext, IsUpdate, IsGuests, IsCalls, May, whoever, head_number, of_choice}
 
 updates_first : (s : State) (id : ℕ) (p : Phase) → IsUpdate s id p → first_update s (first_in is_owed_phase s) ≡ Some id
 updates_first s id p u = by u.first

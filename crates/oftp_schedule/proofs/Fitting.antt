@@ -24,9 +24,9 @@ use Rattle.oftp_schedule.specs.Rules.{answering, answered, rule, due, is_over, i
 use Rattle.oftp_schedule.specs.Machine.{State, Turn, limits_now, new_call, at_door, edited, after_session, numbers, replied, in_numbers, replied_at, first_phase, received, yielded, choice, welcomed, chosen, Move, step, run, Tell, Ask}
 use Rattle.oftp_schedule.proofs.Numbers.{Distinct, Distinct-map, Distinct-filter, Distinct-push, Distinct-new, known}
 use Rattle.oftp_schedule.proofs.Places.{found, other_same}
-use Rattle.oftp_schedule.proofs.Receiving.{Edits, received_holds}
+use Rattle.oftp_schedule.proofs.Events.{Edits, received_holds}
 use Rattle.oftp_schedule.proofs.Cases.{each_door}
-use Rattle.oftp_schedule.proofs.Choosing.{IsHead, IsNext, IsUpdate, IsGuests, IsCalls, May, Settling, head_passes, head_at, of_choice}
+use Rattle.oftp_schedule.proofs.Choices.{IsHead, IsNext, IsUpdate, IsGuests, IsCalls, May, Settling, head_passes, head_at, of_choice}
 
 -- 1. Numbers
 

@@ -14,8 +14,8 @@ pub mod Keeping
 pub mod Still
 pub mod Cases
 pub mod Editing
-pub mod Choosing
-pub mod Receiving
+pub mod Choices
+pub mod Events
 pub mod Yielding
 pub mod Timely
 pub mod Deadlines

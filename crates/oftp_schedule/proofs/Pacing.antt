@@ -8,7 +8,7 @@ use Rattle.oftp_schedule.specs.declared.connection.Connection.{Connection}
 use Rattle.oftp_schedule.specs.Rules.{is_hearable, is_between_phase, in_phase}
 use Rattle.oftp_schedule.specs.Machine.{State, choice}
 use Rattle.oftp_schedule.specs.Apart.{IsPaced}
-use Rattle.oftp_schedule.proofs.Choosing.{LooksWithin, LooksOutside, May, whoever, of_choice}
+use Rattle.oftp_schedule.proofs.Choices.{LooksWithin, LooksOutside, May, whoever, of_choice}
 
 -- what may be chosen without a thought of the session: anything but a look-up
 abbrev pub IsOther : Choice → Type 0

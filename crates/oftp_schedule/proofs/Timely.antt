@@ -19,7 +19,7 @@ use Rattle.oftp_schedule.specs.Deadlines.{IsOfTime, IsOnceLess}
 use Rattle.oftp_schedule.proofs.Places.{found_at, found}
 use Rattle.oftp_schedule.proofs.Fitting.{IsDistinct}
 use Rattle.oftp_schedule.proofs.Numbers.{passes}
-use Rattle.oftp_schedule.proofs.Choosing.{May, Settling, dismissal_holds, of_choice}
+use Rattle.oftp_schedule.proofs.Choices.{May, Settling, dismissal_holds, of_choice}
 
 -- 1. Time
 

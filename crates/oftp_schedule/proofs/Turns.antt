@@ -11,8 +11,8 @@ use Rattle.oftp_schedule.specs.declared.connection.Connection.{Connection}
 use Rattle.oftp_schedule.specs.Rules.{is_between_phase, is_guest_phase, is_owed_phase, is_copying_phase, in_phase, connection_at}
 use Rattle.oftp_schedule.specs.Machine.{State, replied_at, received, choice, welcomed, chosen, Move, Tell, Ask, step, run}
 use Rattle.oftp_schedule.specs.Order.{first_in, a_guest_waits, IsTurn, begins_update, begins_session, sessions_in, IsRound}
-use Rattle.oftp_schedule.proofs.Choosing.{IsHead, NoneIn, LooksWithin, LooksOutside, IsNext, IsUpdate, May, whoever, head_number, of_choice}
-use Rattle.oftp_schedule.proofs.Receiving.{received_steady}
+use Rattle.oftp_schedule.proofs.Choices.{IsHead, NoneIn, LooksWithin, LooksOutside, IsNext, IsUpdate, May, whoever, head_number, of_choice}
+use Rattle.oftp_schedule.proofs.Events.{received_steady}
 use Rattle.oftp_schedule.proofs.Wakeups.{any_found}
 
 -- 1. One choice

@@ -34,8 +34,8 @@ use Rattle.oftp_schedule.proofs.Cases.{each_door}
 use Rattle.oftp_schedule.proofs.Numbers.{Distinct, known, at_number, Distinct-map}
 use Rattle.oftp_schedule.proofs.Places.{absent, found_at}
 use Rattle.oftp_schedule.proofs.Editing.{ReplyHolds, numbers_hold, edit_holds}
-use Rattle.oftp_schedule.proofs.Choosing.{guests_session, IsGuests, IsCalls, May, Settling, dismissal_holds, of_choice}
-use Rattle.oftp_schedule.proofs.Receiving.{Edits, received_holds, received_steady}
+use Rattle.oftp_schedule.proofs.Choices.{guests_session, IsGuests, IsCalls, May, Settling, dismissal_holds, of_choice}
+use Rattle.oftp_schedule.proofs.Events.{Edits, received_holds, received_steady}
 use Rattle.oftp_schedule.proofs.Fitting.{IsDistinct, run_keeps, ChoiceFits, choice_fits}
 
 -- 1. What holds of each connection

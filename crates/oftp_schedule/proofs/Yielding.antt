@@ -18,7 +18,7 @@ use Rattle.oftp_schedule.specs.declared.connection.Connection.{Connection}
 use Rattle.oftp_schedule.specs.Rules.{is_awaited, once_less, late, is_between_phase, is_guest_phase, in_phase}
 use Rattle.oftp_schedule.specs.Machine.{State, limits_now, choice, is_to_yield}
 use Rattle.oftp_schedule.specs.Deadlines.{AreRivals, YieldsInTime}
-use Rattle.oftp_schedule.proofs.Choosing.{May, Settling, dismissal_holds, of_choice}
+use Rattle.oftp_schedule.proofs.Choices.{May, Settling, dismissal_holds, of_choice}
 
 -- 1. Nothing else that is chosen is that a call gives way
 
