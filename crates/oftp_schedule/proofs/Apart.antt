@@ -1,7 +1,6 @@
 -- One thing at a time: what is told keeps it, and what is chosen has room.
-use Rattle.std.proofs.Common.{◌^◌, ◌≡◌, ◌≤◌, ◌+◌, [], ◌∷◌, ◌++◌, ◌∙◌, if◌then◌else◌, ℕ, Bool, true, false, nat_lt, List, Option, Some, None, map, filter, find, count_by, max, min, zero, suc, subst, refl, ap, sym, arith}
+use Rattle.std.proofs.Common.{◌^◌, ◌≡◌, ◌≤◌, ◌+◌, [], ◌∷◌, ◌++◌, ◌∙◌, if◌then◌else◌, ℕ, Bool, true, false, nat_lt, List, Option, Some, None, map, filter, find, max, min, zero, suc, subst, refl, ap, sym, arith}
 use Rattle.std.proofs.lemmas.Bool.Decides.{nat_tests}
-use Rattle.std.specs.List.{list_any}
 use Rattle.oftp_schedule.specs.declared.connection.Door.{Door}
 use Rattle.oftp_schedule.specs.declared.connection.Door.TheVariants.{Partners, Commands, Requests, Calls}
 use Rattle.oftp_schedule.specs.declared.connection.Request.{Request}
@@ -13,32 +12,26 @@ use Rattle.oftp_schedule.specs.declared.connection.Input.{Input}
 use Rattle.oftp_schedule.specs.declared.connection.Input.TheVariants.{Awaited, Here, Last, Gone}
 use Rattle.oftp_schedule.specs.declared.connection.Phase.{Phase}
 use Rattle.oftp_schedule.specs.declared.connection.Phase.TheVariants.{Arriving, Stranger, Guest, Stepping, Between, Parting, Asking, Ready, Served, Calling, Copying, Answered, Wanted, Resolving, Dialing, Connected}
-use Rattle.oftp_schedule.specs.declared.connection.Arrival.{Arrival}
-use Rattle.oftp_schedule.specs.declared.connection.Arrival.TheVariants.{Somebody, Nobody, Later, Never}
 use Rattle.oftp_schedule.specs.declared.connection.End.TheVariants.{Own, Other}
 use Rattle.oftp_schedule.specs.declared.connection.Signal.{Signal}
 use Rattle.oftp_schedule.specs.declared.connection.Signal.TheVariants.{LetIn, Rejected, Asked, Wants, Waits, Ended, Done, Came, Went, Ends, Lost, Resolved, Up, Failed}
 use Rattle.oftp_schedule.specs.declared.connection.Event.{Event}
-use Rattle.oftp_schedule.specs.declared.connection.Event.TheVariants.{Knock, Accepted, Passed, Told, Due, Reviewed, Over}
 use Rattle.oftp_schedule.specs.declared.connection.Reason.TheVariants.{Evicted, TimedOut, Stalled, Unreached, Orphaned, Stopping}
 use Rattle.oftp_schedule.specs.declared.connection.Reply.{Reply}
 use Rattle.oftp_schedule.specs.declared.connection.Reply.TheVariants.{Stay, Become, Queue, Want, Respond, Refuse, Connect, Redial, Yield, Farewell, Leave, Break}
 use Rattle.oftp_schedule.specs.declared.connection.Choice.{Choice}
 use Rattle.oftp_schedule.specs.declared.connection.Choice.TheVariants.{Nothing, Finish, Settle, Admit, Inspect, Start, Proceed, Consult, Perform, Lend, Seek, Depart}
-use Rattle.oftp_schedule.specs.declared.connection.Gate.{Gate}
-use Rattle.oftp_schedule.specs.declared.connection.Gate.TheVariants.{Quiet, Resting}
-use Rattle.oftp_schedule.specs.declared.connection.Clock.{Clock}
-use Rattle.oftp_schedule.specs.declared.connection.Clock.TheVariants.{Off, At, Reviewing}
-use Rattle.oftp_schedule.specs.declared.connection.Partner.{Partner}
 use Rattle.oftp_schedule.specs.declared.connection.Call.{Call}
 use Rattle.oftp_schedule.specs.declared.connection.Session.{Session}
 use Rattle.oftp_schedule.specs.declared.connection.Connection.{Connection}
 use Rattle.oftp_schedule.specs.declared.connection.Step.{Step}
 use Rattle.oftp_schedule.specs.declared.connection.Limits.{Limits}
-use Rattle.oftp_schedule.specs.Rules.{stepped, after_step, with_octets, with_backlog, with_last, at_end, with_share, answering, answered, parting, went, dialing_time, rule, hurried_phase, is_arriving_phase, is_ripe, is_at, calls, ends_session, has_id, is_other, connection_at, phase_at, became, owed_phase, shared_phase}
-use Rattle.oftp_schedule.specs.Machine.{State, Turn, with_connections, limits_now, new_call, at_door, edited, after_session, replied, in_numbers, replied_at, places, gate, with_gate, knocked, first_phase, makes_room, evicted, came, accepted, accepted_at, with_call, due_to, reviewed, received, welcomed, chosen}
+use Rattle.oftp_schedule.specs.Rules.{stepped, after_step, with_octets, with_backlog, with_last, at_end, with_share, answering, answered, parting, went, dialing_time, rule, hurried_phase, is_ripe, ends_session, has_id, is_other, connection_at, phase_at, became, owed_phase, shared_phase}
+use Rattle.oftp_schedule.specs.Machine.{State, Turn, limits_now, new_call, at_door, edited, after_session, replied, in_numbers, replied_at, first_phase, received, welcomed, chosen}
 use Rattle.oftp_schedule.specs.Apart.{one_if, how_many}
-use Rattle.oftp_schedule.proofs.Numbers.{Distinct, Distinct-map, found}
+use Rattle.oftp_schedule.proofs.Numbers.{Distinct, Distinct-map}
+use Rattle.oftp_schedule.proofs.Places.{found}
+use Rattle.oftp_schedule.proofs.Events.{Edits, received_holds}
 use Rattle.oftp_schedule.proofs.Fitting.{IsDistinct, settles, Settles, ChoiceFits}
 use Rattle.oftp_schedule.proofs.Counting.{untouched, counted_became, counted_removed, counted_pushed, counted_edited}
 
@@ -166,17 +159,7 @@ replied_le t rare s c r o e k =
 
 in_numbers_leads : (t : Phase → Bool) (next : ℕ) (p : Phase) (r : Reply) → leads t p (phase_of r) ≡ true → leads t p (phase_of (in_numbers next r)) ≡ true
 in_numbers_leads t next p (Want n) k = elim (nat_lt next (2 ^ 63)) as (λ b. leads t p (phase_of (if b then Want n else Leave Stopping)) ≡ true) [ true ↦ refl | false ↦ refl ]
-in_numbers_leads t next p Stay k = k
-in_numbers_leads t next p (Become q) k = k
-in_numbers_leads t next p (Queue q) k = k
-in_numbers_leads t next p (Respond q) k = k
-in_numbers_leads t next p (Refuse q why) k = k
-in_numbers_leads t next p (Connect q) k = k
-in_numbers_leads t next p (Redial q) k = k
-in_numbers_leads t next p (Yield q) k = k
-in_numbers_leads t next p (Farewell q) k = k
-in_numbers_leads t next p (Leave why) k = k
-in_numbers_leads t next p (Break why) k = k
+in_numbers_leads t next p r k = k
 
 -- who is found, and what a reply to it leaves
 pub replied_at_le : (t : Phase → Bool) → IsRare t → (s : State) (u : Connection → Bool) (f : Connection → Reply) (at : Option Connection) → find u s.connections ≡ at
@@ -284,73 +267,33 @@ came_leads t rare p now l Commands = false_leads t p (Asking (now + l.asking)) (
 came_leads t rare p now l Requests = false_leads t p (Asking (now + l.requesting)) (rare.asking (now + l.requesting))
 came_leads t rare p now l Calls = false_leads t p (Asking (now + l.asking)) (rare.asking (now + l.asking))
 
-gate_keeps : (s : State) (d : Door) (g : Gate) → (with_gate s d g).connections ≡ s.connections
-gate_keeps s Partners g = refl
-gate_keeps s Commands g = refl
-gate_keeps s Requests g = refl
-gate_keeps s Calls g = refl
+abbrev pub NoMoreIn : (Phase → Bool) → State → State → Type 0
+NoMoreIn t s u = how_many t u.connections ≤ how_many t s.connections
 
-room_le : (t : Phase → Bool) → IsRare t → (s : State) (d : Door) → IsDistinct s → how_many t (evicted s (makes_room s d)).0.connections ≤ how_many t s.connections
-room_le t rare s d o = cases (nat_lt (places s.limits d) (count_by (is_at d) s.connections))
-  where
-    cases : (b : Bool) → how_many t (evicted s (if b then find (is_ripe s.now) s.connections else None)).0.connections ≤ how_many t s.connections
-    cases true = replied_at_le t rare s (is_ripe s.now) (λ c. Leave Evicted) (find (is_ripe s.now) s.connections) refl o (λ c h e. refl)
-    cases false = omega arith
+edits_le : (t : Phase → Bool) → IsRare t → Edits IsDistinct (NoMoreIn t)
+edits_le t rare = record {
+  stays = λ s. omega arith;
+  after = λ s u v h k. through (how_many t v.connections) (how_many t u.connections) (how_many t s.connections) k h;
+  gates = λ s a b c. omega arith;
+  later = λ s now l. omega arith;
+  reviewed_at = λ s n. omega arith;
+  ends = λ s st. omega arith;
+  wants = λ s p o.
+      let k = new_call s.limits p ByClock in
+      let e = pushed_same t s.connections (at_door s.next Calls (Wanted k)) (rare.wanted k) in omega arith;
+  comes = λ s u c o e.
+      let q = first_phase s.now s.limits c.door in
+      let le = became_le t s.next s.connections c q o (found u s.next s.connections c e o).0 (came_leads t rare c.phase s.now s.limits c.door) in
+      (le, Distinct-map (became c.id q) (λ _. refl) s.next s.connections o);
+  goes = λ s u c o e. removed_le t s.next s.connections c o (found u s.next s.connections c e o).0;
+  closes = λ s c o e. replied_le t rare s c (Leave Evicted) o (found (is_ripe s.now) s.next s.connections c e o).0 refl;
+  hears = λ s u c g o e.
+      let r = rule s.now (limits_now s) c.door c.phase g in
+      replied_le t rare s c (in_numbers s.next r) o (found u s.next s.connections c e o).0 (in_numbers_leads t s.next c.phase r (rule_leads t rare s.now (limits_now s) c.door c.phase g));
+}
 
-came_le : (t : Phase → Bool) → IsRare t → (s : State) (c : Connection) → IsDistinct s → phase_at c.id s.connections ≡ Some c.phase
-    → how_many t (came s c).0.connections ≤ how_many t s.connections
-came_le t rare s c o e =
-    let q = first_phase s.now s.limits c.door in
-    let u = with_connections s (map (became c.id q) s.connections) in
-    let o' : IsDistinct u = Distinct-map (became c.id q) (λ _. refl) s.next s.connections o in
-    through (how_many t (came s c).0.connections) (how_many t u.connections) (how_many t s.connections)
-    (room_le t rare u c.door o')
-    (became_le t s.next s.connections c q o e (came_leads t rare c.phase s.now s.limits c.door))
-
-accepted_le : (t : Phase → Bool) → IsRare t → (s : State) (c : Connection) (a : Arrival) → IsDistinct s → phase_at c.id s.connections ≡ Some c.phase
-    → how_many t (accepted s c a).0.connections ≤ how_many t s.connections
-accepted_le t rare s c Somebody o e = came_le t rare s c o e
-accepted_le t rare s c Nobody o e =
-    subst (λ (cs : List Connection). how_many t cs ≤ how_many t s.connections) (sym (gate_keeps (with_connections s (filter (is_other c.id) s.connections)) c.door Quiet))
-    (removed_le t s.next s.connections c o e)
-accepted_le t rare s c Later o e =
-    subst (λ (cs : List Connection). how_many t cs ≤ how_many t s.connections)
-    (sym (gate_keeps (with_connections s (filter (is_other c.id) s.connections)) c.door (Resting (s.now + s.limits.rest)))) (removed_le t s.next s.connections c o e)
-accepted_le t rare s c Never o e = removed_le t s.next s.connections c o e
-
-accepted_at_le : (t : Phase → Bool) → IsRare t → (s : State) (id : ℕ) (at : Option Connection) (a : Arrival) → connection_at id s.connections ≡ at → IsDistinct s
-    → how_many t (accepted_at s at a).0.connections ≤ how_many t s.connections
-accepted_at_le t rare s id None a e o = omega arith
-accepted_at_le t rare s id (Some c) a e o = cases (is_arriving_phase c.phase) refl
-  where
-    cases : (b : Bool) → is_arriving_phase c.phase ≡ b → how_many t (let u : Turn = if b then accepted s c a else (s, []) in u.0.connections) ≤ how_many t s.connections
-    cases true h = accepted_le t rare s c a o (found (has_id id) s.next s.connections c e o).0
-    cases false h = omega arith
-
-due_le : (t : Phase → Bool) → IsRare t → (s : State) (p : Partner) → how_many t (due_to s p).connections ≤ how_many t s.connections
-due_le t rare s p = cases (list_any (calls p.number) s.connections) (nat_lt s.next (2 ^ 63))
-  where
-    cases : (b d : Bool) → how_many t (let u : State = if b then s else (if d then with_call s p else s) in u.connections) ≤ how_many t s.connections
-    cases true d = omega arith
-    cases false true =
-        let k = new_call s.limits p ByClock in
-        let e = pushed_same t s.connections (at_door s.next Calls (Wanted k)) (rare.wanted k) in omega arith
-    cases false false = omega arith
-
-reviewed_keeps : (s : State) (c : Clock) → (reviewed s c).connections ≡ s.connections
-reviewed_keeps s Reviewing = refl
-reviewed_keeps s Off = refl
-reviewed_keeps s (At u) = refl
-
-pub received_le : (t : Phase → Bool) → IsRare t → (s : State) (e : Event) → IsDistinct s → how_many t (received s e).0.connections ≤ how_many t s.connections
-received_le t rare s (Knock d) o = subst (λ (cs : List Connection). how_many t cs ≤ how_many t s.connections) (sym (gate_keeps s d (knocked (gate s d)))) (omega arith)
-received_le t rare s (Accepted id a) o = accepted_at_le t rare s id (connection_at id s.connections) a refl o
-received_le t rare s (Passed u) o = omega arith
-received_le t rare s (Told id g) o =
-    replied_at_le t rare s (has_id id) (λ c. rule s.now (limits_now s) c.door c.phase g) (connection_at id s.connections) refl o (λ c h e. rule_leads t rare s.now (limits_now s) c.door c.phase g)
-received_le t rare s (Due p) o = due_le t rare s p
-received_le t rare s Reviewed o = subst (λ (cs : List Connection). how_many t cs ≤ how_many t s.connections) (sym (reviewed_keeps s s.clock)) (omega arith)
-received_le t rare s (Over st) o = omega arith
+pub received_le : (t : Phase → Bool) → IsRare t → (s : State) (e : Event) → IsDistinct s → NoMoreIn t s (received s e).0
+received_le t rare s e o = received_holds IsDistinct (NoMoreIn t) (edits_le t rare) s e o
 
 -- 4. What is chosen adds one at most
 

@@ -1,5 +1,5 @@
 -- Whom a call calls never changes, it hangs up as often as the limits say, and the clock has one call of a partner at a time.
-use Rattle.std.proofs.Common.{inl, inr, ◌⊎◌, nat_lt, subst, ◌≡◌, ◌≢◌, ℕ, zero, suc, ◌+◌, ◌-◌, ◌≤◌, ◌==◌, ◌^◌, Bool, true, false, cond, ◌||◌, if◌then◌else◌, List, [], ◌∷◌, ◌++◌, Option, Some, None, map, filter, find, refl, ap, sym, ◌∙◌, arith}
+use Rattle.std.proofs.Common.{◌||◌, inl, inr, ◌⊎◌, nat_lt, subst, ◌≡◌, ◌≢◌, ℕ, zero, suc, ◌+◌, ◌-◌, ◌≤◌, ◌==◌, ◌^◌, Bool, true, false, cond, if◌then◌else◌, List, [], ◌∷◌, ◌++◌, Option, Some, None, map, filter, find, refl, ap, sym, ◌∙◌, arith}
 use Rattle.std.proofs.lemmas.Bool.Decides.{nat_tests, eqb_tells}
 use Rattle.std.proofs.lemmas.List.Sums.{sum_by-cons, sum_by-append}
 use Rattle.std.specs.List.{list_any}
@@ -21,7 +21,7 @@ use Rattle.oftp_schedule.specs.declared.connection.Arrival.{Arrival}
 use Rattle.oftp_schedule.specs.declared.connection.Arrival.TheVariants.{Somebody, Nobody, Later, Never}
 use Rattle.oftp_schedule.specs.declared.connection.Event.{Event}
 use Rattle.oftp_schedule.specs.declared.connection.Event.TheVariants.{Knock, Accepted, Passed, Told, Due, Reviewed, Over}
-use Rattle.oftp_schedule.specs.declared.connection.Reason.TheVariants.{Evicted, TimedOut, Orphaned, Stopping, Finished}
+use Rattle.oftp_schedule.specs.declared.connection.Reason.TheVariants.{Evicted, TimedOut, Stopping, Finished}
 use Rattle.oftp_schedule.specs.declared.connection.Action.{Action}
 use Rattle.oftp_schedule.specs.declared.connection.Action.TheVariants.{Accept, Close, Part, Begin, Hear, Look, Change, Copy, Review, Resolve, Shut, Exit}
 use Rattle.oftp_schedule.specs.declared.connection.Reply.{Reply}
@@ -38,19 +38,20 @@ use Rattle.oftp_schedule.specs.declared.connection.Session.{Session}
 use Rattle.oftp_schedule.specs.declared.connection.Step.{Step}
 use Rattle.oftp_schedule.specs.declared.connection.Connection.{Connection}
 use Rattle.oftp_schedule.specs.declared.connection.Limits.{Limits}
-use Rattle.oftp_schedule.specs.Rules.{heard_on, after_step, at_end, answered, answered_whole, went, rule, is_late, late, hurried_phase, hurried, is_arriving_phase, is_between_phase, is_guest_phase, is_connected_phase, in_phase, call_of, call_in, call_at, is_clock, is_by_clock, calls, has_line, line, leaves_line, orders, ends_session, has_id, is_other, connection_at, phase_at, became, owed_phase, owed, shared_phase, shared, is_orphan, is_to_tell}
-use Rattle.oftp_schedule.specs.Machine.{State, Turn, with_connections, limits_now, new_call, at_door, edited, after_session, replied, in_numbers, replied_at, gate, with_gate, knocked, first_phase, makes_room, evicted, came, accepted, accepted_at, with_call, due_to, reviewed, received, guest_session, called_session, call_session, new_session, choice_of, is_to_yield, yielded, yield_to, yield_for, choice, welcomed, chosen, start, Move, step, run, Tell, Ask}
+use Rattle.oftp_schedule.specs.Rules.{heard_on, after_step, at_end, answered_whole, went, rule, hurried_phase, hurried, is_arriving_phase, is_guest_phase, is_connected_phase, in_phase, call_of, call_in, call_at, is_clock, is_by_clock, calls, has_line, line, leaves_line, orders, ends_session, has_id, is_other, connection_at, phase_at, became, owed_phase, owed, shared_phase, shared}
+use Rattle.oftp_schedule.specs.Machine.{State, Turn, with_connections, limits_now, new_call, at_door, edited, after_session, replied, in_numbers, replied_at, gate, with_gate, knocked, first_phase, makes_room, evicted, came, accepted, accepted_at, with_call, due_to, reviewed, received, called_session, choice, welcomed, chosen, start, Move, step, run, Tell, Ask}
 use Rattle.oftp_schedule.specs.Apart.{one_if, how_many}
 use Rattle.oftp_schedule.specs.History.{Note, Heard, Ordered, history}
 use Rattle.oftp_schedule.specs.Life.{is_about, is_ordered}
 use Rattle.oftp_schedule.specs.Deadlines.{HasOneLess, IsOnceLess}
 use Rattle.oftp_schedule.specs.Calls.{is_clocks_call, HasOneEach, call_of_number, hangs_up, hang_ups, IsSameCall, KeepsCalls}
-use Rattle.oftp_schedule.proofs.Numbers.{Distinct, same, differs, known, found, at_number}
-use Rattle.oftp_schedule.proofs.Places.{absent, map_found, mapped, became_here, became_elsewhere, moved_here, removed, removed_elsewhere, or_at_end, pushed_at, pushed_elsewhere, unborn_at, found_at}
-use Rattle.oftp_schedule.proofs.Fitting.{IsDistinct, step_distinct, settles, Settles, ChoiceFits, choice_fits, run_distinct}
+use Rattle.oftp_schedule.proofs.Numbers.{Distinct, same, differs, known, at_number}
+use Rattle.oftp_schedule.proofs.Places.{absent, map_found, mapped, became_here, became_elsewhere, moved_here, removed, removed_elsewhere, or_at_end, pushed_at, pushed_elsewhere, unborn_at, found_at, found}
+use Rattle.oftp_schedule.proofs.Fitting.{IsDistinct, step_distinct, settles, Settles, ChoiceFits, choice_fits, run_keeps, run_distinct}
 use Rattle.oftp_schedule.proofs.Counting.{none_found}
 use Rattle.oftp_schedule.proofs.Within.{step_limits}
-use Rattle.oftp_schedule.proofs.Settled.{HoldsElse, of_any, begun_choice, dismissed_holds}
+use Rattle.oftp_schedule.proofs.Editing.{edit_holds, any_reply}
+use Rattle.oftp_schedule.proofs.Choices.{IsHead, IsGuests, IsCalls, May, whoever, head_there, head_passes, of_choice}
 use Rattle.oftp_schedule.proofs.Timely.{choice_less}
 
 -- 1. What may become of a call
@@ -216,7 +217,10 @@ pushed_new id s cs d o e i f = elim (eqb_tells s.next id) as (λ _. OrNew id s (
 ]
 
 edited_other : (s : State) (id : ℕ) (c : Connection) (r : Reply) → IsDistinct s → c.id ≢ id → OrNew id s (edited s c r)
-edited_other s id c r o ne = cases r
+edited_other s id c r o ne =
+    edit_holds (OrNew id s) (λ q. Unit {0}) s c (inl refl) (λ q k. set q) (λ q k. moved q)
+    (λ n. pushed_new id s (map (became c.id (Calling s.next)) s.connections) (at_door s.next Calls (Wanted (new_call s.limits n (By c.id)))) o
+    (became_elsewhere c.id id (Calling s.next) s.connections ne) refl (refl, λ m y. cc)) out r (any_reply r)
   where
     set : (q : Phase) → OrNew id s (map (became c.id q) s.connections)
     set q = inl (ap call_at (became_elsewhere c.id id q s.connections ne))
@@ -226,22 +230,6 @@ edited_other s id c r o ne = cases r
 
     out : OrNew id s (filter (is_other c.id) s.connections)
     out = inl (ap call_at (removed_elsewhere c.id id s.connections ne))
-
-    cases : (r : Reply) → OrNew id s (edited s c r)
-    cases Stay = inl refl
-    cases (Become q) = set q
-    cases (Queue q) = moved q
-    cases (Want n) =
-        pushed_new id s (map (became c.id (Calling s.next)) s.connections) (at_door s.next Calls (Wanted (new_call s.limits n (By c.id)))) o
-        (became_elsewhere c.id id (Calling s.next) s.connections ne) refl (refl, λ m y. cc)
-    cases (Respond q) = set q
-    cases (Refuse q why) = set q
-    cases (Connect q) = set q
-    cases (Redial q) = set q
-    cases (Yield q) = moved q
-    cases (Farewell q) = set q
-    cases (Leave why) = out
-    cases (Break why) = out
 
 -- 4. What a reply makes of a call
 
@@ -493,63 +481,34 @@ abbrev IsOfItsCall : State → Choice → Type 0
 IsOfItsCall s (Start id x) = At id s.connections ≡ call_of x.way
 IsOfItsCall s c = Unit {0}
 
-others : (s : State) → HoldsElse (IsOfItsCall s)
-others s = record {
-  nothing = tt;
-  finish = λ st. tt;
-  admit = λ d. tt;
-  inspect = tt;
-  proceed = λ id x. tt;
-  consult = λ id. tt;
-  perform = λ id. tt;
-  lend = λ id. tt;
-  seek = λ id c. tt;
-  depart = λ st. tt;
-}
+head_call : (t : Phase → Bool) (s : State) (id : ℕ) (p : Phase) → IsDistinct s → IsHead t s id p → At id s.connections ≡ call_in p
+head_call t s id p o h = ap call_at (head_there t s id p o h) ∙ ap call_in h.phase_is
 
-guest_starts : (s : State) → IsDistinct s → IsOfItsCall s (guest_session s)
-guest_starts s o = by (find (in_phase is_guest_phase) s.connections) refl
+guest_starts : (s : State) (id : ℕ) (x : Session) → IsDistinct s → IsGuests s id x → IsOfItsCall s (Start id x)
+guest_starts s id x o g =
+    head_call is_guest_phase s id g.phase o g.first ∙ no_call g.phase (head_passes is_guest_phase s id g.phase g.first) ∙ sym (ap (λ (y : Session). call_of y.way) g.session_is)
   where
     no_call : (p : Phase) → is_guest_phase p ≡ true → call_in p ≡ None
     no_call (Guest t) h = refl
     no_call p h = cc
 
-    by : (at : Option Connection) → find (in_phase is_guest_phase) s.connections ≡ at
-        → IsOfItsCall s (choice_of at (λ c. Start c.id (new_session s.now s.limits In s.limits.patience s.limits.longest)))
-    by None e = tt
-    by (Some c) e =
-        ap call_at (found_at (in_phase is_guest_phase) s.next s.connections c e o) ∙ no_call c.phase (found (in_phase is_guest_phase) s.next s.connections c e o).1
-
-call_starts : (s : State) → IsDistinct s → IsOfItsCall s (call_session s)
-call_starts s o = by (find (in_phase is_connected_phase) s.connections) refl
+call_starts : (s : State) (id : ℕ) (x : Session) → IsDistinct s → IsCalls s id x → IsOfItsCall s (Start id x)
+call_starts s id x o g = subst (IsOfItsCall s) (sym g.session_is) (one (Some g.call) (head_call is_connected_phase s id g.phase o g.first ∙ g.call_is))
   where
-    one : (id : ℕ) (k : Option Call) → At id s.connections ≡ k → IsOfItsCall s (called_session s.now s.limits id k)
-    one id None e = tt
-    one id (Some k) e = e
+    one : (k : Option Call) → At id s.connections ≡ k → IsOfItsCall s (called_session s.now s.limits id k)
+    one None e = tt
+    one (Some k) e = e
 
-    by : (at : Option Connection) → find (in_phase is_connected_phase) s.connections ≡ at → IsOfItsCall s (choice_of at (λ c. called_session s.now s.limits c.id (call_in c.phase)))
-    by None e = tt
-    by (Some c) e = one c.id (call_in c.phase) (ap call_at (found_at (in_phase is_connected_phase) s.next s.connections c e o))
+may_start : (s : State) (c : Choice) → IsDistinct s → May s c → IsOfItsCall s c
+may_start s (Start id x) o m = by m.2
+  where
+    by : IsGuests s id x ⊎ IsCalls s id x → IsOfItsCall s (Start id x)
+    by (inl g) = guest_starts s id x o g
+    by (inr g) = call_starts s id x o g
+may_start s c o m = tt
 
 choice_starts : (s : State) → IsDistinct s → IsOfItsCall s (choice s)
-choice_starts s o =
-    let Q = IsOfItsCall s in
-    begun_choice Q (others s) s (guest_starts s o) (call_starts s o)
-    (of_any Q (λ c. Settle c.id (late s.now (limits_now s) c.door c.phase)) (find (is_late s.now) s.connections) tt (λ c. tt))
-    (dismissed_holds Q (others s) s s.course (λ id p. tt) (λ id. tt) (λ id. tt))
-    (of_any Q (λ c. Settle c.id (Leave Orphaned)) (find (is_orphan s.connections) s.connections) tt (λ c. tt))
-    (of_any Q (λ c. Settle c.id (Respond (answered s.now (limits_now s) c.door 0))) (find (is_to_tell s.connections) s.connections) tt (λ c. tt))
-    (of_any Q (λ c. choice_of (find (in_phase is_guest_phase) s.connections) (λ g. yield_for s.now c.id c.phase g.phase)) (find (in_phase is_between_phase) s.connections) tt
-    (λ c. of_any Q (λ g. yield_for s.now c.id c.phase g.phase) (find (in_phase is_guest_phase) s.connections) tt (λ g. for c.id c.phase g.phase)))
-  where
-    to : (id : ℕ) (x : Session) (t : ℕ) (w : Way) → IsOfItsCall s (yield_to s.now id x t w)
-    to id x t In = tt
-    to id x t (Out c) = tt
-    to id x t (Unanswered c k) = elim (is_to_yield s.now x c t) as (λ b. IsOfItsCall s (if b then Settle id (yielded c) else Nothing)) [ true ↦ tt | false ↦ tt ]
-
-    for : (id : ℕ) (p q : Phase) → IsOfItsCall s (yield_for s.now id p q)
-    for id (Between x) (Guest t) = to id x t x.way
-    for id p q = tt
+choice_starts s o = of_choice (IsOfItsCall s) s (whoever (IsOfItsCall s) s (λ id r. tt)) (λ c m. may_start s c o m)
 
 chosen_moves : (id : ℕ) (s : State) (c : Choice) → IsDistinct s → ChoiceFits s.connections c → IsOnceLess s c → IsOfItsCall s c → Moves id s (chosen s c)
 chosen_moves id s c o f l b = cases c f l b
@@ -767,10 +726,6 @@ one_after n s m o h i j y z = by (was i y) (was j z)
     by (inr (e, none)) (inl z) = absurd (none_of n j s.connections none z)
     by (inr (e, none)) (inr (f, none')) = sym e ∙ f
 
-always_one : (n : ℕ) (s : State) (ms : List Move) → IsDistinct s → IsOneOf n s.connections → IsOneOf n (run s ms).connections
-always_one n s [] o h = h
-always_one n s (m ∷ ms) o h = always_one n (step s m).0 ms (step_distinct s m o) (one_after n s m o h)
-
 counted_one : (n hi : ℕ) (cs : List Connection) → Distinct hi cs → IsOneOf n cs → how_many (is_clocks_call n) cs ≤ 1
 counted_one n hi [] o u = omega arith
 counted_one n hi (c ∷ cs) o u = by (counted_one n hi cs o.1.1) (is_by_clock n (call_in c.phase)) refl
@@ -802,4 +757,4 @@ counted_one n hi (c ∷ cs) o u = by (counted_one n hi cs o.1.1) (is_by_clock n 
 
 pub has_one_each : (l : Limits) (ms : List Move) → HasOneEach (run (start l) ms)
 has_one_each l ms n =
-    let s = run (start l) ms in counted_one n s.next s.connections (run_distinct (start l) ms tt) (always_one n (start l) ms tt (λ i j y z. cc))
+    let s = run (start l) ms in counted_one n s.next s.connections (run_distinct (start l) ms tt) (run_keeps (λ s. IsOneOf n s.connections) (one_after n) (start l) ms tt (λ i j y z. cc))

@@ -108,15 +108,13 @@ counted_edited t f k (c ∷ cs) =
 nothing : (k : ℕ) → k ≡ 0 → 0 + k ≡ 0
 nothing k e = omega arith
 
-pub none_found : (t : Phase → Bool) (cs : List Connection) → find (in_phase t) cs ≡ None → how_many t cs ≡ 0
-none_found t [] e = refl
-none_found t (c ∷ cs) e = cases (t c.phase) refl (λ h. none_found t cs h)
+pub none_any : (t : Connection → Bool) (cs : List Connection) → find t cs ≡ None → list_any t cs ≡ false
+none_any t [] f = refl
+none_any t (c ∷ cs) f = split (none_any t cs) (t c) f
   where
-    cases : (b : Bool) → t c.phase ≡ b → (find (in_phase t) cs ≡ None → how_many t cs ≡ 0) → one_if (t c.phase) + how_many t cs ≡ 0
-    cases true y again = let bad : Some c ≡ None = ap (λ b. cond b (Some c) (find (in_phase t) cs)) (sym y) ∙ e in cc
-    cases false n again =
-        let h = again (ap (λ b. cond b (Some c) (find (in_phase t) cs)) (sym n) ∙ e) in
-        ap (λ b. one_if b + how_many t cs) n ∙ nothing (how_many t cs) h
+    split : (find t cs ≡ None → list_any t cs ≡ false) → (b : Bool) → cond b (Some c) (find t cs) ≡ None → (b || list_any t cs) ≡ false
+    split more true f = cc
+    split more false f = more f
 
 pub not_any : (t : Phase → Bool) (cs : List Connection) → list_any (in_phase t) cs ≡ false → how_many t cs ≡ 0
 not_any t [] e = refl
@@ -127,3 +125,6 @@ not_any t (c ∷ cs) e = cases (t c.phase) refl (λ h. not_any t cs h)
     cases false n again =
         let h = again (ap (λ b. b || list_any (in_phase t) cs) (sym n) ∙ e) in
         ap (λ b. one_if b + how_many t cs) n ∙ nothing (how_many t cs) h
+
+pub none_found : (t : Phase → Bool) (cs : List Connection) → find (in_phase t) cs ≡ None → how_many t cs ≡ 0
+none_found t cs e = not_any t cs (none_any (in_phase t) cs e)

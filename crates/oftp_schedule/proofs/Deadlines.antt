@@ -1,5 +1,5 @@
 -- The next time is at most each deadline, nobody else moves one, and none is past where nothing is chosen, nor is the next time.
-use Rattle.std.proofs.Common.{inl, inr, ◌⊎◌, max, min, nat_le, nat_lt, subst, ◌≡◌, ◌≢◌, ℕ, ◌+◌, ◌-◌, ◌<◌, ◌==◌, ◌^◌, Bool, true, false, cond, ◌||◌, if◌then◌else◌, List, [], ◌∷◌, ◌++◌, Option, Some, None, map, filter, find, count_by, refl, ap, sym, ◌∙◌, arith}
+use Rattle.std.proofs.Common.{inl, inr, ◌⊎◌, max, min, nat_le, nat_lt, subst, ◌≡◌, ◌≢◌, ℕ, ◌+◌, ◌-◌, ◌<◌, ◌==◌, ◌^◌, Bool, true, false, cond, if◌then◌else◌, List, [], ◌∷◌, ◌++◌, Option, Some, None, map, filter, find, count_by, refl, ap, sym, ◌∙◌, arith}
 use Rattle.std.proofs.lemmas.Bool.Decides.{nat_tests, eqb_tells}
 use Rattle.std.specs.List.{list_any}
 use Rattle.oftp_schedule.specs.declared.connection.Door.{Door}
@@ -19,7 +19,7 @@ use Rattle.oftp_schedule.specs.declared.connection.Event.TheVariants.{Knock, Acc
 use Rattle.oftp_schedule.specs.declared.connection.Reason.TheVariants.{Evicted}
 use Rattle.oftp_schedule.specs.declared.connection.Action.TheVariants.{Accept}
 use Rattle.oftp_schedule.specs.declared.connection.Reply.{Reply}
-use Rattle.oftp_schedule.specs.declared.connection.Reply.TheVariants.{Stay, Become, Queue, Want, Respond, Refuse, Connect, Redial, Yield, Farewell, Leave, Break}
+use Rattle.oftp_schedule.specs.declared.connection.Reply.TheVariants.{Leave}
 use Rattle.oftp_schedule.specs.declared.connection.Choice.{Choice}
 use Rattle.oftp_schedule.specs.declared.connection.Choice.TheVariants.{Nothing, Finish, Settle, Admit, Inspect, Start, Proceed, Consult, Perform, Lend, Seek, Depart}
 use Rattle.oftp_schedule.specs.declared.connection.Gate.{Gate}
@@ -33,9 +33,12 @@ use Rattle.oftp_schedule.specs.declared.connection.Connection.{Connection}
 use Rattle.oftp_schedule.specs.Rules.{is_awaited, rule, due, is_over, is_late, late, hurried_phase, is_between_phase, is_guest_phase, is_arriving_phase, in_phase, is_ripe_phase, is_ripe, is_at, calls, ends_session, is_other, connection_at, phase_at, became, owed_phase, shared_phase}
 use Rattle.oftp_schedule.specs.Machine.{State, Turn, limits_now, with_next, with_connections, new_call, at_door, edited, after_session, replied, in_numbers, replied_at, places, gate, with_gate, knocked, first_phase, makes_room, evicted, accepted, accepted_at, rested, with_call, due_to, reviewed, received, is_to_yield, yielded, yield_to, way_given, is_knocked, choice, welcomed, chosen, Move, step, start, run, Tell, Ask, earlier, first_due, rest_over, to_come, clock_time, ripe_time, first_ripe, waits_for_room, yield_time, yield_time_of, time_of, way_time, consult, is_busy, quiet_until, quiet_time, next_time}
 use Rattle.oftp_schedule.specs.Deadlines.{AtMost, KnowsDeadlines, KnowsClock, KnowsRests, KnowsRoom, KnowsQuiet, KnowsWay, is_for, IsLeft, IsUnmovedBy, left_by, IsSpared, IsUnmoved, NoLater, IsKept, IsStill, IsOnTime, GivesWay, IsToCome}
-use Rattle.oftp_schedule.proofs.Numbers.{became_other, other_same, other_other, or_last, pushed, map_phase, edited_phase, Distinct-map, found, at_number}
-use Rattle.oftp_schedule.proofs.Fitting.{IsDistinct}
-use Rattle.oftp_schedule.proofs.Still.{nobody, stillness}
+use Rattle.oftp_schedule.proofs.Numbers.{or_last, pushed, map_phase, edited_phase, Distinct-map, at_number}
+use Rattle.oftp_schedule.proofs.Places.{found, became_other, other_same, other_other}
+use Rattle.oftp_schedule.proofs.Fitting.{IsDistinct, run_keeps}
+use Rattle.oftp_schedule.proofs.Still.{nobody, stillness, settle_something}
+use Rattle.oftp_schedule.proofs.Editing.{edit_holds, any_reply}
+use Rattle.oftp_schedule.proofs.Counting.{none_any}
 
 -- 1. The next time
 
@@ -93,14 +96,6 @@ of_others s u h = at_right u (first_due s.connections) (earlier (rests s) (other
 
 of_ways : (s : State) (u : ℕ) → AtMost u (ways s) → AtMost u (next_time s)
 of_ways s u h = of_others s u (at_right u (clock_time s.now s.clock) (earlier (waits_for_room s) (ways s)) (at_right u (waits_for_room s) (ways s) h))
-
-none_any : (t : Connection → Bool) (cs : List Connection) → find t cs ≡ None → list_any t cs ≡ false
-none_any t [] f = refl
-none_any t (c ∷ cs) f = split (none_any t cs) (t c) f
-  where
-    split : (find t cs ≡ None → list_any t cs ≡ false) → (b : Bool) → cond b (Some c) (find t cs) ≡ None → (b || list_any t cs) ≡ false
-    split more true f = cc
-    split more false f = more f
 
 pub knows_deadlines : (s : State) → KnowsDeadlines s
 knows_deadlines s id u p e d = at_left u (first_due s.connections) (earlier (rests s) (others s)) (first_due_least id s.connections p u e d)
@@ -163,7 +158,9 @@ is_kept p k v = (owed_due p, shared_due k p, hurried_due v p)
 
 -- a reply to another connection leaves this one's phase
 edited_other : (id : ℕ) (s : State) (c : Connection) (r : Reply) (p : Phase) → c.id ≢ id → phase_at id s.connections ≡ Some p → phase_at id (edited s c r) ≡ Some p
-edited_other id s c r p ne e = cases r
+edited_other id s c r p ne e =
+    edit_holds (λ cs. phase_at id cs ≡ Some p) (λ q. Unit {0}) s c e (λ q k. changed q) (λ q k. added (filter (is_other c.id) s.connections) (at_door c.id c.door q) gone)
+    (λ n. added (map (became c.id (Calling s.next)) s.connections) (at_door s.next Calls (Wanted (new_call s.limits n (By c.id)))) (changed (Calling s.next))) gone r (any_reply r)
   where
     changed : (q : Phase) → phase_at id (map (became c.id q) s.connections) ≡ Some p
     changed q = became_other c.id id q s.connections ne ∙ e
@@ -173,20 +170,6 @@ edited_other id s c r p ne e = cases r
 
     added : (cs : List Connection) (d : Connection) → phase_at id cs ≡ Some p → phase_at id (cs ++ d ∷ []) ≡ Some p
     added cs d h = pushed id cs d ∙ ap (λ o. or_last o (d.id == id) d.phase) h
-
-    cases : (r : Reply) → phase_at id (edited s c r) ≡ Some p
-    cases Stay = e
-    cases (Become q) = changed q
-    cases (Queue q) = added (filter (is_other c.id) s.connections) (at_door c.id c.door q) gone
-    cases (Want n) = added (map (became c.id (Calling s.next)) s.connections) (at_door s.next Calls (Wanted (new_call s.limits n (By c.id)))) (changed (Calling s.next))
-    cases (Respond q) = changed q
-    cases (Refuse q why) = changed q
-    cases (Connect q) = changed q
-    cases (Redial q) = changed q
-    cases (Yield q) = added (filter (is_other c.id) s.connections) (at_door c.id c.door q) gone
-    cases (Farewell q) = changed q
-    cases (Leave why) = gone
-    cases (Break why) = gone
 
 -- but for the rank that the end of a session gives a request
 abbrev Stays : Phase → Option Phase → Type 0
@@ -355,14 +338,11 @@ none_late now id (c ∷ cs) p f e = split (λ g h. none_late now id cs p g h) (i
     split more false l f true e = let q : c.phase ≡ p = cc in ap (λ x. is_over now (due x)) (sym q) ∙ l
     split more false l f false e = more f e
 
-settle_something : (id : ℕ) (r : Reply) → Settle id r ≢ Nothing
-settle_something id r e = cc
-
 pub on_time : (s : State) → IsOnTime s
 on_time s id u p still e d =
     let h = stillness s still.0 still.1 in
     let f = nobody (find (is_late s.now) s.connections) (λ c. Settle c.id (late s.now (limits_now s) c.door c.phase))
-    (λ c. settle_something c.id (late s.now (limits_now s) c.door c.phase)) h.expiry_is in
+    (λ c e. settle_something c.id (late s.now (limits_now s) c.door c.phase)) h.expiry_is in
     let l = none_late s.now id s.connections p f e in
     let l' : nat_le u s.now ≡ false = ap (is_over s.now) (sym d) ∙ l in
     grind (arith, nat_tests, l')
@@ -539,29 +519,16 @@ received_rest s (Over st) h = h
 chosen_rest : (s : State) (c : Choice) → DoorsRest s → DoorsRest (chosen s c).0
 chosen_rest s (Settle id r) h = replied_at_rest s (connection_at id s.connections) (λ c. r) h
 chosen_rest s (Admit d) h = elim (nat_lt s.next (2 ^ 63)) as (λ b. DoorsRest (if b then welcomed s d else (s, [])).0) [ true ↦ h | false ↦ h ]
-chosen_rest s Nothing h = h
-chosen_rest s (Finish st) h = h
-chosen_rest s Inspect h = h
-chosen_rest s (Start id x) h = h
-chosen_rest s (Proceed id x) h = h
-chosen_rest s (Consult id) h = h
-chosen_rest s (Perform id) h = h
-chosen_rest s (Lend id) h = h
-chosen_rest s (Seek id c) h = h
-chosen_rest s (Depart st) h = h
+chosen_rest s c h = h
 
 step_rest : (s : State) (m : Move) → DoorsRest s → DoorsRest (step s m).0
 step_rest s (Tell e) h = received_rest s e h
 step_rest s Ask h = chosen_rest s (choice s) h
 
-run_rest : (s : State) (ms : List Move) → DoorsRest s → DoorsRest (run s ms)
-run_rest s [] h = h
-run_rest s (m ∷ ms) h = run_rest (step s m).0 ms (step_rest s m h)
-
 to_come_of : (s : State) → DoorsRest s → IsToCome s
 to_come_of s h t still some small e =
     let f = nobody (find (is_late s.now) s.connections) (λ c. Settle c.id (late s.now (limits_now s) c.door c.phase))
-    (λ c. settle_something c.id (late s.now (limits_now s) c.door c.phase)) (stillness s still.0 still.1).expiry_is in
+    (λ c e. settle_something c.id (late s.now (limits_now s) c.door c.phase)) (stillness s still.0 still.1).expiry_is in
     let doors = ahead_earlier s.now (rest_over s.partners) (earlier (rest_over s.commands) (rest_over s.requests)) (h.0 some)
     (ahead_earlier s.now (rest_over s.commands) (rest_over s.requests) (h.1 some) (h.2 some)) in
     let way = ahead_earlier s.now (way_time s) (quiet_time s) (ahead_way s still small) (ahead_quiet s) in
@@ -574,4 +541,4 @@ to_come_of s h t still some small e =
     room = elim (is_knocked s.partners) as (λ b. IsAhead s.now (if b then first_ripe s.now s.connections else None)) [ true ↦ ahead_ripe s.now s.connections | false ↦ tt ]
 
 pub is_to_come : (l : Limits) (ms : List Move) → IsToCome (run (start l) ms)
-is_to_come l ms = to_come_of (run (start l) ms) (run_rest (start l) ms (λ k. tt, λ k. tt, λ k. tt))
+is_to_come l ms = to_come_of (run (start l) ms) (run_keeps DoorsRest (λ s m o h. step_rest s m h) (start l) ms tt (λ k. tt, λ k. tt, λ k. tt))

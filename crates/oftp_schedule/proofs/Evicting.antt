@@ -14,13 +14,13 @@ use Rattle.oftp_schedule.specs.declared.connection.Signal.TheVariants.{LetIn, Re
 use Rattle.oftp_schedule.specs.declared.connection.Event.{Event}
 use Rattle.oftp_schedule.specs.declared.connection.Event.TheVariants.{Knock, Accepted, Passed, Told, Due, Reviewed, Over}
 use Rattle.oftp_schedule.specs.declared.connection.Reason.{Reason}
-use Rattle.oftp_schedule.specs.declared.connection.Reason.TheVariants.{Evicted, Invalid, TimedOut, Stalled, Quit, Vanished, Finished, Unreached, Orphaned, Stopping}
+use Rattle.oftp_schedule.specs.declared.connection.Reason.TheVariants.{Evicted, TimedOut, Stalled, Finished, Unreached, Orphaned, Stopping}
 use Rattle.oftp_schedule.specs.declared.connection.Action.{Action}
 use Rattle.oftp_schedule.specs.declared.connection.Action.TheVariants.{Close, Part}
 use Rattle.oftp_schedule.specs.declared.connection.Reply.{Reply}
-use Rattle.oftp_schedule.specs.declared.connection.Reply.TheVariants.{Stay, Become, Queue, Want, Respond, Refuse, Connect, Redial, Yield, Farewell, Leave, Break}
+use Rattle.oftp_schedule.specs.declared.connection.Reply.TheVariants.{Want, Respond, Refuse, Redial, Yield, Farewell, Leave, Break}
 use Rattle.oftp_schedule.specs.declared.connection.Choice.{Choice}
-use Rattle.oftp_schedule.specs.declared.connection.Choice.TheVariants.{Nothing, Finish, Settle, Admit, Inspect, Start, Proceed, Consult, Perform, Lend, Seek, Depart}
+use Rattle.oftp_schedule.specs.declared.connection.Choice.TheVariants.{Settle, Admit}
 use Rattle.oftp_schedule.specs.declared.connection.Session.{Session}
 use Rattle.oftp_schedule.specs.declared.connection.Connection.{Connection}
 use Rattle.oftp_schedule.specs.declared.connection.Step.{Step}
@@ -31,66 +31,32 @@ use Rattle.oftp_schedule.specs.Doors.{evictions, number, leaver_by, leaver}
 use Rattle.oftp_schedule.proofs.Numbers.{at_number}
 use Rattle.oftp_schedule.proofs.Fitting.{IsDistinct, settles, Settles, ChoiceFits, choice_fits}
 
+abbrev is_evicted : Reason → Bool
+is_evicted Evicted = true
+is_evicted why = false
+
 abbrev pub is_eviction : Reply → Bool
-is_eviction (Leave Evicted) = true
-is_eviction (Break Evicted) = true
+is_eviction (Leave why) = is_evicted why
+is_eviction (Break why) = is_evicted why
 is_eviction r = false
 
 line_evicts : (id : ℕ) (why : Reason) (b : Bool) (rest : List Action) → evictions (line id why b ++ rest) ≡ evictions rest
 line_evicts id why true rest = refl
 line_evicts id why false rest = refl
 
-close_evicts : (id : ℕ) (why : Reason) → is_eviction (Leave why) ≡ false → evictions (Close id why ∷ []) ≡ []
+close_evicts : (id : ℕ) (why : Reason) → is_evicted why ≡ false → evictions (Close id why ∷ []) ≡ []
 close_evicts id Evicted h = cc
-close_evicts id Invalid h = refl
-close_evicts id TimedOut h = refl
-close_evicts id Stalled h = refl
-close_evicts id Quit h = refl
-close_evicts id Vanished h = refl
-close_evicts id Finished h = refl
-close_evicts id Unreached h = refl
-close_evicts id Orphaned h = refl
-close_evicts id Stopping h = refl
-
-break_evicts : (id : ℕ) (why : Reason) → is_eviction (Break why) ≡ false → evictions (Close id why ∷ []) ≡ []
-break_evicts id Evicted h = cc
-break_evicts id Invalid h = refl
-break_evicts id TimedOut h = refl
-break_evicts id Stalled h = refl
-break_evicts id Quit h = refl
-break_evicts id Vanished h = refl
-break_evicts id Finished h = refl
-break_evicts id Unreached h = refl
-break_evicts id Orphaned h = refl
-break_evicts id Stopping h = refl
+close_evicts id why h = refl
 
 orders_evict : (id : ℕ) (p : Phase) (r : Reply) → is_eviction r ≡ false → evictions (orders id p r) ≡ []
-orders_evict id p Stay h = refl
-orders_evict id p (Become q) h = refl
-orders_evict id p (Queue q) h = refl
-orders_evict id p (Want n) h = refl
-orders_evict id p (Respond q) h = refl
-orders_evict id p (Refuse q why) h = refl
-orders_evict id p (Connect q) h = refl
-orders_evict id p (Redial q) h = refl
-orders_evict id p (Yield q) h = refl
 orders_evict id p (Farewell q) h = line_evicts id Finished (has_line p) (Part id ∷ [])
 orders_evict id p (Leave why) h = line_evicts id why (leaves_line p why) (Close id why ∷ []) ∙ close_evicts id why h
-orders_evict id p (Break why) h = break_evicts id why h
+orders_evict id p (Break why) h = close_evicts id why h
+orders_evict id p r h = refl
 
 numbers_evict : (next : ℕ) (r : Reply) → is_eviction r ≡ false → is_eviction (in_numbers next r) ≡ false
 numbers_evict next (Want n) h = elim (nat_lt next (2 ^ 63)) as (λ b. is_eviction (if b then Want n else Leave Stopping) ≡ false) [ true ↦ refl | false ↦ refl ]
-numbers_evict next Stay h = h
-numbers_evict next (Become q) h = h
-numbers_evict next (Queue q) h = h
-numbers_evict next (Respond q) h = h
-numbers_evict next (Refuse q why) h = h
-numbers_evict next (Connect q) h = h
-numbers_evict next (Redial q) h = h
-numbers_evict next (Yield q) h = h
-numbers_evict next (Farewell q) h = h
-numbers_evict next (Leave why) h = h
-numbers_evict next (Break why) h = h
+numbers_evict next r h = h
 
 replied_at_evicts : (s : State) (at : Option Connection) (f : Connection → Reply) → ((c : Connection) → at ≡ Some c → is_eviction (f c) ≡ false) → evictions (replied_at s at f).1 ≡ []
 replied_at_evicts s None f k = refl
@@ -224,8 +190,6 @@ settled_evicts (Connected c u) (Leave Stopping) h = refl
 settled_evicts p r h = cc
 
 chosen_evicts : (s : State) (c : Choice) → IsDistinct s → ChoiceFits s.connections c → evictions (chosen s c).1 ≡ []
-chosen_evicts s Nothing o f = refl
-chosen_evicts s (Finish st) o f = refl
 chosen_evicts s (Settle id r) o f = replied_at_evicts s (connection_at id s.connections) (λ c. r) fits
   where
     fits : (c : Connection) → connection_at id s.connections ≡ Some c → is_eviction r ≡ false
@@ -237,14 +201,7 @@ chosen_evicts s (Admit d) o f = cases (nat_lt s.next (2 ^ 63))
     cases : (b : Bool) → evictions (let t : Turn = if b then welcomed s d else (s, []) in t.1) ≡ []
     cases true = refl
     cases false = refl
-chosen_evicts s Inspect o f = refl
-chosen_evicts s (Start id x) o f = refl
-chosen_evicts s (Proceed id x) o f = refl
-chosen_evicts s (Consult id) o f = refl
-chosen_evicts s (Perform id) o f = refl
-chosen_evicts s (Lend id) o f = refl
-chosen_evicts s (Seek id c) o f = refl
-chosen_evicts s (Depart st) o f = refl
+chosen_evicts s c o f = refl
 
 pub move_evicts : (s : State) (m : Move) → IsDistinct s → evictions (step s m).1 ≡ number (leaver s m)
 move_evicts s (Tell e) o = received_evicts s e

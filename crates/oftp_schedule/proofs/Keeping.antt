@@ -10,13 +10,14 @@ use Rattle.oftp_schedule.specs.declared.connection.Signal.{Signal}
 use Rattle.oftp_schedule.specs.declared.connection.Signal.TheVariants.{LetIn, Rejected, Asked, Wants, Waits, Ended, Done, Went, Ends, Lost, Resolved, Up, Failed}
 use Rattle.oftp_schedule.specs.declared.connection.Event.TheVariants.{Accepted, Told}
 use Rattle.oftp_schedule.specs.declared.connection.Reason.{Reason}
-use Rattle.oftp_schedule.specs.declared.connection.Reason.TheVariants.{Evicted, Invalid, TimedOut, Stalled, Quit, Vanished, Finished, Unreached, Orphaned, Stopping}
+use Rattle.oftp_schedule.specs.declared.connection.Reason.TheVariants.{TimedOut, Finished, Stopping}
 use Rattle.oftp_schedule.specs.declared.connection.Action.{Action}
 use Rattle.oftp_schedule.specs.declared.connection.Action.TheVariants.{Accept, Print, Close, Part, Answer, Decline, Begin, Hear, Cut, Look, Change, Copy, Resolve, Dial, HangUp}
 use Rattle.oftp_schedule.specs.declared.connection.Limits.{Limits}
 use Rattle.oftp_schedule.specs.Machine.{start, Move}
 use Rattle.oftp_schedule.specs.History.{Note, Heard, Ordered, history, watch}
-use Rattle.oftp_schedule.specs.Life.{Stage, Unbegun, Coming, Unjudged, Let_in, In_step, Between_steps, Deserted, Cut_off, Ending, Going, Leaving, Unread, Whole, In_hand, Carried_out, In_copy, Awaits_call, Has_answer, Seeking, Located, Ringing, Standing, Broken, entered, heard, printed, closed, denied, ordered, is_about, life, answers, declines, is_lost, is_ordered, is_told, times_ordered, times_told}
+use Rattle.oftp_schedule.specs.Life.{Stage, Unbegun, Coming, Unjudged, Let_in, In_step, Between_steps, Deserted, Cut_off, Going, Leaving, Unread, Whole, In_hand, Carried_out, In_copy, Awaits_call, Has_answer, Seeking, Located, Ringing, Standing, Broken, entered, heard, printed, closed, denied, ordered, is_about, life, answers, declines, is_lost, is_ordered, is_told, times_ordered, times_told}
+use Rattle.oftp_schedule.proofs.Cases.{each_reason}
 use Rattle.oftp_schedule.proofs.Numbers.{same}
 use Rattle.oftp_schedule.proofs.Lives.{watch-append}
 use Rattle.oftp_schedule.proofs.Tallies.{broken_closed, broken_note, may_be}
@@ -39,45 +40,18 @@ IsKept st k = (is_open st ≡ true) ⊎ ((1 ≤ k) ⊎ (st ≡ Broken))
 -- 1. One note
 
 open_printed : (why : Reason) (st : Stage) → is_open st ≡ true → printed why st ≡ Broken
-open_printed Quit (Ending Quit) h = cc
-open_printed Vanished (Ending Vanished) h = cc
-open_printed Finished (Ending Finished) h = cc
-open_printed Unreached (Ending Unreached) h = cc
-open_printed Evicted Unjudged h = cc
-open_printed TimedOut Unjudged h = cc
-open_printed TimedOut Standing h = cc
-open_printed Unreached Ringing h = cc
-open_printed TimedOut Cut_off h = cc
-open_printed Stalled Cut_off h = cc
-open_printed Quit Cut_off h = cc
-open_printed Stopping Cut_off h = cc
-open_printed why st h = refl
+open_printed why (Whole r) h = each_reason (λ why. printed why (Whole r) ≡ Broken) refl refl refl refl refl refl refl refl refl refl why
+open_printed why (In_hand r) h = each_reason (λ why. printed why (In_hand r) ≡ Broken) refl refl refl refl refl refl refl refl refl refl why
+open_printed why Carried_out h = each_reason (λ why. printed why Carried_out ≡ Broken) refl refl refl refl refl refl refl refl refl refl why
+open_printed why In_copy h = each_reason (λ why. printed why In_copy ≡ Broken) refl refl refl refl refl refl refl refl refl refl why
+open_printed why st h = cc
 
 open_closed : (why : Reason) (st : Stage) → is_open st ≡ true → closed why st ≡ Broken
-open_closed Evicted (Going Evicted) h = cc
-open_closed Invalid (Going Invalid) h = cc
-open_closed TimedOut (Going TimedOut) h = cc
-open_closed Stalled (Going Stalled) h = cc
-open_closed Quit (Going Quit) h = cc
-open_closed Vanished (Going Vanished) h = cc
-open_closed Finished (Going Finished) h = cc
-open_closed Unreached (Going Unreached) h = cc
-open_closed Stopping (Going Stopping) h = cc
-open_closed TimedOut Unread h = cc
-open_closed TimedOut Has_answer h = cc
-open_closed TimedOut Leaving h = cc
-open_closed Orphaned Unbegun h = cc
-open_closed Orphaned Ringing h = cc
-open_closed Orphaned Standing h = cc
-open_closed Stopping Unbegun h = cc
-open_closed Stopping Unjudged h = cc
-open_closed Stopping Let_in h = cc
-open_closed Stopping Unread h = cc
-open_closed Stopping Seeking h = cc
-open_closed Stopping Ringing h = cc
-open_closed Stopping Standing h = cc
-open_closed Stopping Awaits_call h = cc
-open_closed why st h = refl
+open_closed why (Whole r) h = each_reason (λ why. closed why (Whole r) ≡ Broken) refl refl refl refl refl refl refl refl refl refl why
+open_closed why (In_hand r) h = each_reason (λ why. closed why (In_hand r) ≡ Broken) refl refl refl refl refl refl refl refl refl refl why
+open_closed why Carried_out h = each_reason (λ why. closed why Carried_out ≡ Broken) refl refl refl refl refl refl refl refl refl refl why
+open_closed why In_copy h = each_reason (λ why. closed why In_copy ≡ Broken) refl refl refl refl refl refl refl refl refl refl why
+open_closed why st h = cc
 
 open_denied : (i : ℕ) (why : Reason) (st : Stage) (k : ℕ) → is_open st ≡ true → IsKept (denied why st) (k + (one (answers (Decline i why)) + (one (declines (Decline i why)) + 0)))
 open_denied i Stopping (Whole r) k h = inr (inl (omega arith))

@@ -1,5 +1,5 @@
 -- Nothing moves the begin and the end of a session, and once the station ends nothing gives an answer more time.
-use Rattle.std.proofs.Common.{inl, inr, subst, ◌≡◌, ℕ, zero, suc, ◌+◌, ◌==◌, ◌≤◌, ◌^◌, max, nat_lt, Bool, true, false, if◌then◌else◌, List, [], ◌∷◌, ◌++◌, Option, Some, None, map, filter, refl, ap, sym, ◌∙◌, arith}
+use Rattle.std.proofs.Common.{inl, inr, subst, ◌≡◌, ℕ, zero, suc, ◌+◌, ◌==◌, ◌≤◌, max, Bool, true, false, if◌then◌else◌, List, [], ◌∷◌, ◌++◌, Option, Some, None, map, filter, refl, ap, sym, ◌∙◌, arith}
 use Rattle.std.proofs.lemmas.Bool.Decides.{eqb_tells}
 use Rattle.oftp_schedule.specs.declared.connection.Door.{Door}
 use Rattle.oftp_schedule.specs.declared.connection.Door.TheVariants.{Partners, Commands, Requests, Calls}
@@ -16,22 +16,25 @@ use Rattle.oftp_schedule.specs.declared.connection.Signal.TheVariants.{Waits, En
 use Rattle.oftp_schedule.specs.declared.connection.Arrival.{Arrival}
 use Rattle.oftp_schedule.specs.declared.connection.Event.{Event}
 use Rattle.oftp_schedule.specs.declared.connection.Event.TheVariants.{Knock, Accepted, Passed, Told, Due, Reviewed, Over}
-use Rattle.oftp_schedule.specs.declared.connection.Reason.TheVariants.{Stopping}
 use Rattle.oftp_schedule.specs.declared.connection.Reply.{Reply}
-use Rattle.oftp_schedule.specs.declared.connection.Reply.TheVariants.{Stay, Become, Queue, Want, Respond, Refuse, Connect, Redial, Yield, Farewell, Leave, Break}
+use Rattle.oftp_schedule.specs.declared.connection.Reply.TheVariants.{Yield, Leave, Break}
 use Rattle.oftp_schedule.specs.declared.connection.Choice.{Choice}
-use Rattle.oftp_schedule.specs.declared.connection.Choice.TheVariants.{Nothing, Finish, Settle, Admit, Inspect, Start, Proceed, Consult, Perform, Lend, Seek, Depart}
+use Rattle.oftp_schedule.specs.declared.connection.Choice.TheVariants.{Finish, Settle, Start, Proceed, Consult, Perform, Lend, Seek}
 use Rattle.oftp_schedule.specs.declared.connection.Course.{Course}
 use Rattle.oftp_schedule.specs.declared.connection.Session.{Session}
 use Rattle.oftp_schedule.specs.declared.connection.Step.{Step}
 use Rattle.oftp_schedule.specs.declared.connection.Connection.{Connection}
 use Rattle.oftp_schedule.specs.declared.connection.Limits.{Limits}
+use Rattle.oftp_schedule.specs.declared.connection.Partner.{Partner}
+use Rattle.oftp_schedule.specs.declared.connection.Call.{Call}
 use Rattle.oftp_schedule.specs.Rules.{after_step, at_end, answering, answered_whole, went, rule, hurried_phase, is_arriving_phase, ends_session, is_other, connection_at, phase_at, became, owed_phase, shared_phase}
 use Rattle.oftp_schedule.specs.Machine.{State, is_ending, hasty, limits_in, limits_now, new_call, at_door, edited, after_session, replied, in_numbers, replied_at, accepted_at, received, choice, chosen, Move, step, Tell, Ask}
 use Rattle.oftp_schedule.specs.Deadlines.{session_of, KeepsEnds, IsHastened, is_of, is_for, IsLeft, left_by}
-use Rattle.oftp_schedule.proofs.Numbers.{same, differs, became_same, other_same, pushed, map_phase, edited_phase, at_number}
+use Rattle.oftp_schedule.proofs.Numbers.{same, differs, became_same, pushed, map_phase, edited_phase, at_number}
+use Rattle.oftp_schedule.proofs.Editing.{ReplyHolds, numbers_hold, edit_holds}
 use Rattle.oftp_schedule.proofs.Fitting.{IsDistinct, settles, Settles, begins, Begins, asks, Asks, ChoiceFits, choice_fits}
 use Rattle.oftp_schedule.proofs.Deadlines.{Spared, unmoved_by, chosen_spares}
+use Rattle.oftp_schedule.proofs.Places.{other_same}
 
 -- a session of this phase began and ends when x did and does
 abbrev SameEnds : Session → Option Session → Type 0
@@ -66,20 +69,6 @@ shared_keeps x k q h = h
 
 -- 1. A reply to its own connection
 
-abbrev ReplyHolds : (Phase → Type 0) → Reply → Type 0
-ReplyHolds K Stay = Unit {0}
-ReplyHolds K (Become q) = K q
-ReplyHolds K (Queue q) = K q
-ReplyHolds K (Want n) = Unit {0}
-ReplyHolds K (Respond q) = K q
-ReplyHolds K (Refuse q why) = K q
-ReplyHolds K (Connect q) = K q
-ReplyHolds K (Redial q) = K q
-ReplyHolds K (Yield q) = K q
-ReplyHolds K (Farewell q) = K q
-ReplyHolds K (Leave why) = Unit {0}
-ReplyHolds K (Break why) = Unit {0}
-
 abbrev ReplyKeeps : Session → Reply → Type 0
 ReplyKeeps x r = ReplyHolds (Keeps x) r
 
@@ -92,7 +81,7 @@ keeps_firm x = (λ i. tt, owed_keeps x)
 
 edited_holds : (K : Phase → Type 0) → IsFirm K → (s : State) (c : Connection) (r : Reply) → phase_at c.id s.connections ≡ Some c.phase → K c.phase → ReplyHolds K r
     → HoldsAt K (phase_at c.id (edited s c r))
-edited_holds K firm s c r e f k = cases r k
+edited_holds K firm s c r e f k = edit_holds (λ cs. HoldsAt K (phase_at c.id cs)) K s c same_phase set moved wants out r k
   where
     set : (q : Phase) → K q → HoldsAt K (phase_at c.id (map (became c.id q) s.connections))
     set q k = rw (became_same c.id q s.connections, e) k
@@ -103,24 +92,15 @@ edited_holds K firm s c r e f k = cases r k
     moved : (q : Phase) → K q → HoldsAt K (phase_at c.id (filter (is_other c.id) s.connections ++ at_door c.id c.door q ∷ []))
     moved q k = rw (pushed c.id (filter (is_other c.id) s.connections) (at_door c.id c.door q), other_same c.id s.connections, same c.id) k
 
-    cases : (r : Reply) → ReplyHolds K r → HoldsAt K (phase_at c.id (edited s c r))
-    cases Stay k = rw e f
-    cases (Become q) k = set q k
-    cases (Queue q) k = moved q k
-    cases (Want n) k = rw (
+    wants : (n : Partner) → HoldsAt K (phase_at c.id (map (became c.id (Calling s.next)) s.connections ++ at_door s.next Calls (Wanted (new_call s.limits n (By c.id))) ∷ []))
+    wants n = rw (
       pushed c.id (map (became c.id (Calling s.next)) s.connections) (at_door s.next Calls (Wanted (new_call s.limits n (By c.id)))),
-      became_same c.id
-          (Calling s.next) s.connections,
+      became_same c.id (Calling s.next) s.connections,
       e,
     ) (firm.0 s.next)
-    cases (Respond q) k = set q k
-    cases (Refuse q why) k = set q k
-    cases (Connect q) k = set q k
-    cases (Redial q) k = set q k
-    cases (Yield q) k = moved q k
-    cases (Farewell q) k = set q k
-    cases (Leave why) k = out
-    cases (Break why) k = out
+
+    same_phase : HoldsAt K (phase_at c.id s.connections)
+    same_phase = rw e f
 
 after_holds : (K : Phase → Type 0) → IsFirm K → (b : Bool) (id : ℕ) (cs : List Connection) → HoldsAt K (phase_at id cs) → HoldsAt K (phase_at id (after_session b cs))
 after_holds K firm true id cs h = rw (edited_phase owed_phase id cs) (less (phase_at id cs) h)
@@ -129,10 +109,6 @@ after_holds K firm true id cs h = rw (edited_phase owed_phase id cs) (less (phas
     less None h = tt
     less (Some q) h = firm.1 q h
 after_holds K firm false id cs h = h
-
-numbers_hold : (K : Phase → Type 0) (next : ℕ) (r : Reply) → ReplyHolds K r → ReplyHolds K (in_numbers next r)
-numbers_hold K next (Want n) k = elim (nat_lt next (2 ^ 63)) as (λ b. ReplyHolds K (if b then Want n else Leave Stopping)) [ true ↦ tt | false ↦ tt ]
-numbers_hold K next r k = k
 
 replied_holds : (K : Phase → Type 0) → IsFirm K → (id : ℕ) (s : State) (at : Option Connection) (f : Connection → Reply) (p : Phase) → connection_at id s.connections ≡ at
     → phase_at id s.connections ≡ Some p → K p → ((c : Connection) → c.phase ≡ p → ReplyHolds K (f c)) → HoldsAt K (phase_at id (replied_at s at f).0.connections)
@@ -263,70 +239,82 @@ asks_none r p x e h = cc
 left_by_keeps : (s : State) (c : Choice) (p : Phase) (x : Session) → session_of p ≡ Some x → Keeps x (left_by s c p)
 left_by_keeps s (Finish st) p x e = hurried_keeps x (s.now + s.limits.farewell) p (itself p x e)
 left_by_keeps s (Consult i) p x e = shared_keeps x s.limits.share p (itself p x e)
-left_by_keeps s Nothing p x e = itself p x e
-left_by_keeps s (Settle i r) p x e = itself p x e
-left_by_keeps s (Admit d) p x e = itself p x e
-left_by_keeps s Inspect p x e = itself p x e
-left_by_keeps s (Start i y) p x e = itself p x e
-left_by_keeps s (Proceed i y) p x e = itself p x e
-left_by_keeps s (Perform i) p x e = itself p x e
-left_by_keeps s (Lend i) p x e = itself p x e
-left_by_keeps s (Seek i c) p x e = itself p x e
-left_by_keeps s (Depart st) p x e = itself p x e
+left_by_keeps s c p x e = itself p x e
 
-spared_keeps : (s : State) (c : Choice) (p : Phase) (x : Session) (o : Option Phase) → session_of p ≡ Some x → Spared s c p o → KeepsAt x o
-spared_keeps s c p x o e (inl f) = rw f (left_by_keeps s c p x e)
-spared_keeps s c p x o e (inr f) = rw f (owed_keeps x p (itself p x e))
+-- K holds of the phase p of one who is there, and of whatever is chosen for it
+record Lasts (K : Phase → Type 0) (s : State) (p : Phase) : Type 0 where
+  firm : IsFirm K
+  own : K p
+  left : (c : Choice) → K (left_by s c p)
+  settled : (r : Reply) → settles p r ≡ true → ReplyHolds K r
+  not_begun : begins p ≡ true → ⊥
+  not_asked : (r : Request) → asks r p ≡ true → ⊥
+  proceeds : (y : Session) → Between y ≡ p → K (Stepping y)
+  not_wanted : (c : Call) → Wanted c ≡ p → ⊥
 
-chosen_keeps : (id : ℕ) (s : State) (c : Choice) (p : Phase) (x : Session) → ChoiceFits s.connections c → phase_at id s.connections ≡ Some p → session_of p ≡ Some x
-    → KeepsAt x (phase_at id (chosen s c).0.connections)
-chosen_keeps id s c p x fit f g = cases c fit
+spared_holds : (K : Phase → Type 0) → IsFirm K → (s : State) (c : Choice) (p : Phase) (o : Option Phase) → K p → K (left_by s c p) → Spared s c p o → HoldsAt K o
+spared_holds K firm s c p o k l (inl f) = rw f l
+spared_holds K firm s c p o k l (inr f) = rw f (firm.1 p k)
+
+chosen_holds : (K : Phase → Type 0) (id : ℕ) (s : State) (c : Choice) (p : Phase) → Lasts K s p → ChoiceFits s.connections c → phase_at id s.connections ≡ Some p
+    → HoldsAt K (phase_at id (chosen s c).0.connections)
+chosen_holds K id s c p h fit f = cases c fit
   where
-    another : (c : Choice) → is_for id c ≡ false → KeepsAt x (phase_at id (chosen s c).0.connections)
-    another c n = spared_keeps s c p x (phase_at id (chosen s c).0.connections) g (chosen_spares id s c p n f)
+    After : Choice → Type 0
+    After c = HoldsAt K (phase_at id (chosen s c).0.connections)
 
-    -- it is chosen for another, or for it, which has a session
-    either_way : (i : ℕ) (c : ℕ → Choice) → ((j : ℕ) → is_for id (c j) ≡ (j == id)) → (i ≡ id → KeepsAt x (phase_at id (chosen s (c i)).0.connections))
-        → KeepsAt x (phase_at id (chosen s (c i)).0.connections)
-    either_way i c k own = elim (eqb_tells i id) as (λ _. KeepsAt x (phase_at id (chosen s (c i)).0.connections)) [
-      | inl y ↦ own y.1
-      | inr n ↦ another (c i) (k i ∙ differs i id n.1)
-    ]
+    another : (c : Choice) → is_for id c ≡ false → After c
+    another c n = spared_holds K h.firm s c p (phase_at id (chosen s c).0.connections) h.own (h.left c) (chosen_spares id s c p n f)
+
+    -- it is chosen for another, or for it
+    either_way : (i : ℕ) (c : ℕ → Choice) → ((j : ℕ) → is_for id (c j) ≡ (j == id)) → (i ≡ id → After (c i)) → After (c i)
+    either_way i c k own = elim (eqb_tells i id) as (λ _. After (c i)) [ inl y ↦ own y.1 | inr n ↦ another (c i) (k i ∙ differs i id n.1) ]
 
     there : (i : ℕ) → i ≡ id → phase_at i s.connections ≡ Some p
     there i e = ap (λ j. phase_at j s.connections) e ∙ f
 
-    begun : (i : ℕ) (y : Session) → Begins (phase_at i s.connections) → i ≡ id → KeepsAt x (phase_at id (chosen s (Start i y)).0.connections)
-    begun i y fit e = let h : begins p ≡ true = subst Begins (there i e) fit in absurd (begins_none p x g h)
+    begun : (i : ℕ) → Begins (phase_at i s.connections) → i ≡ id → ⊥
+    begun i fit e = let b : begins p ≡ true = subst Begins (there i e) fit in h.not_begun b
 
     asked : (r : Request) (i : ℕ) → Asks r (phase_at i s.connections) → i ≡ id → ⊥
-    asked r i fit e = let h : asks r p ≡ true = subst (Asks r) (there i e) fit in asks_none r p x g h
+    asked r i fit e = let a : asks r p ≡ true = subst (Asks r) (there i e) fit in h.not_asked r a
 
-    cases : (c : Choice) → ChoiceFits s.connections c → KeepsAt x (phase_at id (chosen s c).0.connections)
+    cases : (c : Choice) → ChoiceFits s.connections c → After c
     cases (Settle i r) fit = either_way i (λ j. Settle j r) (λ j. refl) (λ e.
-        let h : settles p r ≡ true = subst (λ o. Settles o r) (there i e) fit in
-        subst (λ (j : ℕ). KeepsAt x (phase_at id (chosen s (Settle j r)).0.connections)) (sym e)
-        (replied_keeps id s (connection_at id s.connections) (λ c. r) p x refl f g (λ c q. settled_keeps p r x g h)))
-    cases (Start i y) fit = either_way i (λ j. Start j y) (λ j. refl) (begun i y fit)
+        let k : settles p r ≡ true = subst (λ o. Settles o r) (there i e) fit in
+        subst (λ (j : ℕ). After (Settle j r)) (sym e)
+        (replied_holds K h.firm id s (connection_at id s.connections) (λ c. r) p refl f h.own (λ c q. h.settled r k)))
+    cases (Start i y) fit = either_way i (λ j. Start j y) (λ j. refl) (λ e. absurd (begun i fit e))
     cases (Proceed i y) fit = either_way i (λ j. Proceed j y) (λ j. refl) (λ e.
         let same_phase : Some (Between y) ≡ Some p = sym fit ∙ there i e in
         let q : Between y ≡ p = cc in
-        let is : Some y ≡ Some x = ap session_of q ∙ g in
-        let z : y ≡ x = cc in
-        let own : KeepsAt x (phase_at id (map (became id (Stepping y)) s.connections)) = rw (became_same id (Stepping y) s.connections, f, z) (refl, refl) in
-        subst (λ (j : ℕ). KeepsAt x (phase_at id (map (became j (Stepping y)) s.connections))) (sym e) own)
+        let own : HoldsAt K (phase_at id (map (became id (Stepping y)) s.connections)) = rw (became_same id (Stepping y) s.connections, f) (h.proceeds y q) in
+        subst (λ (j : ℕ). HoldsAt K (phase_at id (map (became j (Stepping y)) s.connections))) (sym e) own)
     cases (Consult i) fit = either_way i Consult (λ j. refl) (λ e. absurd (asked Query i fit e))
     cases (Perform i) fit = either_way i Perform (λ j. refl) (λ e. absurd (asked Update i fit e))
     cases (Lend i) fit = either_way i Lend (λ j. refl) (λ e. absurd (asked Backup i fit e))
     cases (Seek i c) fit = either_way i (λ j. Seek j c) (λ j. refl) (λ e.
         let same_phase : Some (Wanted c) ≡ Some p = sym fit ∙ there i e in
-        let q : Wanted c ≡ p = cc in
-        let bad : None ≡ Some x = ap session_of q ∙ g in cc)
-    cases Nothing fit = another Nothing refl
-    cases (Finish st) fit = another (Finish st) refl
-    cases (Admit d) fit = another (Admit d) refl
-    cases Inspect fit = another Inspect refl
-    cases (Depart st) fit = another (Depart st) refl
+        let q : Wanted c ≡ p = cc in absurd (h.not_wanted c q))
+    cases c fit = another c refl
+
+keeps_lasts : (s : State) (p : Phase) (x : Session) → session_of p ≡ Some x → Lasts (Keeps x) s p
+keeps_lasts s p x g = record {
+  firm = keeps_firm x;
+  own = itself p x g;
+  left = λ c. left_by_keeps s c p x g;
+  settled = λ r h. settled_keeps p r x g h;
+  not_begun = λ h. begins_none p x g h;
+  not_asked = λ r h. asks_none r p x g h;
+  proceeds = λ y q.
+      let is : Some y ≡ Some x = ap session_of q ∙ g in
+      let z : y ≡ x = cc in (ap (λ (v : Session). v.begun) z, ap (λ (v : Session). v.ends) z);
+  not_wanted = λ c q. let bad : None ≡ Some x = ap session_of q ∙ g in cc;
+}
+
+chosen_keeps : (id : ℕ) (s : State) (c : Choice) (p : Phase) (x : Session) → ChoiceFits s.connections c → phase_at id s.connections ≡ Some p → session_of p ≡ Some x
+    → KeepsAt x (phase_at id (chosen s c).0.connections)
+chosen_keeps id s c p x fit f g = chosen_holds (Keeps x) id s c p (keeps_lasts s p x g) fit f
 
 pub keeps_ends : (s : State) (m : Move) → IsDistinct s → KeepsEnds s m
 keeps_ends s m o id p q x y e f g h = ends m g
@@ -390,68 +378,28 @@ settled_by u o b r h = cc
 
 left_by_by : (s : State) (c : Choice) (u o : ℕ) → IsBy (max u s.now) (left_by s c (Answered u o))
 left_by_by s (Finish st) u o = omega arith
-left_by_by s (Consult i) u o = omega arith
-left_by_by s Nothing u o = omega arith
-left_by_by s (Settle i r) u o = omega arith
-left_by_by s (Admit d) u o = omega arith
-left_by_by s Inspect u o = omega arith
-left_by_by s (Start i y) u o = omega arith
-left_by_by s (Proceed i y) u o = omega arith
-left_by_by s (Perform i) u o = omega arith
-left_by_by s (Lend i) u o = omega arith
-left_by_by s (Seek i c) u o = omega arith
-left_by_by s (Depart st) u o = omega arith
+left_by_by s c u o = omega arith
 
-spared_by : (s : State) (c : Choice) (u o : ℕ) (at : Option Phase) → Spared s c (Answered u o) at → HoldsAt (IsBy (max u s.now)) at
-spared_by s c u o at (inl f) = rw f (left_by_by s c u o)
-spared_by s c u o at (inr f) = let le : u ≤ max u s.now = omega arith in rw f le
+by_lasts : (s : State) (u o : ℕ) → Lasts (IsBy (max u s.now)) s (Answered u o)
+by_lasts s u o = record {
+  firm = by_firm (max u s.now);
+  own = omega arith;
+  left = λ c. left_by_by s c u o;
+  settled = λ r h. settled_by u o (max u s.now) r h;
+  not_begun = λ h. cc;
+  not_asked = no;
+  proceeds = λ y q. tt;
+  not_wanted = λ c q. cc;
+}
+  where
+    no : (r : Request) → asks r (Answered u o) ≡ true → ⊥
+    no Query h = cc
+    no Update h = cc
+    no Backup h = cc
 
 chosen_by : (id : ℕ) (s : State) (c : Choice) (u o : ℕ) → ChoiceFits s.connections c → phase_at id s.connections ≡ Some (Answered u o)
     → HoldsAt (IsBy (max u s.now)) (phase_at id (chosen s c).0.connections)
-chosen_by id s c u o fit f = cases c fit
-  where
-    After : Choice → Type 0
-    After c = HoldsAt (IsBy (max u s.now)) (phase_at id (chosen s c).0.connections)
-
-    another : (c : Choice) → is_for id c ≡ false → After c
-    another c n = spared_by s c u o (phase_at id (chosen s c).0.connections) (chosen_spares id s c (Answered u o) n f)
-
-    -- it is chosen for another, or for it, which has an answer
-    either_way : (i : ℕ) (c : ℕ → Choice) → ((j : ℕ) → is_for id (c j) ≡ (j == id)) → (i ≡ id → After (c i)) → After (c i)
-    either_way i c k own = elim (eqb_tells i id) as (λ _. After (c i)) [ inl y ↦ own y.1 | inr n ↦ another (c i) (k i ∙ differs i id n.1) ]
-
-    there : (i : ℕ) → i ≡ id → phase_at i s.connections ≡ Some (Answered u o)
-    there i e = ap (λ j. phase_at j s.connections) e ∙ f
-
-    not_begun : (i : ℕ) → Begins (phase_at i s.connections) → i ≡ id → ⊥
-    not_begun i fit e = let h : begins (Answered u o) ≡ true = subst Begins (there i e) fit in cc
-
-    not_asked : (r : Request) (i : ℕ) → Asks r (phase_at i s.connections) → i ≡ id → ⊥
-    not_asked r i fit e = no r (subst (Asks r) (there i e) fit)
-      where
-        no : (r : Request) → asks r (Answered u o) ≡ true → ⊥
-        no Query h = cc
-        no Update h = cc
-        no Backup h = cc
-
-    cases : (c : Choice) → ChoiceFits s.connections c → After c
-    cases (Settle i r) fit = either_way i (λ j. Settle j r) (λ j. refl) (λ e.
-        let h : settles (Answered u o) r ≡ true = subst (λ o. Settles o r) (there i e) fit in
-        let b = max u s.now in
-        let le : u ≤ b = omega arith in
-        subst (λ (j : ℕ). After (Settle j r)) (sym e)
-        (replied_holds (IsBy b) (by_firm b) id s (connection_at id s.connections) (λ c. r) (Answered u o) refl f le (λ c q. settled_by u o b r h)))
-    cases (Start i y) fit = either_way i (λ j. Start j y) (λ j. refl) (λ e. absurd (not_begun i fit e))
-    cases (Proceed i y) fit = either_way i (λ j. Proceed j y) (λ j. refl) (λ e. let bad : Some (Between y) ≡ Some (Answered u o) = sym fit ∙ there i e in cc)
-    cases (Consult i) fit = either_way i Consult (λ j. refl) (λ e. absurd (not_asked Query i fit e))
-    cases (Perform i) fit = either_way i Perform (λ j. refl) (λ e. absurd (not_asked Update i fit e))
-    cases (Lend i) fit = either_way i Lend (λ j. refl) (λ e. absurd (not_asked Backup i fit e))
-    cases (Seek i c) fit = either_way i (λ j. Seek j c) (λ j. refl) (λ e. let bad : Some (Wanted c) ≡ Some (Answered u o) = sym fit ∙ there i e in cc)
-    cases Nothing fit = another Nothing refl
-    cases (Finish st) fit = another (Finish st) refl
-    cases (Admit d) fit = another (Admit d) refl
-    cases Inspect fit = another Inspect refl
-    cases (Depart st) fit = another (Depart st) refl
+chosen_by id s c u o fit f = chosen_holds (IsBy (max u s.now)) id s c (Answered u o) (by_lasts s u o) fit f
 
 pub is_hastened : (s : State) (m : Move) → IsDistinct s → IsHastened s m
 is_hastened s m w id u v o k n f g = by_move m g

@@ -12,7 +12,10 @@ pub mod Lives
 pub mod Tallies
 pub mod Keeping
 pub mod Still
-pub mod Settled
+pub mod Cases
+pub mod Editing
+pub mod Choices
+pub mod Events
 pub mod Yielding
 pub mod Timely
 pub mod Deadlines

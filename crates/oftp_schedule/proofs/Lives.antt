@@ -38,8 +38,8 @@ use Rattle.oftp_schedule.specs.Rules.{at_end, after_step, went, rule, line, has_
 use Rattle.oftp_schedule.specs.Machine.{State, Turn, with_connections, limits_now, new_call, at_door, edited, after_session, numbers, replied, in_numbers, replied_at, places, gate, with_gate, knocked, first_phase, makes_room, evicted, accepted, accepted_at, with_call, due_to, reviewed, received, choice, welcomed, chosen, start, Move, run, Tell, Ask}
 use Rattle.oftp_schedule.specs.History.{Note, Heard, Ordered, history, watch}
 use Rattle.oftp_schedule.specs.Life.{Stage, Unbegun, Coming, Between_steps, Awaits_call, Has_answer, Closed, Broken, entered, heard, closed, ordered, life, stage_in, stage_from, stage_of}
-use Rattle.oftp_schedule.proofs.Numbers.{Distinct, Distinct-map, known, found, at_number}
-use Rattle.oftp_schedule.proofs.Places.{map_found, mapped, became_here, became_elsewhere, moved_here, removed, removed_elsewhere, or_at_end, pushed_at, pushed_elsewhere, unborn_at, phase_of, phase_found, found_at}
+use Rattle.oftp_schedule.proofs.Numbers.{Distinct, Distinct-map, known, at_number}
+use Rattle.oftp_schedule.proofs.Places.{map_found, mapped, became_here, became_elsewhere, moved_here, removed, removed_elsewhere, or_at_end, pushed_at, pushed_elsewhere, unborn_at, phase_of, phase_found, found_at, found}
 use Rattle.oftp_schedule.proofs.Fitting.{IsDistinct, received_distinct, chosen_distinct, settles, Settles, Begins, Asks, ChoiceFits, choice_fits}
 
 -- what these actions do to the life of id is what they do to its place in the table

@@ -4,7 +4,7 @@ use Rattle.std.proofs.lemmas.Bool.Decides.{nat_tests}
 use Rattle.oftp_schedule.specs.declared.connection.Door.{Door}
 use Rattle.oftp_schedule.specs.declared.connection.Phase.{Phase}
 use Rattle.oftp_schedule.specs.declared.connection.Connection.{Connection}
-use Rattle.oftp_schedule.specs.Rules.{is_other, connection_at, phase_at, became}
+use Rattle.oftp_schedule.specs.Rules.{connection_at, phase_at, became}
 use Rattle.oftp_schedule.specs.Machine.{at_door}
 
 -- each number is below hi, and none stands twice
@@ -27,18 +27,6 @@ became_same id q [] = refl
 became_same id q (c ∷ cs) =
     elim (c.id == id) as (λ b. cond b (Some (cond b q c.phase)) (phase_at id (map (became id q) cs)) ≡ set_to q (cond b (Some c.phase) (phase_at id cs)))
     [ true ↦ refl | false ↦ became_same id q cs ]
-
-pub became_other : (i id : ℕ) (q : Phase) (cs : List Connection) → i ≢ id → phase_at id (map (became i q) cs) ≡ phase_at id cs
-became_other i id q [] ne = refl
-became_other i id q (c ∷ cs) ne = let h = became_other i id q cs ne in grind (arith, nat_tests, h)
-
-pub other_same : (id : ℕ) (cs : List Connection) → phase_at id (filter (is_other id) cs) ≡ None
-other_same id [] = refl
-other_same id (c ∷ cs) = let h = other_same id cs in grind (arith, nat_tests, h)
-
-pub other_other : (i id : ℕ) (cs : List Connection) → i ≢ id → phase_at id (filter (is_other i) cs) ≡ phase_at id cs
-other_other i id [] ne = refl
-other_other i id (c ∷ cs) ne = let h = other_other i id cs ne in grind (arith, nat_tests, h)
 
 -- the phase in the list, else that of the connection at its end
 abbrev pub or_last : Option Phase → Bool → Phase → Option Phase
@@ -139,32 +127,14 @@ known id hi cs p h o =
     let none : hi ≤ id → phase_at id cs ≡ None = λ l. above_none id hi cs l o in
     grind (arith, nat_tests, none, h)
 
--- the one that is found first is the one of its number
-pub found : (t : Connection → Bool) (hi : ℕ) (cs : List Connection) (d : Connection) → find t cs ≡ Some d → Distinct hi cs → (phase_at d.id cs ≡ Some d.phase) × (t d ≡ true)
-found t hi [] d f o = cc
-found t hi (c ∷ cs) d f o =
-    let P : Type 0 = (phase_at d.id (c ∷ cs) ≡ Some d.phase) × (t d ≡ true) in
-    let yes : t c ≡ true → c ≡ d → P = λ p e. subst (λ (d : Connection). (phase_at d.id (c ∷ cs) ≡ Some d.phase) × (t d ≡ true)) e (at_head c cs, p) in
-    let no : t c ≡ false → find t cs ≡ Some d → P =
-    λ _ g. let h = found t hi cs d g o.1.1 in (past c cs d h.0 o.1.0, h.1)
-    in
-    split (t c) (find t cs) c d f P yes no
+-- who is found passes the test
+pub passes : (t : Connection → Bool) (cs : List Connection) (c : Connection) → find t cs ≡ Some c → t c ≡ true
+passes t [] c f = cc
+passes t (d ∷ cs) c f = split (passes t cs c) (t d) refl f
   where
-    at_head : (c : Connection) (cs : List Connection) → phase_at c.id (c ∷ cs) ≡ Some c.phase
-    at_head c cs = grind (arith, nat_tests)
-
-    past : (c : Connection) (cs : List Connection) (d : Connection) → phase_at d.id cs ≡ Some d.phase → phase_at c.id cs ≡ None → phase_at d.id (c ∷ cs) ≡ Some d.phase
-    past c cs d h low = by (c.id == d.id) refl
-      where
-        by : (b : Bool) → (c.id == d.id) ≡ b → phase_at d.id (c ∷ cs) ≡ Some d.phase
-        by true y =
-            let q : c.id ≡ d.id = grind (arith, nat_tests, y) in
-            let bad : Some d.phase ≡ None = sym h ∙ ap (λ i. phase_at i cs) (sym q) ∙ low in cc
-        by false n = ap (λ b. cond b (Some c.phase) (phase_at d.id cs)) n ∙ h
-
-    split : (b : Bool) (o : Option Connection) (c d : Connection) → cond b (Some c) o ≡ Some d → (P : Type 0) → (b ≡ true → c ≡ d → P) → (b ≡ false → o ≡ Some d → P) → P
-    split true o c d e P onto past_it = onto refl (cc)
-    split false o c d e P onto past_it = past_it refl e
+    split : (find t cs ≡ Some c → t c ≡ true) → (b : Bool) → t d ≡ b → cond b (Some d) (find t cs) ≡ Some c → t c ≡ true
+    split more true y f = let q : d ≡ c = cc in ap t (sym q) ∙ y
+    split more false n f = more f
 
 -- the connection with a number, and its phase
 pub at_number : (id : ℕ) (cs : List Connection) (c : Connection) → connection_at id cs ≡ Some c → (c.id ≡ id) × (phase_at id cs ≡ Some c.phase)
@@ -179,11 +149,3 @@ at_number id (d ∷ cs) c e = cases (λ h. at_number id cs c h) (d.id == id) ref
         subst (λ (x : Connection). (x.id ≡ id) × (phase_at id (d ∷ cs) ≡ Some x.phase)) q (i, ap (λ b. cond b (Some d.phase) (phase_at id cs)) y)
     cases again false n e =
         let h = again e in (h.0, ap (λ b. cond b (Some d.phase) (phase_at id cs)) n ∙ h.1)
-
-pub no_number : (id : ℕ) (cs : List Connection) → connection_at id cs ≡ None → phase_at id cs ≡ None
-no_number id [] e = refl
-no_number id (d ∷ cs) e = cases (λ h. no_number id cs h) (d.id == id) refl e
-  where
-    cases : (connection_at id cs ≡ None → phase_at id cs ≡ None) → (b : Bool) → (d.id == id) ≡ b → cond b (Some d) (connection_at id cs) ≡ None → phase_at id (d ∷ cs) ≡ None
-    cases again true y e = cc
-    cases again false n e = ap (λ b. cond b (Some d.phase) (phase_at id cs)) n ∙ again e

@@ -5,7 +5,7 @@ use Rattle.oftp_schedule.specs.declared.connection.Phase.{Phase}
 use Rattle.oftp_schedule.specs.declared.connection.Connection.{Connection}
 use Rattle.oftp_schedule.specs.Rules.{is_other, connection_at, phase_at, became}
 use Rattle.oftp_schedule.specs.Machine.{at_door}
-use Rattle.oftp_schedule.proofs.Numbers.{Distinct, same, above_none, at_number}
+use Rattle.oftp_schedule.proofs.Numbers.{Distinct, same, above_none, passes, at_number}
 
 -- its phase
 abbrev pub phase_of : Option Connection → Option Phase
@@ -17,6 +17,9 @@ phase_found id [] = refl
 phase_found id (c ∷ cs) =
     elim (c.id == id) as (λ b. cond b (Some c.phase) (phase_at id cs) ≡ phase_of (cond b (Some c) (connection_at id cs)))
     [ true ↦ refl | false ↦ phase_found id cs ]
+
+pub no_number : (id : ℕ) (cs : List Connection) → connection_at id cs ≡ None → phase_at id cs ≡ None
+no_number id cs e = phase_found id cs ∙ ap phase_of e
 
 pub absent : (id : ℕ) (cs : List Connection) → phase_at id cs ≡ None → connection_at id cs ≡ None
 absent id cs e = cases (connection_at id cs) (sym (phase_found id cs) ∙ e)
@@ -55,6 +58,19 @@ removed id (c ∷ cs) = let h = removed id cs in grind (arith, nat_tests, h)
 pub removed_elsewhere : (i id : ℕ) (cs : List Connection) → i ≢ id → connection_at id (filter (is_other i) cs) ≡ connection_at id cs
 removed_elsewhere i id [] ne = refl
 removed_elsewhere i id (c ∷ cs) ne = let h = removed_elsewhere i id cs ne in grind (arith, nat_tests, h)
+
+-- so its phase is as it was
+same_phase : (id : ℕ) (cs ds : List Connection) → connection_at id ds ≡ connection_at id cs → phase_at id ds ≡ phase_at id cs
+same_phase id cs ds e = phase_found id ds ∙ ap phase_of e ∙ sym (phase_found id cs)
+
+pub became_other : (i id : ℕ) (q : Phase) (cs : List Connection) → i ≢ id → phase_at id (map (became i q) cs) ≡ phase_at id cs
+became_other i id q cs ne = same_phase id cs (map (became i q) cs) (became_elsewhere i id q cs ne)
+
+pub other_same : (id : ℕ) (cs : List Connection) → phase_at id (filter (is_other id) cs) ≡ None
+other_same id cs = no_number id (filter (is_other id) cs) (removed id cs)
+
+pub other_other : (i id : ℕ) (cs : List Connection) → i ≢ id → phase_at id (filter (is_other i) cs) ≡ phase_at id cs
+other_other i id cs ne = same_phase id cs (filter (is_other i) cs) (removed_elsewhere i id cs ne)
 
 -- the one in the list, else the one at its end
 abbrev pub or_at_end : Option Connection → Bool → Connection → Option Connection
@@ -116,3 +132,7 @@ found_at t hi (c ∷ cs) d f o =
     split : (b : Bool) (o : Option Connection) (c d : Connection) → cond b (Some c) o ≡ Some d → (P : Type 0) → (c ≡ d → P) → (o ≡ Some d → P) → P
     split true o c d e P here on = here (cc)
     split false o c d e P here on = on e
+
+-- and passes the test
+pub found : (t : Connection → Bool) (hi : ℕ) (cs : List Connection) (d : Connection) → find t cs ≡ Some d → Distinct hi cs → (phase_at d.id cs ≡ Some d.phase) × (t d ≡ true)
+found t hi cs d f o = ((at_number d.id cs d (found_at t hi cs d f o)).1, passes t cs d f)

@@ -32,8 +32,9 @@ use Rattle.oftp_schedule.specs.Machine.{State, limits_now, with_connections, qui
 use Rattle.oftp_schedule.specs.History.{Note, Heard, Ordered, history, watch}
 use Rattle.oftp_schedule.specs.Life.{Stage, Unbegun, Coming, Unjudged, Let_in, In_step, Between_steps, Deserted, Cut_off, Ending, Going, Leaving, Unread, Whole, In_hand, Carried_out, In_copy, Awaits_call, Has_answer, Seeking, Located, Ringing, Standing, Closed, Broken, entered, heard, printed, closed, denied, ordered, is_about, life, stage_in, stage_from, stage_of}
 use Rattle.oftp_schedule.specs.Apart.{one_if, how_many, IsRested, IsDated, IsBrief, IsPaced, ChosenApart, NoJob}
-use Rattle.oftp_schedule.proofs.Numbers.{became_same, edited_phase, map_phase, set_to, found, at_number, no_number}
-use Rattle.oftp_schedule.proofs.Fitting.{IsDistinct, settles, Settles, Asks, ChoiceFits, choice_fits, step_distinct, run_distinct}
+use Rattle.oftp_schedule.proofs.Numbers.{became_same, edited_phase, map_phase, set_to, at_number}
+use Rattle.oftp_schedule.proofs.Places.{found, no_number}
+use Rattle.oftp_schedule.proofs.Fitting.{IsDistinct, settles, Settles, Asks, ChoiceFits, choice_fits, step_distinct, run_distinct, run_keeps}
 use Rattle.oftp_schedule.proofs.Alone.{choice_apart}
 use Rattle.oftp_schedule.proofs.Pacing.{IsOther, choice_paced}
 use Rattle.oftp_schedule.proofs.Lives.{history_lives}
@@ -287,8 +288,7 @@ step_longer s (Tell e) o = received_longer s e
 step_longer s Ask o = let h = chosen_quiet s (choice s) (choice_fits s o) in omega (arith, h)
 
 run_longer : (s : State) (ms : List Move) → IsDistinct s → s.quiet ≤ (run s ms).quiet
-run_longer s [] o = omega arith
-run_longer s (m ∷ ms) o = let h = step_longer s m o in let k = run_longer (step s m).0 ms (step_distinct s m o) in omega (arith, h, k)
+run_longer s ms o = run_keeps (λ t. s.quiet ≤ t.quiet) (λ t m d h. let k = step_longer t m d in omega (arith, h, k)) s ms o (omega arith)
 
 either_one : (a b : ℕ) → (max a b ≡ a) ⊎ (max a b ≡ b)
 either_one a b = cases (nat_le b a) refl
@@ -398,8 +398,7 @@ handed_step id w s m o (inl (e, h)) = by (rank (stage_of id (step s m).0)) refl
     by (suc (suc k)) q = let l = most (stage_of id (step s m).0) in inr (omega (arith, l, q))
 
 handed_run : (id w : ℕ) (s : State) (ms : List Move) → IsDistinct s → Handed id w s → Handed id w (run s ms)
-handed_run id w s [] o h = h
-handed_run id w s (m ∷ ms) o h = handed_run id w (step s m).0 ms (step_distinct s m o) (handed_step id w s m o h)
+handed_run id w s ms o h = run_keeps (Handed id w) (handed_step id w) s ms o h
 
 -- it is handed over now
 handed_now : (s : State) (id : ℕ) → IsDistinct s → choice s ≡ Consult id → Handed id s.now (step s Ask).0

@@ -1,7 +1,9 @@
--- What holds where nothing is chosen.
-use Rattle.std.proofs.Common.{◌≡◌, ◌≢◌, ◌∙◌, true, false, Option, Some, None, cond, refl, ap, sym}
+-- What holds of each choice holds of the one that is taken, and what holds where nothing is chosen.
+use Rattle.std.proofs.Common.{◌≡◌, ◌≢◌, ◌∙◌, ℕ, Bool, true, false, if◌then◌else◌, Option, Some, None, cond, refl, ap, sym}
+use Rattle.oftp_schedule.specs.declared.connection.Reply.{Reply}
 use Rattle.oftp_schedule.specs.declared.connection.Choice.{Choice}
 use Rattle.oftp_schedule.specs.declared.connection.Choice.TheVariants.{Nothing, Finish, Settle, Admit, Inspect, Start, Proceed, Consult, Perform, Lend, Seek, Depart}
+use Rattle.oftp_schedule.specs.declared.connection.Session.{Session}
 use Rattle.oftp_schedule.specs.declared.connection.Connection.{Connection}
 use Rattle.oftp_schedule.specs.Machine.{State, or_else, choice_of, finish, expiry, dismissed, orphaned, call_over, way_given, admission, dial, job, departure, is_past, choice}
 
@@ -20,25 +22,48 @@ both (Lend id) b e = cc
 both (Seek id c) b e = cc
 both (Depart st) b e = cc
 
--- what holds of each of two choices holds of the one that is taken
+-- what holds of the first of two choices, and of the second where the first is nothing, holds of the one that is taken
+pub taken : (Q : Choice → Type 0) (a b : Choice) → Q a → (a ≡ Nothing → Q b) → Q (or_else a b)
+taken Q Nothing b f g = g refl
+taken Q (Finish st) b f g = f
+taken Q (Settle id r) b f g = f
+taken Q (Admit d) b f g = f
+taken Q Inspect b f g = f
+taken Q (Start id x) b f g = f
+taken Q (Proceed id x) b f g = f
+taken Q (Consult id) b f g = f
+taken Q (Perform id) b f g = f
+taken Q (Lend id) b f g = f
+taken Q (Seek id c) b f g = f
+taken Q (Depart st) b f g = f
+
 pub either : (Q : Choice → Type 0) (a b : Choice) → Q a → Q b → Q (or_else a b)
-either Q Nothing b f g = g
-either Q (Finish st) b f g = f
-either Q (Settle id r) b f g = f
-either Q (Admit d) b f g = f
-either Q Inspect b f g = f
-either Q (Start id x) b f g = f
-either Q (Proceed id x) b f g = f
-either Q (Consult id) b f g = f
-either Q (Perform id) b f g = f
-either Q (Lend id) b f g = f
-either Q (Seek id c) b f g = f
-either Q (Depart st) b f g = f
+either Q a b f g = taken Q a b f (λ e. g)
+
+-- what holds of nothing, and of what is chosen for one who is found
+pub of_found : (Q : Choice → Type 0) (f : Connection → Choice) (at : Option Connection) → Q Nothing → ((c : Connection) → at ≡ Some c → Q (f c)) → Q (choice_of at f)
+of_found Q f None n k = n
+of_found Q f (Some c) n k = k c refl
+
+-- what holds of nothing, and of what is chosen where a test says so
+pub if_so : (Q : Choice → Type 0) (b : Bool) (c : Choice) → Q Nothing → (b ≡ true → Q c) → Q (if b then c else Nothing)
+if_so Q true c n k = k refl
+if_so Q false c n k = n
+
+pub unless : (Q : Choice → Type 0) (b : Bool) (c : Choice) → Q Nothing → (b ≡ false → Q c) → Q (if b then Nothing else c)
+unless Q true c n k = n
+unless Q false c n k = k refl
 
 -- nobody is found for whom something would be chosen
-pub nobody : (at : Option Connection) (f : Connection → Choice) → ((c : Connection) → f c ≢ Nothing) → choice_of at f ≡ Nothing → at ≡ None
+pub nobody : (at : Option Connection) (f : Connection → Choice) → ((c : Connection) → at ≡ Some c → f c ≢ Nothing) → choice_of at f ≡ Nothing → at ≡ None
 nobody None f k e = refl
-nobody (Some c) f k e = absurd (k c e)
+nobody (Some c) f k e = absurd (k c refl e)
+
+pub settle_something : (id : ℕ) (r : Reply) → Settle id r ≢ Nothing
+settle_something id r e = cc
+
+pub start_something : (id : ℕ) (x : Session) → Start id x ≢ Nothing
+start_something id x e = cc
 
 -- what is chosen after the rules of the end, where the program goes on
 abbrev pub Rest : State → Choice

@@ -17,6 +17,7 @@ use Rattle.oftp_schedule.specs.declared.connection.Limits.{Limits}
 use Rattle.oftp_schedule.specs.Machine.{start, Move}
 use Rattle.oftp_schedule.specs.History.{Note, Heard, Ordered, history, watch}
 use Rattle.oftp_schedule.specs.Life.{Stage, Unbegun, Coming, Unjudged, Let_in, In_step, Between_steps, Deserted, Cut_off, Ending, Going, Leaving, Unread, Whole, In_hand, Carried_out, In_copy, Awaits_call, Has_answer, Seeking, Located, Ringing, Standing, Closed, Broken, entered, heard, printed, closed, denied, ordered, is_about, life, hands, answers, declines, refusals, prints, asks_for, wants_call, handing, is_ordered, is_told, times_ordered, times_told}
+use Rattle.oftp_schedule.proofs.Cases.{each_reason}
 use Rattle.oftp_schedule.proofs.Numbers.{same}
 use Rattle.oftp_schedule.proofs.Lives.{never_broken, watch-append}
 
@@ -57,27 +58,16 @@ more b k = cond b (suc k) k
 -- one more note
 abbrev pub after_order : Bool → Action → Counts → Counts
 after_order b a k =
-    record {
+    record k {
       handed = more (cond b (hands a) false) k.handed;
       answered = more (cond b (answers a) false) k.answered;
       declined = more (cond b (declines a) false) k.declined;
       refused = more (cond b (refusals a) false) k.refused;
       lines = more (cond b (prints a) false) k.lines;
-      wants = k.wants;
-      asked = k.asked;
     }
 
 abbrev pub after_signal : Bool → Signal → Counts → Counts
-after_signal b g k =
-    record {
-      handed = k.handed;
-      answered = k.answered;
-      declined = k.declined;
-      refused = k.refused;
-      lines = k.lines;
-      wants = more (cond b (wants_call g) false) k.wants;
-      asked = λ r. more (cond b (asks_for r g) false) (k.asked r);
-    }
+after_signal b g k = record k { wants = more (cond b (wants_call g) false) k.wants; asked = λ r. more (cond b (asks_for r g) false) (k.asked r) }
 
 none_most : (k : Counts) → Exactly 0 0 0 k → AtMost k
 none_most k t = (omega (arith, t.0, t.1.1.1.1), (omega (arith, t.1.0, t.1.1.0), omega (arith, t.1.1.1.0)))
@@ -86,29 +76,23 @@ handed_most : (k : Counts) → Exactly 1 0 0 k → AtMost k
 handed_most k t = (omega (arith, t.0, t.1.1.1.1), (omega (arith, t.1.0, t.1.1.0), omega (arith, t.1.1.1.0)))
 
 -- the line is the first
-one_line : (k : Counts) → Exactly 0 0 0 k
-    → AtMost (record { handed = k.handed; answered = k.answered; declined = k.declined; refused = k.refused; lines = suc k.lines; wants = k.wants; asked = k.asked })
+one_line : (k : Counts) → Exactly 0 0 0 k → AtMost (record k { lines = suc k.lines })
 one_line k t = (omega (arith, t.0, t.1.1.1.1), (omega (arith, t.1.0, t.1.1.0), omega (arith, t.1.1.1.0)))
 
-one_handing : (k : Counts) → Exactly 0 0 0 k
-    → Exactly 1 0 0 (record { handed = suc k.handed; answered = k.answered; declined = k.declined; refused = k.refused; lines = k.lines; wants = k.wants; asked = k.asked })
+one_handing : (k : Counts) → Exactly 0 0 0 k → Exactly 1 0 0 (record k { handed = suc k.handed })
 one_handing k t = (omega (arith, t.0), t.1)
 
-one_answer : (k : Counts) (h : ℕ) → h ≤ 1 → Exactly h 0 0 k
-    → AtMost (record { handed = k.handed; answered = suc k.answered; declined = k.declined; refused = k.refused; lines = k.lines; wants = k.wants; asked = k.asked })
+one_answer : (k : Counts) (h : ℕ) → h ≤ 1 → Exactly h 0 0 k → AtMost (record k { answered = suc k.answered })
 one_answer k h l t = (omega (arith, l, t.0, t.1.1.1.1), (omega (arith, t.1.0, t.1.1.0), omega (arith, t.1.1.1.0)))
 
-one_refusal : (k : Counts) → Exactly 0 0 0 k
-    → AtMost (record { handed = k.handed; answered = k.answered; declined = suc k.declined; refused = suc k.refused; lines = k.lines; wants = k.wants; asked = k.asked })
+one_refusal : (k : Counts) → Exactly 0 0 0 k → AtMost (record k { declined = suc k.declined; refused = suc k.refused })
 one_refusal k t = (omega (arith, t.0, t.1.1.1.1), (omega (arith, t.1.0, t.1.1.0), omega (arith, t.1.1.1.0)))
 
 -- a copy that was handed over is declined
-one_delay : (k : Counts) → Exactly 1 0 0 k
-    → AtMost (record { handed = k.handed; answered = k.answered; declined = suc k.declined; refused = k.refused; lines = k.lines; wants = k.wants; asked = k.asked })
+one_delay : (k : Counts) → Exactly 1 0 0 k → AtMost (record k { declined = suc k.declined })
 one_delay k t = (omega (arith, t.0, t.1.1.1.1), (omega (arith, t.1.0, t.1.1.0), omega (arith, t.1.1.1.0)))
 
-tally_printed : (why : Reason) (st : Stage) (k : Counts) → Tally st k
-    → Tally (printed why st) (record { handed = k.handed; answered = k.answered; declined = k.declined; refused = k.refused; lines = suc k.lines; wants = k.wants; asked = k.asked })
+tally_printed : (why : Reason) (st : Stage) (k : Counts) → Tally st k → Tally (printed why st) (record k { lines = suc k.lines })
 tally_printed Quit (Ending Quit) k t = one_line k t
 tally_printed Vanished (Ending Vanished) k t = one_line k t
 tally_printed Finished (Ending Finished) k t = one_line k t
@@ -255,40 +239,20 @@ count_is id p t one (n ∷ ns) k =
     head true = omega arith
     head false = omega arith
 
-handed_is : (id : ℕ) (n : Note) (k : Counts) → (noted id n k).handed ≡ more (is_ordered hands id n) k.handed
-handed_is id (Ordered a) k = refl
-handed_is id (Heard (Told i g)) k = refl
-handed_is id (Heard e) k = refl
+-- what one note adds
+record IsNoted (id : ℕ) (n : Note) (k : Counts) : Type 0 where
+  handed : (noted id n k).handed ≡ more (is_ordered hands id n) k.handed
+  answered : (noted id n k).answered ≡ more (is_ordered answers id n) k.answered
+  declined : (noted id n k).declined ≡ more (is_ordered declines id n) k.declined
+  refused : (noted id n k).refused ≡ more (is_ordered refusals id n) k.refused
+  lines : (noted id n k).lines ≡ more (is_ordered prints id n) k.lines
+  wants : (noted id n k).wants ≡ more (is_told wants_call id n) k.wants
+  asked : (r : Request) → (noted id n k).asked r ≡ more (is_told (asks_for r) id n) (k.asked r)
 
-answered_is : (id : ℕ) (n : Note) (k : Counts) → (noted id n k).answered ≡ more (is_ordered answers id n) k.answered
-answered_is id (Ordered a) k = refl
-answered_is id (Heard (Told i g)) k = refl
-answered_is id (Heard e) k = refl
-
-declined_is : (id : ℕ) (n : Note) (k : Counts) → (noted id n k).declined ≡ more (is_ordered declines id n) k.declined
-declined_is id (Ordered a) k = refl
-declined_is id (Heard (Told i g)) k = refl
-declined_is id (Heard e) k = refl
-
-refused_is : (id : ℕ) (n : Note) (k : Counts) → (noted id n k).refused ≡ more (is_ordered refusals id n) k.refused
-refused_is id (Ordered a) k = refl
-refused_is id (Heard (Told i g)) k = refl
-refused_is id (Heard e) k = refl
-
-lines_is : (id : ℕ) (n : Note) (k : Counts) → (noted id n k).lines ≡ more (is_ordered prints id n) k.lines
-lines_is id (Ordered a) k = refl
-lines_is id (Heard (Told i g)) k = refl
-lines_is id (Heard e) k = refl
-
-wants_is : (id : ℕ) (n : Note) (k : Counts) → (noted id n k).wants ≡ more (is_told wants_call id n) k.wants
-wants_is id (Ordered a) k = refl
-wants_is id (Heard (Told i g)) k = refl
-wants_is id (Heard e) k = refl
-
-asked_is : (r : Request) (id : ℕ) (n : Note) (k : Counts) → (noted id n k).asked r ≡ more (is_told (asks_for r) id n) (k.asked r)
-asked_is r id (Ordered a) k = refl
-asked_is r id (Heard (Told i g)) k = refl
-asked_is r id (Heard e) k = refl
+is_noted : (id : ℕ) (n : Note) (k : Counts) → IsNoted id n k
+is_noted id (Ordered a) k = record { handed = refl; answered = refl; declined = refl; refused = refl; lines = refl; wants = refl; asked = λ r. refl }
+is_noted id (Heard (Told i g)) k = record { handed = refl; answered = refl; declined = refl; refused = refl; lines = refl; wants = refl; asked = λ r. refl }
+is_noted id (Heard e) k = record { handed = refl; answered = refl; declined = refl; refused = refl; lines = refl; wants = refl; asked = λ r. refl }
 
 abbrev pub nothing : Counts
 nothing = record { handed = 0; answered = 0; declined = 0; refused = 0; lines = 0; wants = 0; asked = λ _. 0 }
@@ -313,50 +277,23 @@ pub once : (l : Limits) (ms : List Move) (id : ℕ)
 once l ms id =
     let ns = history (start l) ms in
     let t = at_most (watch (life id) Unbegun ns) (counted id ns nothing) (never_broken l ms id) (tally_notes id Unbegun ns nothing (refl, (refl, (refl, (refl, refl))))) in
-    let h = count_is id (λ k. k.handed) (is_ordered hands id) (handed_is id) ns nothing in
-    let a = count_is id (λ k. k.answered) (is_ordered answers id) (answered_is id) ns nothing in
-    let d = count_is id (λ k. k.declined) (is_ordered declines id) (declined_is id) ns nothing in
-    let r = count_is id (λ k. k.refused) (is_ordered refusals id) (refused_is id) ns nothing in
-    let p = count_is id (λ k. k.lines) (is_ordered prints id) (lines_is id) ns nothing in
+    let h = count_is id (λ k. k.handed) (is_ordered hands id) (λ n k. (is_noted id n k).handed) ns nothing in
+    let a = count_is id (λ k. k.answered) (is_ordered answers id) (λ n k. (is_noted id n k).answered) ns nothing in
+    let d = count_is id (λ k. k.declined) (is_ordered declines id) (λ n k. (is_noted id n k).declined) ns nothing in
+    let r = count_is id (λ k. k.refused) (is_ordered refusals id) (λ n k. (is_noted id n k).refused) ns nothing in
+    let p = count_is id (λ k. k.lines) (is_ordered prints id) (λ n k. (is_noted id n k).lines) ns nothing in
     ((omega (arith, t.0, h), omega (arith, t.0, h, r)), (omega (arith, t.1.0, a, d), omega (arith, t.1.1, p)))
 
 -- 2. What stands before an order
 
 broken_printed : (why : Reason) → printed why Broken ≡ Broken
-broken_printed Evicted = refl
-broken_printed Invalid = refl
-broken_printed TimedOut = refl
-broken_printed Stalled = refl
-broken_printed Quit = refl
-broken_printed Vanished = refl
-broken_printed Finished = refl
-broken_printed Unreached = refl
-broken_printed Orphaned = refl
-broken_printed Stopping = refl
+broken_printed why = each_reason (λ why. printed why Broken ≡ Broken) refl refl refl refl refl refl refl refl refl refl why
 
 pub broken_closed : (why : Reason) → closed why Broken ≡ Broken
-broken_closed Evicted = refl
-broken_closed Invalid = refl
-broken_closed TimedOut = refl
-broken_closed Stalled = refl
-broken_closed Quit = refl
-broken_closed Vanished = refl
-broken_closed Finished = refl
-broken_closed Unreached = refl
-broken_closed Orphaned = refl
-broken_closed Stopping = refl
+broken_closed why = each_reason (λ why. closed why Broken ≡ Broken) refl refl refl refl refl refl refl refl refl refl why
 
 broken_denied : (why : Reason) → denied why Broken ≡ Broken
-broken_denied Evicted = refl
-broken_denied Invalid = refl
-broken_denied TimedOut = refl
-broken_denied Stalled = refl
-broken_denied Quit = refl
-broken_denied Vanished = refl
-broken_denied Finished = refl
-broken_denied Unreached = refl
-broken_denied Orphaned = refl
-broken_denied Stopping = refl
+broken_denied why = each_reason (λ why. denied why Broken ≡ Broken) refl refl refl refl refl refl refl refl refl refl why
 
 broken_ordered : (a : Action) → ordered a Broken ≡ Broken
 broken_ordered (Print i why) = broken_printed why
@@ -400,7 +337,7 @@ pub asked_before : (l : Limits) (ms : List Move) (id : ℕ) (r : Request) (befor
 asked_before l ms id r before after e =
     let ok = may_be l ms id (handing r id) before after (handing_about r id) e in
     let t = handing_at r id (watch (life id) Unbegun before) (counted id before nothing) ok (tally_notes id Unbegun before nothing (refl, (refl, (refl, (refl, refl))))) in
-    let h = count_is id (λ k. k.asked r) (is_told (asks_for r) id) (asked_is r id) before nothing in
+    let h = count_is id (λ k. k.asked r) (is_told (asks_for r) id) (λ n k. (is_noted id n k).asked r) before nothing in
     omega (arith, t, h)
 
 answer_at : (id : ℕ) (st : Stage) (k : Counts) → ordered (Answer id) st ≢ Broken → Tally st k → 1 ≤ k.handed + k.wants
@@ -414,6 +351,6 @@ pub handed_before : (l : Limits) (ms : List Move) (id : ℕ) (before after : Lis
 handed_before l ms id before after e =
     let ok = may_be l ms id (Answer id) before after (same id) e in
     let t = answer_at id (watch (life id) Unbegun before) (counted id before nothing) ok (tally_notes id Unbegun before nothing (refl, (refl, (refl, (refl, refl))))) in
-    let h = count_is id (λ k. k.handed) (is_ordered hands id) (handed_is id) before nothing in
-    let w = count_is id (λ k. k.wants) (is_told wants_call id) (wants_is id) before nothing in
+    let h = count_is id (λ k. k.handed) (is_ordered hands id) (λ n k. (is_noted id n k).handed) before nothing in
+    let w = count_is id (λ k. k.wants) (is_told wants_call id) (λ n k. (is_noted id n k).wants) before nothing in
     omega (arith, t, h, w)

@@ -1,5 +1,5 @@
 -- Nothing waits for nothing.
-use Rattle.std.proofs.Common.{inl, inr, ◌⊎◌, ◌||◌, ◌≡◌, ◌≢◌, ◌^◌, ℕ, zero, suc, ◌+◌, ◌-◌, ◌<◌, ◌≤◌, ◌==◌, nat_lt, nat_le, not, Bool, true, false, cond, if◌then◌else◌, List, [], ◌∷◌, Option, Some, None, find, refl, ap, sym, ◌∙◌, min, arith}
+use Rattle.std.proofs.Common.{◌||◌, inl, inr, ◌⊎◌, ◌≡◌, ◌≢◌, ◌^◌, ℕ, zero, suc, ◌+◌, ◌-◌, ◌<◌, ◌≤◌, ◌==◌, nat_lt, nat_le, not, Bool, true, false, cond, if◌then◌else◌, List, [], ◌∷◌, Option, Some, None, find, refl, ap, sym, ◌∙◌, min, arith}
 use Rattle.std.proofs.lemmas.Bool.Decides.{nat_tests}
 use Rattle.std.specs.List.{list_any}
 use Rattle.oftp_schedule.specs.declared.connection.Door.{Door}
@@ -9,7 +9,6 @@ use Rattle.oftp_schedule.specs.declared.connection.Phase.{Phase}
 use Rattle.oftp_schedule.specs.declared.connection.Phase.TheVariants.{Arriving, Stranger, Guest, Stepping, Between, Parting, Asking, Ready, Served, Calling, Copying, Answered, Wanted, Resolving, Dialing, Connected}
 use Rattle.oftp_schedule.specs.declared.connection.Status.{Status}
 use Rattle.oftp_schedule.specs.declared.connection.Status.TheVariants.{Stopped}
-use Rattle.oftp_schedule.specs.declared.connection.Reply.{Reply}
 use Rattle.oftp_schedule.specs.declared.connection.Reply.TheVariants.{Respond}
 use Rattle.oftp_schedule.specs.declared.connection.Kind.{Kind}
 use Rattle.oftp_schedule.specs.declared.connection.Kind.TheVariants.{Queries, Sessions, Updates}
@@ -27,10 +26,11 @@ use Rattle.oftp_schedule.specs.Machine.{State, limits_now, gate, or_else, choice
 use Rattle.oftp_schedule.specs.declared.connection.Way.TheVariants.{In}
 use Rattle.oftp_schedule.specs.Deadlines.{IsStill}
 use Rattle.oftp_schedule.specs.Wakeups.{IsAtWork, IsAny, Waits, IsHeldBack, holds_office, holds_room, holds_calls, is_resolving_phase, IsAwake, GuestsAreAwake, UpdatesAreAwake, UpsAreAwake, ClockIsAwake, QueriesAreAwake, SessionIsAwake, CallsAreAwake, CommandsAreAwake, DoorsAreAwake, EndIsAwake, has_time, EndComes}
-use Rattle.oftp_schedule.proofs.Numbers.{found, known}
+use Rattle.oftp_schedule.proofs.Numbers.{known}
+use Rattle.oftp_schedule.proofs.Places.{found}
 use Rattle.oftp_schedule.proofs.Fitting.{IsDistinct, run_distinct}
 use Rattle.oftp_schedule.proofs.Within.{Each, Bounded, at_phase, run_within}
-use Rattle.oftp_schedule.proofs.Still.{both, nobody, Stillness, stillness}
+use Rattle.oftp_schedule.proofs.Still.{both, nobody, Stillness, stillness, settle_something, start_something}
 use Rattle.oftp_schedule.proofs.Deadlines.{knows_deadlines, knows_quiet, on_time}
 
 -- 1. Who is there
@@ -103,16 +103,13 @@ ends s (Called st) f n e = cc
 ends s (Ending st) f n e = (st, refl)
 ends s Past f n e = cc
 
-settle_something : (id : ℕ) (r : Reply) → Settle id r ≢ Nothing
-settle_something id r e = cc
-
 -- then whom its end concerns isn't there any more
 undismissed : (s : State) (id : ℕ) (p : Phase) → IsStill s → is_ending s.course ≡ true → ((st : Status) → is_dismissed st p ≡ true) → phase_at id s.connections ≡ Some p → ⊥
 undismissed s id p still e k h =
     let w = stillness s still.0 still.1 in
     let c = ends s s.course w.finish_is still.1 e in
     let d : dismissed s (Ending c.0) ≡ Nothing = ap (dismissed s) (sym c.1) ∙ w.dismissed_is in
-    let f = nobody (find (concerns c.0) s.connections) (λ d. Settle d.id (dismissal s.now s.limits d.door d.phase)) (λ d. settle_something d.id (dismissal s.now s.limits d.door d.phase)) d in
+    let f = nobody (find (concerns c.0) s.connections) (λ d. Settle d.id (dismissal s.now s.limits d.door d.phase)) (λ d e. settle_something d.id (dismissal s.now s.limits d.door d.phase)) d in
     none_there (is_dismissed c.0) id s.connections p f h (k c.0)
 
 turn_nothing : (k : Kind) (q g u : Choice) → in_turn k q g u ≡ Nothing → (q ≡ Nothing) × (g ≡ Nothing) × (u ≡ Nothing)
@@ -170,14 +167,11 @@ awake s id p o still e k never = cases (what_is_left s o still)
 
 -- 3. Who waits
 
-start_something : (id : ℕ) (x : Session) → Start id x ≢ Nothing
-start_something id x e = cc
-
 pub guests_are_awake : (s : State) → IsDistinct s → GuestsAreAwake s
 guests_are_awake s o id t still e =
     awake s id (Guest t) o still e (λ st. refl) (λ j.
     let x = new_session s.now s.limits In s.limits.patience s.limits.longest in
-    let f = nobody (find (in_phase is_guest_phase) s.connections) (λ c. Start c.id x) (λ c. start_something c.id x) j.3 in
+    let f = nobody (find (in_phase is_guest_phase) s.connections) (λ c. Start c.id x) (λ c e. start_something c.id x) j.3 in
     none_there is_guest_phase id s.connections (Guest t) f e refl)
 
 requested_something : (id : ℕ) (p : Phase) → is_update_phase p ≡ true → requested id p ≢ Nothing
@@ -266,7 +260,7 @@ queries_are_awake s o id k still l e = by_office (is_busy s) refl (stillness s s
 
     by_room : (b : Bool) → nat_lt 0 (room_left s.limits.held s.connections) ≡ b → (if b then choice_of (find (in_phase is_query_phase) s.connections) (λ c. Consult c.id) else Nothing) ≡ Nothing → Room
     by_room true y j =
-        let f = nobody (find (in_phase is_query_phase) s.connections) (λ c. Consult c.id) (λ c. consult_something c.id) j in absurd
+        let f = nobody (find (in_phase is_query_phase) s.connections) (λ c. Consult c.id) (λ c e. consult_something c.id) j in absurd
         (none_there is_query_phase id s.connections (Ready Query k) f e refl)
     by_room false n j = inl (waits_by s holds_room holds_room o still room_holds (holder s.limits.held s.connections l n))
 
@@ -415,7 +409,7 @@ commands_are_awake s id i still e = cases (list_any (goes_on i) s.connections) r
     cases false h =
         let w = stillness s still.0 still.1 in
         let f = nobody (find (is_to_tell s.connections) s.connections) (λ c. Settle c.id (Respond (answered s.now (limits_now s) c.door 0)))
-        (λ c. settle_something c.id (Respond (answered s.now (limits_now s) c.door 0))) w.call_over_is in
+        (λ c e. settle_something c.id (Respond (answered s.now (limits_now s) c.door 0))) w.call_over_is in
         absurd (none_there (told_phase s.connections) id s.connections (Calling i) f e (rw h refl))
 
 -- 7. Doors, and the end

@@ -69,213 +69,37 @@ abbrev pub Turn : Type 0
 Turn = State × List Action
 
 abbrev pub with_time : State → ℕ → State
-with_time s v =
-    record {
-      now = v;
-      looked = s.looked;
-      quiet = s.quiet;
-      next = s.next;
-      left = s.left;
-      last = s.last;
-      guest_first = s.guest_first;
-      clock = s.clock;
-      course = s.course;
-      partners = s.partners;
-      commands = s.commands;
-      requests = s.requests;
-      limits = s.limits;
-      connections = s.connections;
-    }
+with_time s v = record s { now = v }
 
 abbrev pub with_looked : State → ℕ → State
-with_looked s v =
-    record {
-      now = s.now;
-      looked = v;
-      quiet = s.quiet;
-      next = s.next;
-      left = s.left;
-      last = s.last;
-      guest_first = s.guest_first;
-      clock = s.clock;
-      course = s.course;
-      partners = s.partners;
-      commands = s.commands;
-      requests = s.requests;
-      limits = s.limits;
-      connections = s.connections;
-    }
+with_looked s v = record s { looked = v }
 
 abbrev pub with_next : State → ℕ → State
-with_next s v =
-    record {
-      now = s.now;
-      looked = s.looked;
-      quiet = s.quiet;
-      next = v;
-      left = s.left;
-      last = s.last;
-      guest_first = s.guest_first;
-      clock = s.clock;
-      course = s.course;
-      partners = s.partners;
-      commands = s.commands;
-      requests = s.requests;
-      limits = s.limits;
-      connections = s.connections;
-    }
+with_next s v = record s { next = v }
 
 abbrev pub with_last_job : State → Kind → State
-with_last_job s v =
-    record {
-      now = s.now;
-      looked = s.looked;
-      quiet = s.quiet;
-      next = s.next;
-      left = s.left;
-      last = v;
-      guest_first = s.guest_first;
-      clock = s.clock;
-      course = s.course;
-      partners = s.partners;
-      commands = s.commands;
-      requests = s.requests;
-      limits = s.limits;
-      connections = s.connections;
-    }
+with_last_job s v = record s { last = v }
 
 abbrev pub with_guest_first : State → Bool → State
-with_guest_first s v =
-    record {
-      now = s.now;
-      looked = s.looked;
-      quiet = s.quiet;
-      next = s.next;
-      left = s.left;
-      last = s.last;
-      guest_first = v;
-      clock = s.clock;
-      course = s.course;
-      partners = s.partners;
-      commands = s.commands;
-      requests = s.requests;
-      limits = s.limits;
-      connections = s.connections;
-    }
+with_guest_first s v = record s { guest_first = v }
 
 abbrev pub with_clock : State → Clock → State
-with_clock s v =
-    record {
-      now = s.now;
-      looked = s.looked;
-      quiet = s.quiet;
-      next = s.next;
-      left = s.left;
-      last = s.last;
-      guest_first = s.guest_first;
-      clock = v;
-      course = s.course;
-      partners = s.partners;
-      commands = s.commands;
-      requests = s.requests;
-      limits = s.limits;
-      connections = s.connections;
-    }
+with_clock s v = record s { clock = v }
 
 abbrev pub with_course : State → Course → State
-with_course s v =
-    record {
-      now = s.now;
-      looked = s.looked;
-      quiet = s.quiet;
-      next = s.next;
-      left = s.left;
-      last = s.last;
-      guest_first = s.guest_first;
-      clock = s.clock;
-      course = v;
-      partners = s.partners;
-      commands = s.commands;
-      requests = s.requests;
-      limits = s.limits;
-      connections = s.connections;
-    }
+with_course s v = record s { course = v }
 
 abbrev pub with_partners : State → Gate → State
-with_partners s v =
-    record {
-      now = s.now;
-      looked = s.looked;
-      quiet = s.quiet;
-      next = s.next;
-      left = s.left;
-      last = s.last;
-      guest_first = s.guest_first;
-      clock = s.clock;
-      course = s.course;
-      partners = v;
-      commands = s.commands;
-      requests = s.requests;
-      limits = s.limits;
-      connections = s.connections;
-    }
+with_partners s v = record s { partners = v }
 
 abbrev pub with_commands : State → Gate → State
-with_commands s v =
-    record {
-      now = s.now;
-      looked = s.looked;
-      quiet = s.quiet;
-      next = s.next;
-      left = s.left;
-      last = s.last;
-      guest_first = s.guest_first;
-      clock = s.clock;
-      course = s.course;
-      partners = s.partners;
-      commands = v;
-      requests = s.requests;
-      limits = s.limits;
-      connections = s.connections;
-    }
+with_commands s v = record s { commands = v }
 
 abbrev pub with_requests : State → Gate → State
-with_requests s v =
-    record {
-      now = s.now;
-      looked = s.looked;
-      quiet = s.quiet;
-      next = s.next;
-      left = s.left;
-      last = s.last;
-      guest_first = s.guest_first;
-      clock = s.clock;
-      course = s.course;
-      partners = s.partners;
-      commands = s.commands;
-      requests = v;
-      limits = s.limits;
-      connections = s.connections;
-    }
+with_requests s v = record s { requests = v }
 
 abbrev pub with_connections : State → List Connection → State
-with_connections s v =
-    record {
-      now = s.now;
-      looked = s.looked;
-      quiet = s.quiet;
-      next = s.next;
-      left = s.left;
-      last = s.last;
-      guest_first = s.guest_first;
-      clock = s.clock;
-      course = s.course;
-      partners = s.partners;
-      commands = s.commands;
-      requests = s.requests;
-      limits = s.limits;
-      connections = v;
-    }
+with_connections s v = record s { connections = v }
 
 -- 1. What becomes of a connection
 
@@ -285,31 +109,7 @@ is_ending c = true
 
 -- once the station ends, answers have no longer than last octets do, and gain no time
 abbrev pub hasty : Limits → Limits
-hasty l =
-    record {
-      partners = l.partners;
-      commands = l.commands;
-      requests = l.requests;
-      admission = l.admission;
-      shelter = l.shelter;
-      asking = 0;
-      requesting = 0;
-      patience = l.patience;
-      longest = l.longest;
-      farewell = l.farewell;
-      copying = l.copying;
-      dialing = l.dialing;
-      standing = l.standing;
-      rest = l.rest;
-      interval = l.interval;
-      share = l.share;
-      backlog = l.backlog;
-      held = l.held;
-      times = l.times;
-      greeting = l.greeting;
-      jobs = l.jobs;
-      counted = l.counted;
-    }
+hasty l = record l { asking = 0; requesting = 0 }
 
 abbrev pub limits_in : Course → Limits → Limits
 limits_in co l = if is_ending co then hasty l else l
@@ -362,21 +162,11 @@ quiet_after s p r = s.quiet
 -- a job is counted, a number given away, a look-up's time is known, and a guest comes first where a call gave way
 abbrev pub counted : State → Door → Phase → Reply → State
 counted s d p r =
-    record {
-      now = s.now;
-      looked = s.looked;
+    record s {
       quiet = quiet_after s p r;
       next = s.next + numbers r;
       left = s.left - jobs (is_counted s.limits.counted d p r);
-      last = s.last;
       guest_first = guest_next s.guest_first r;
-      clock = s.clock;
-      course = s.course;
-      partners = s.partners;
-      commands = s.commands;
-      requests = s.requests;
-      limits = s.limits;
-      connections = s.connections;
     }
 
 abbrev pub replied : State → Connection → Reply → Turn

@@ -56,17 +56,7 @@ share_left x w = if is_awaited w.input then 0 else x.share - w.heard
 
 -- the session after a step of it
 abbrev pub stepped : ℕ → Session → Step → Session
-stepped now x w =
-    record {
-      way = heard_on x.way w.heard;
-      begun = x.begun;
-      ends = x.ends;
-      patience = x.patience;
-      until = wait_after now x w.backlog;
-      input = w.input;
-      share = share_left x w;
-      backlog = w.backlog;
-    }
+stepped now x w = record x { way = heard_on x.way w.heard; until = wait_after now x w.backlog; input = w.input; share = share_left x w; backlog = w.backlog }
 
 abbrev pub after_step : ℕ → Session → Step → Input → Reply
 after_step now x w Gone = Break Quit
@@ -78,45 +68,15 @@ arrived Awaited = Here
 arrived i = i
 
 abbrev pub with_octets : ℕ → Session → Session
-with_octets now x =
-    record {
-      way = x.way;
-      begun = x.begun;
-      ends = x.ends;
-      patience = x.patience;
-      until = wait_after now x x.backlog;
-      input = arrived x.input;
-      share = x.share;
-      backlog = x.backlog;
-    }
+with_octets now x = record x { until = wait_after now x x.backlog; input = arrived x.input }
 
 -- octets went out, and so many are left
 abbrev pub with_backlog : ℕ → Session → ℕ → Session
-with_backlog now x k =
-    record {
-      way = x.way;
-      begun = x.begun;
-      ends = x.ends;
-      patience = x.patience;
-      until = now + x.patience;
-      input = x.input;
-      share = x.share;
-      backlog = k;
-    }
+with_backlog now x k = record x { until = now + x.patience; backlog = k }
 
 -- what came is the last that comes
 abbrev pub with_last : Session → Session
-with_last x =
-    record {
-      way = x.way;
-      begun = x.begun;
-      ends = x.ends;
-      patience = x.patience;
-      until = x.until;
-      input = Last;
-      share = x.share;
-      backlog = x.backlog;
-    }
+with_last x = record x { input = Last }
 
 -- its input has ended: what came before is still heard
 abbrev pub at_end : Session → Input → Reply
@@ -126,17 +86,7 @@ at_end x i = Break Quit
 
 -- a look-up was done within it
 abbrev pub with_share : ℕ → Session → Session
-with_share k x =
-    record {
-      way = x.way;
-      begun = x.begun;
-      ends = x.ends;
-      patience = x.patience;
-      until = x.until;
-      input = x.input;
-      share = k;
-      backlog = x.backlog;
-    }
+with_share k x = record x { share = k }
 
 abbrev pub is_here : Input → Bool
 is_here Here = true
@@ -243,7 +193,7 @@ overdue x = if x.backlog == 0 then TimedOut else Stalled
 
 -- a call that hangs up may do so once less from then on
 abbrev pub once_less : Call → Call
-once_less c = record { partner = c.partner; asker = c.asker; times = c.times - 1 }
+once_less c = record c { times = c.times - 1 }
 
 -- a call that didn't begin in its time hangs up and is made again, as often as it may
 abbrev pub redialed : Call → Reply
@@ -287,7 +237,7 @@ hurried_phase v (Answered u o) = Answered (min u v) o
 hurried_phase v p = p
 
 abbrev pub hurried : ℕ → Connection → Connection
-hurried v c = record { id = c.id; door = c.door; phase = hurried_phase v c.phase }
+hurried v c = record c { phase = hurried_phase v c.phase }
 
 -- 5. What is done for a connection in a phase
 
@@ -494,7 +444,7 @@ is_there id cs = list_any (has_id id) cs
 
 -- connection id is in this phase now
 abbrev pub became : ℕ → Phase → Connection → Connection
-became id p c = record { id = c.id; door = c.door; phase = if c.id == id then p else c.phase }
+became id p c = record c { phase = if c.id == id then p else c.phase }
 
 -- a change that waits at the end of a session is done before the next one
 abbrev pub owed_phase : Phase → Phase
@@ -502,7 +452,7 @@ owed_phase (Ready r k) = Ready r Owed
 owed_phase p = p
 
 abbrev pub owed : Connection → Connection
-owed c = record { id = c.id; door = c.door; phase = owed_phase c.phase }
+owed c = record c { phase = owed_phase c.phase }
 
 -- a look-up was done within the session
 abbrev pub shared_phase : ℕ → Phase → Phase
@@ -510,7 +460,7 @@ shared_phase k (Between x) = Between (with_share k x)
 shared_phase k p = p
 
 abbrev pub shared : ℕ → Connection → Connection
-shared k c = record { id = c.id; door = c.door; phase = shared_phase k c.phase }
+shared k c = record c { phase = shared_phase k c.phase }
 
 -- the command of a call is gone
 abbrev pub asker_gone : List Connection → Asker → Bool
