@@ -405,13 +405,31 @@ def unknown_words(edits):
     return found
 
 
+def lemmas_of(crate):
+    """The names that the proofs of a crate declare."""
+    texts = (it.read_text(encoding="utf-8") for it in (ROOT / "crates" / crate / "proofs").rglob("*.antt"))
+    return {name for text in texts for name in re.findall(r"^ *(?:pub )?([\w'-]+) :", text, re.M)}
+
+
+def pathless_words(edits):
+    """How many edits turn definitions alone and name a refusal that is neither a clause with its path nor a lemma, each of which it reports."""
+    found = 0
+    for edit in (it for it in edits if all(str(file).startswith("specs/") for file, _ in it.lines)):
+        lost = [it for it in edit.refused_by if "." not in it and it not in lemmas_of(edit.crate)]
+        if lost:
+            print(f"{edit.name}: BAD EDIT: it turns no function, and {', '.join(lost)} is neither PATH.WORD nor the name of a lemma")
+        found += bool(lost)
+    return found
+
+
 def fit():
-    """Reports edits that can't be applied, those that name what isn't there, and those that name no refusal, without which none passes."""
+    """Reports edits that can't be applied, those that name what isn't there or without the path that a definition wants, and those that name
+    no refusal, without which none passes."""
     edits, lost = read_all([])
     unnamed = [it for it in edits if not it.refused_by]
     for crate in sorted({it.crate for it in unnamed}):
         print(f"{crate}: {sum(it.crate == crate for it in unnamed)} edits name no refusal: checks/wrong_bodies/wrong_bodies.py --record {crate} finds it")
-    return len(edits) + lost, lost + unknown_words(edits)
+    return len(edits) + lost, lost + unknown_words(edits) + pathless_words(edits)
 
 
 # An import of Rattle, up to its semicolon, and one of antt, in one line. What is exported counts as it is written.
