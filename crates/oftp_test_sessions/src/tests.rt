@@ -1,27 +1,21 @@
 //! Sessions over an office that fails, and over a port with a limit. The expected octets are written by hand from RFC 5024.
 
-use crate::given::BOOK;
-use hearing::{Line, hear};
-use noting::Noting;
 use oftp_engine::{End, Role, RunFault};
 use oftp_partners::{Book, read};
+use oftp_test_parts::given::BOOK;
+use oftp_test_parts::hearing::{Line, hear};
+use oftp_test_parts::noting::Noting;
 use std::alloc::Global;
 use std::process::Abort;
 use std::test::Fail;
 
 mod answers;
 mod asking;
-mod growing;
-mod hearing;
 mod lists;
-mod lives;
-mod noting;
-mod openings;
 mod operators;
 mod refused;
 mod stations;
 mod third;
-mod three_stations;
 
 /// The partner's SSID and an EERP.
 const INPUT: &[u8] = b"\x10\0\0\x41X5O0177CARMAKER            CARPW   00128BNYN002N            \r\

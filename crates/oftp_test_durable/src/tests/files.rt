@@ -3,7 +3,7 @@
 use oftp_durable::open_durable;
 use oftp_register::{Office, OfficeFault};
 use oftp_store::SqlOffice;
-use oftp_test_sessions::given::LIMITS;
+use oftp_test_parts::given::LIMITS;
 use sqlite::{Alter, Unknown};
 use std::alloc::Global;
 use std::fs;

@@ -7,7 +7,7 @@ use oftp_engine::{Operator, Port, Refusal, Role, RunFault, Told};
 use oftp_life::{Life, Stage};
 use oftp_partners::{Book, read};
 use oftp_store::SqlOffice;
-use oftp_test_sessions::given::{BOOK, FILE};
+use oftp_test_parts::given::{BOOK, FILE};
 use sqlite::Alter;
 use std::alloc::Global;
 use std::process::Abort;

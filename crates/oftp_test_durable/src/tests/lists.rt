@@ -6,7 +6,7 @@ use oftp_durable::{operate_durable, run_at, run_durable, serve_durable};
 use oftp_engine::{End, Job, Operator, Port, Refusal, Role, RunFault, Told};
 use oftp_partners::{Book, read};
 use oftp_store::SqlOffice;
-use oftp_test_sessions::given::{BOOK, FILE, LIMITS};
+use oftp_test_parts::given::{BOOK, FILE, LIMITS};
 use sqlite::{Alter, Unknown};
 use std::alloc::Global;
 use std::process::Abort;

@@ -1,8 +1,5 @@
 //! The results of look-ups, worked out by hand.
 
-use super::act::Act;
-use super::asking::Ask;
-use super::playing::{FEW, Step, play_at, play_both, same};
 use Ask::{
     Answered, ByNo, Change, Full, Limits, LookIn, LookOut, Next, Received, Responses, Rows, Told,
     Units,
@@ -10,6 +7,9 @@ use Ask::{
 use ResponseKind::{EndResponse, NegativeEndResponse};
 use Side::{Incoming, Outgoing};
 use oftp_register::{ResponseKind, Side};
+use oftp_test_acts::act::Act;
+use oftp_test_acts::asking::Ask;
+use oftp_test_acts::playing::{FEW, Step, play_at, play_both, same};
 use oftp_vfile::Format::{Fixed, Text, Variable};
 use std::alloc::Global;
 use std::fs;

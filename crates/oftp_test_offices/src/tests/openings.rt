@@ -1,7 +1,7 @@
 //! Opening stores: one of schema 2 twice, one of schema 1 that is migrated, and stores that are neither. The numbers are counted by hand.
 
-use super::playing::{FEW, Image, NO_STOP, Step, play};
 use Step::{Batch, Migrate, Number, Open};
+use oftp_test_acts::playing::{FEW, Image, NO_STOP, Step, play};
 use std::alloc::{AllocError, Global};
 use std::process::Abort;
 use std::test::Fail;

@@ -1,9 +1,6 @@
 //! Each change and each refusal, with the register after it, worked out by hand from the table of changes, and the look-ups of both
 //! offices.
 
-use super::act::Act;
-use super::asking::{Ask, words_of};
-use super::playing::{FEW, play_in_parts};
 use Act::{
     BeginClosing, Close, File, GiveUp, HandOver, Issue, Keep, Mark, Refuse, Reopen, Send, Start,
     Submit,
@@ -12,6 +9,9 @@ use Cause::{Duplicate, Full, State, Unknown};
 use Format::{Fixed, Text, Unstructured, Variable};
 use ResponseKind::{EndResponse, NegativeEndResponse};
 use oftp_register::{Cause, ResponseKind};
+use oftp_test_acts::act::Act;
+use oftp_test_acts::asking::{Ask, words_of};
+use oftp_test_acts::playing::{FEW, play_in_parts};
 use oftp_vfile::Format;
 use std::alloc::{AllocError, Global};
 use std::process::Abort;

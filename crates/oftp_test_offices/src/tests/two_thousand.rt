@@ -2,10 +2,10 @@
 
 ghost use Rattle.std.specs.Prelude.{◌<◌};
 
-use super::act::Act;
-use super::asking::{Ask, words_of};
-use super::playing::{is_at, play_in_parts};
 use oftp_register::{Cause, ResponseKind};
+use oftp_test_acts::act::Act;
+use oftp_test_acts::asking::{Ask, words_of};
+use oftp_test_acts::playing::{is_at, play_in_parts};
 use oftp_vfile::{Format, Limits};
 use std::alloc::AllocError;
 use std::process::Abort;

@@ -1,41 +1,17 @@
 //! A partner's answers to SFID, over an office in memory, in one piece and octet by octet. The octets of both sides are written by hand
 //! from RFC 5024.
 
-use super::hearing::{Heard, Line, call, caller, hear};
-use super::noting::Noting;
-use crate::given::{BOOK, FILE};
-use oftp_engine::{End, Operator, Submission, Told};
+use oftp_engine::{End, Operator, Told};
 use oftp_partners::{Book, read};
 use oftp_register::{Office, OfficeFault, OutgoingState};
+use oftp_test_parts::given::BOOK;
+use oftp_test_parts::hearing::{Heard, Line, call, caller, hear};
+use oftp_test_parts::noting::Noting;
+use oftp_test_parts::octets::{GREETING, OFFER, SENT, TAKES, THREE_OCTETS, joined};
 use oftp_wire::{Count, SessionReason};
 use std::alloc::{AllocError, Global};
 use std::process::Abort;
 use std::test::Fail;
-
-pub(crate) const THREE_OCTETS: Submission<'static> = Submission {
-    description: "",
-    content: b"ABC",
-    ..FILE
-};
-
-/// The partner's SSRM and its SSID.
-pub(crate) const GREETING: &[u8] =
-    b"\x10\0\0\x17IODETTE FTP READY \r\x10\0\0\x41X5O0177CARMAKER            CARPW   00128BNYN002N            \r";
-
-/// The station's SSID, and SFID with the size and the original size of one block, from row 0 on.
-pub(crate) const OFFER: &[u8] =
-    b"\x10\0\0\x41X5O0013SUPPLIER            SUPPW   00128BNYN002N            \r\
-      \x10\0\0\xa9HABC                          202401311015300001        O0177CARMAKER            O0013SUPPLIER            U00000\
-      0000000000001000000000000100000000000000000\
-      00000\
-      0N000";
-
-/// SFPA from row 0 on, EFPA and ESID 00.
-pub(crate) const TAKES: &[u8] = b"\x10\0\0\x16200000000000000000\x10\0\0\x064N\x10\0\0\x0bF00000\r";
-
-/// DATA, EFID and CD.
-pub(crate) const SENT: &[u8] =
-    b"\x10\0\0\x09D\x83ABC\x10\0\0\x27T0000000000000000000000000000000003\x10\0\0\x05R";
 
 /// The partner's octets after the offer, the station's octets after it, the end of the session, and the state of the file.
 #[derive(Clone, Copy, Drop)]
@@ -105,15 +81,6 @@ fn answers(
     call_partner(alloc, rt, &mut office, &book, answer, at_once)?;
     assert!(rt; is_left(&mut office, answer.state)?);
     Ok(())
-}
-
-/// Some parts in one.
-pub(crate) fn joined(alloc: Global, parts: &[&[u8]]) -> Result<Vec<u8>, AllocError> {
-    let mut all = Vec::new(alloc);
-    for part in parts {
-        all.extend_from_slice(part)?;
-    }
-    Ok(all)
 }
 
 fn table() -> [Answer<'static>; 3] {

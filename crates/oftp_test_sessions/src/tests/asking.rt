@@ -1,11 +1,11 @@
 //! Files over an office that notes the requests for rows and items, and may lose a row. The partner's octets are written by hand from RFC
 //! 5024.
 
-use super::hearing::{Line, call, caller, hear};
-use super::noting::Noting;
-use crate::given::{BOOK, FILE};
 use oftp_engine::{End, Operator, Role, RunFault, Submission, Told};
 use oftp_partners::{Book, read};
+use oftp_test_parts::given::{BOOK, FILE};
+use oftp_test_parts::hearing::{Line, call, caller, hear};
+use oftp_test_parts::noting::Noting;
 use oftp_vfile::Format;
 use oftp_wire::Count;
 use std::alloc::{AllocError, Global};

@@ -1,11 +1,11 @@
 //! Lists of jobs of which one fails.
 
-use super::hearing::Line;
-use super::noting::Noting;
 use super::{INPUT, OUTPUT};
-use crate::given::{BOOK, FILE};
 use oftp_engine::{End, Job, Operator, Port, Role, RunFault, Told, run};
 use oftp_partners::read;
+use oftp_test_parts::given::{BOOK, FILE};
+use oftp_test_parts::hearing::Line;
+use oftp_test_parts::noting::Noting;
 use std::alloc::Global;
 use std::process::Abort;
 use std::test::Fail;

@@ -1,11 +1,11 @@
 //! Operator's calls over an office in memory and over one that fails. The lines are written by hand.
 
-use super::hearing::call;
-use super::noting::Noting;
-use crate::given::{BOOK, FILE};
 use oftp_engine::{Operator, Refusal, RunFault, Submission, Told};
 use oftp_partners::{Book, read};
 use oftp_register::PlainOffice;
+use oftp_test_parts::given::{BOOK, FILE};
+use oftp_test_parts::hearing::call;
+use oftp_test_parts::noting::Noting;
 use oftp_vfile::{Format, Limits};
 use std::alloc::Global;
 use std::process::Abort;

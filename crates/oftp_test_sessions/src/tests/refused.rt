@@ -1,13 +1,13 @@
 //! Sessions of which one allocation may be refused, whichever it is. The partner then says the same again, and the register comes to be that of a
 //! session with enough memory. checks/faults/each_allocation_refused.sh refuses each in turn. The octets are written by hand from RFC 5024.
 
-use super::hearing::{Line, call, caller, hear};
-use super::noting::Noting;
-use crate::given::{BOOK, FILE};
-use crate::snapshot::snapshot;
 use oftp_engine::{End, Operator, Role, RunFault, Submission};
 use oftp_partners::{Book, read};
 use oftp_register::OfficeFault;
+use oftp_test_parts::given::{BOOK, FILE};
+use oftp_test_parts::hearing::{Line, call, caller, hear};
+use oftp_test_parts::noting::Noting;
+use oftp_test_parts::snapshot::snapshot;
 use oftp_wire::Count;
 use std::alloc::{AllocError, Global};
 use std::process::Abort;

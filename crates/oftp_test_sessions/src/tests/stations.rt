@@ -2,12 +2,12 @@
 //! the sender begins one, and the receiver, whose operator releases the file before, begins the other. In the first round something breaks.
 //! After the second one, in which nothing breaks, the file is delivered, whole and answered once.
 
-use super::hearing::{Line, call, caller, hear};
-use super::noting::{Noting, Stop};
-use crate::given::{BOOK, FILE};
 use oftp_engine::{Operator, Role, Submission};
 use oftp_partners::{Book, read};
 use oftp_register::{Office, PlainOffice, Side};
+use oftp_test_parts::given::{BOOK, FILE};
+use oftp_test_parts::hearing::{Line, call, caller, hear};
+use oftp_test_parts::noting::{Noting, Stop};
 use std::alloc::{AllocError, Global};
 use std::process::Abort;
 use std::test::Fail;

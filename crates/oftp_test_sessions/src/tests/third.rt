@@ -1,32 +1,20 @@
 //! A third partner, who calls a station after its session with another one. The octets of both sides are written by hand from RFC 5024.
 
-use super::answers::{GREETING, TAKES, THREE_OCTETS, joined, submit};
-use super::hearing::{Line, caller, hear};
-use super::noting::Noting;
+use super::answers::submit;
 use super::stations::told;
 use oftp_engine::{End, Role};
 use oftp_partners::{Book, read};
+use oftp_test_parts::given::BOOK_OF_TWO;
+use oftp_test_parts::hearing::{Line, caller, hear};
+use oftp_test_parts::noting::Noting;
+use oftp_test_parts::octets::{
+    ANOTHERS_ANSWER, ANOTHERS_FILE, GREETING, NOT_TAKEN, SENT_AWAY, TAKES, THIRD, THREE_OCTETS,
+    joined,
+};
 use oftp_wire::SessionReason;
 use std::alloc::Global;
 use std::process::Abort;
 use std::test::Fail;
-
-/// The book of a supplier with two partners.
-pub(crate) const BOOK_OF_TWO: &str =
-    "[station]\ncode = 'O0013SUPPLIER'\nbuffer = 128\ncredit = 2\nrestart = true\n\
-      [[partner]]\ncode = 'O0177CARMAKER'\nexpects = 'CARPW'\nsends = 'SUPPW'\nmode = 'B'\naddress = '127.0.0.1:3305'\n\
-      [[partner]]\ncode = 'O0099OTHER'\nexpects = 'OTHERPW'\nsends = 'SUPPW'\nmode = 'B'\naddress = '127.0.0.1:3306'\n";
-
-/// Its SSID.
-pub(crate) const THIRD: &[u8] =
-    b"\x10\0\0\x41X5O0099OTHER               OTHERPW 00128BNYN002N            \r";
-
-/// SFID of a file that it says is the car maker's.
-pub(crate) const ANOTHERS_FILE: &[u8] =
-    b"\x10\0\0\xa9HABC                          202401311015300001        O0013SUPPLIER            O0177CARMAKER            U00000\
-      0000000000001000000000000100000000000000000\
-      00000\
-      0N000";
 
 /// SFID of the same file as its own, with DATA and EFID, and EERP of the file that was sent to the car maker, as if it had been sent to the
 /// third partner.
@@ -38,20 +26,8 @@ const OWN: &[u8] =
       \x10\0\0\x09D\x83ABC\x10\0\0\x27T0000000000000000000000000000000003\
       \x10\0\0\x72EABC                          202401311015300001        O0013SUPPLIER            O0099OTHER               \0\0\0\0";
 
-/// EERP of the file that was sent to the car maker, under the car maker's code.
-pub(crate) const ANOTHERS_ANSWER: &[u8] =
-    b"\x10\0\0\x72EABC                          202401311015300001        O0013SUPPLIER            O0177CARMAKER            \0\0\0\0";
-
-/// The station's SSRM, its SSID and SFNA 03.
-pub(crate) const NOT_TAKEN: &[u8] =
-    b"\x10\0\0\x17IODETTE FTP READY \r\x10\0\0\x41X5O0013SUPPLIER            SUPPW   00128BNYN002N            \r\
-      \x10\0\0\x0b303N000";
-
 /// SFPA from row 0 on, EFPA and RTR.
 const TAKEN: &[u8] = b"\x10\0\0\x16200000000000000000\x10\0\0\x064N\x10\0\0\x05P";
-
-/// ESID 06.
-pub(crate) const SENT_AWAY: &[u8] = b"\x10\0\0\x0bF06000\r";
 
 /// The file to the car maker is handed over and not delivered. The third partner's own file of its name is there, and so is its response.
 const LEFT: &str = "out Handed 0\nin Whole 1 1\nreceived EndResponse\n";

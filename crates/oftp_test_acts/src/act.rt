@@ -7,7 +7,7 @@ use std::alloc::{AllocError, Global};
 
 /// A change in short. Files are named by a letter: A to M go from O1 to O2, and N to Z back. In F and V the longest record is 3.
 #[derive(Clone, Copy, Drop)]
-pub(super) enum Act {
+pub enum Act {
     Submit(&'static [u8], Format, &'static [&'static [u8]]),
     /// This many records of one octet, in V.
     SubmitLong(&'static [u8], u64),
@@ -26,13 +26,13 @@ pub(super) enum Act {
 }
 
 /// The change of a short form.
-pub(super) type Made = Result<Change<'static>, OfficeFault>;
+pub type Made = Result<Change<'static>, OfficeFault>;
 
 // The error of a wrong fixture. Out of memory is another one.
 const BAD: OfficeFault = OfficeFault::Store;
 
 /// The code of a station.
-pub(super) fn code(letters: &'static [u8]) -> Result<Name<25>, OfficeFault> {
+pub fn code(letters: &'static [u8]) -> Result<Name<25>, OfficeFault> {
     Ok(Name::of(&X::new(letters).ok_or(BAD)?))
 }
 
@@ -48,7 +48,7 @@ fn way_of(dataset: &[u8]) -> (&'static [u8], &'static [u8]) {
 }
 
 /// The identity of the file with this letter.
-pub(super) fn identity(dataset: &'static [u8]) -> Result<Identity, OfficeFault> {
+pub fn identity(dataset: &'static [u8]) -> Result<Identity, OfficeFault> {
     let (originator, destination) = way_of(dataset);
     Ok(Identity {
         dataset: Name::of(&X::new(dataset).ok_or(BAD)?),
@@ -140,7 +140,7 @@ fn issue(no: u64, kind: ResponseKind, note: &'static str) -> Made {
 
 impl Act {
     /// The change.
-    pub(super) fn change(self, alloc: Global) -> Made {
+    pub fn change(self, alloc: Global) -> Made {
         match self {
             Act::Submit(dataset, format, records) => {
                 submit(dataset, format, rows(alloc, records)?)

@@ -1,6 +1,6 @@
 //! Runs steps with an office in memory, and with one over a database. Only this file names the type of the office.
 
-use super::asking::{Ask, answer, line};
+use crate::asking::{Ask, answer, line};
 use oftp_register::{Office, OfficeFault, PlainOffice, are_limits};
 use oftp_store::{OpenRefused, SqlOffice, migrate_at, open_at};
 use oftp_tables::StoreFault;
@@ -13,14 +13,14 @@ use std::process::Abort;
 use std::test::Fail;
 
 /// Limits with few files in a table.
-pub(super) const FEW: Limits = Limits {
+pub const FEW: Limits = Limits {
     files: 3,
     octets: 67_108_864,
 };
 
 /// A step with a database, or with an office.
 #[derive(Clone, Copy, Drop)]
-pub(super) enum Step<'a> {
+pub enum Step<'a> {
     /// Opens the office. Gives a line that it is open, and a line for each look-up.
     Open(&'a [Ask]),
     /// The same, after a migration of the database to schema 2.
@@ -33,14 +33,14 @@ pub(super) enum Step<'a> {
 
 /// The octets of a database's two files.
 #[derive(Drop)]
-pub(super) struct Image {
+pub struct Image {
     log: Vec<u8>,
     db: Vec<u8>,
 }
 
 impl Image {
     /// Two empty files.
-    pub(super) fn empty(alloc: Global) -> Image {
+    pub fn empty(alloc: Global) -> Image {
         Image {
             log: Vec::new(alloc),
             db: Vec::new(alloc),
@@ -50,17 +50,44 @@ impl Image {
 
 /// A simulated crash: which file fails, from which call on, and whether writes without a sync are kept.
 #[derive(Clone, Copy, Drop)]
-pub(super) struct Stop {
-    pub(super) in_log: bool,
-    pub(super) calls: u64,
-    pub(super) stays: bool,
+pub struct Stop {
+    pub in_log: bool,
+    pub calls: u64,
+    pub stays: bool,
 }
 
-pub(super) const NO_STOP: Stop = Stop {
+pub const NO_STOP: Stop = Stop {
     in_log: true,
     calls: u64::MAX,
     stays: true,
 };
+
+/// More calls than a run makes.
+pub const MOST_CALLS: u64 = 100_000;
+
+/// Either file, with both states that a crash may leave.
+pub const STOPS: [Stop; 4] = [
+    Stop {
+        in_log: true,
+        calls: 0,
+        stays: true,
+    },
+    Stop {
+        in_log: true,
+        calls: 0,
+        stays: false,
+    },
+    Stop {
+        in_log: false,
+        calls: 0,
+        stays: true,
+    },
+    Stop {
+        in_log: false,
+        calls: 0,
+        stays: false,
+    },
+];
 
 // Adds a line. If there is no memory for it, it is missing, which fails the test.
 fn say(alloc: Global, said: &mut Vec<String>, words: &str) {
@@ -98,7 +125,7 @@ fn ask_all<O: Office>(alloc: Global, office: &mut O, asks: &[Ask], said: &mut Ve
 }
 
 /// Runs steps with an office in memory, which has no database.
-pub(super) fn play_plain(alloc: Global, limits: Limits, steps: &[Step<'_>]) -> Vec<String> {
+pub fn play_plain(alloc: Global, limits: Limits, steps: &[Step<'_>]) -> Vec<String> {
     let mut said = Vec::new(alloc);
     if !are_limits(limits) {
         say(alloc, &mut said, "no office is opened so");
@@ -275,13 +302,13 @@ fn play_on<D: Disk + Drop>(
 
 /// The lines of a run over a database, and the files after it.
 #[derive(Drop)]
-pub(super) struct Played {
-    pub(super) said: Vec<String>,
-    pub(super) left: Image,
+pub struct Played {
+    pub said: Vec<String>,
+    pub left: Image,
 }
 
 /// Runs steps over a database in memory, up to a crash.
-pub(super) fn play(
+pub fn play(
     alloc: Global,
     limits: Limits,
     steps: &[Step<'_>],
@@ -296,7 +323,7 @@ pub(super) fn play(
 }
 
 /// Whether the line at an index is this one.
-pub(super) fn is_at(lines: &[String], at: usize, wanted: &str) -> bool {
+pub fn is_at(lines: &[String], at: usize, wanted: &str) -> bool {
     match lines.get(at) {
         Some(line) => line.as_str() == wanted,
         None => false,
@@ -304,7 +331,7 @@ pub(super) fn is_at(lines: &[String], at: usize, wanted: &str) -> bool {
 }
 
 /// Asserts that the lines are these.
-pub(super) fn same(rt: &impl Abort, found: &[String], wanted: &[String]) {
+pub fn same(rt: &impl Abort, found: &[String], wanted: &[String]) {
     for (at, line) in wanted.iter().enumerate() {
         let line = line.as_str();
         assert!(rt; is_at(found, at, line), "line {at} isn't {line}");
@@ -313,7 +340,7 @@ pub(super) fn same(rt: &impl Abort, found: &[String], wanted: &[String]) {
 }
 
 /// Runs steps with an office in memory and with one over an empty database, and asserts that the lines are the same.
-pub(super) fn play_both(
+pub fn play_both(
     alloc: Global,
     rt: &impl Abort,
     limits: Limits,
@@ -339,7 +366,7 @@ fn openings_of<'a>(
 }
 
 /// The same for look-ups. The office over the database is opened again after each part of them.
-pub(super) fn play_in_parts(
+pub fn play_in_parts(
     alloc: Global,
     rt: &impl Abort,
     limits: Limits,
@@ -361,7 +388,7 @@ fn use_once<S: Alter + Drop>(
 }
 
 /// Opens the office of the files at a path, after a migration if `is_migrated`, and does look-ups.
-pub(super) fn play_at(
+pub fn play_at(
     rt: &HostRuntime,
     path: &str,
     is_migrated: bool,

@@ -1,6 +1,6 @@
 //! The results of an office's look-ups, as text.
 
-use super::act::{code, identity};
+use crate::act::{code, identity};
 use oftp_register::{
     AnsweredEntry, Cursor, Identity, IncomingEntry, IssuedEntry, IssuedResponse, Item, Name, Note,
     Office, OfficeFault, OutgoingEntry, OutgoingState, ReceivedEntry, ResponseKind, Side,
@@ -48,7 +48,7 @@ fn add_octets(all: &mut String, octets: &[u8]) -> Result<(), AllocError> {
 }
 
 /// Adds the octets of some rows, each ended by a bar.
-pub(super) fn add_rows(all: &mut String, rows: &Rows) -> Result<(), AllocError> {
+pub fn add_rows(all: &mut String, rows: &Rows) -> Result<(), AllocError> {
     for row in rows.as_slice() {
         add_octets(all, row.octets())?;
         all.push('|')?;
@@ -189,7 +189,7 @@ fn add_kept<O: Office>(all: &mut String, office: &mut O) -> Result<(), OfficeFau
 }
 
 /// The register as text: the files with their rows, and the received responses.
-pub(super) fn kept<O: Office>(alloc: Global, office: &mut O) -> Result<String, OfficeFault> {
+pub fn kept<O: Office>(alloc: Global, office: &mut O) -> Result<String, OfficeFault> {
     let mut all = String::new(alloc);
     add_kept(&mut all, office)?;
     Ok(all)
@@ -278,7 +278,7 @@ fn add_file<O: Office>(
 }
 
 /// The files of a number, without their content.
-pub(super) fn files_of_number<O: Office>(
+pub fn files_of_number<O: Office>(
     alloc: Global,
     office: &mut O,
     no: u64,
@@ -289,7 +289,7 @@ pub(super) fn files_of_number<O: Office>(
 }
 
 /// All that is told of a letter's file.
-pub(super) fn told_of_file<O: Office>(
+pub fn told_of_file<O: Office>(
     alloc: Global,
     office: &mut O,
     dataset: &'static [u8],
@@ -342,7 +342,7 @@ fn add_all_answered<O: Office>(all: &mut String, office: &mut O) -> Result<(), O
 }
 
 /// The received responses, each with the file that it answers, by their numbers.
-pub(super) fn answered<O: Office>(alloc: Global, office: &mut O) -> Result<String, OfficeFault> {
+pub fn answered<O: Office>(alloc: Global, office: &mut O) -> Result<String, OfficeFault> {
     let mut all = String::new(alloc);
     add_all_answered(&mut all, office)?;
     Ok(all)
@@ -391,7 +391,7 @@ fn add_looks<O: Office>(all: &mut String, office: &mut O) -> Result<(), OfficeFa
 }
 
 /// The results of all look-ups.
-pub(super) fn told<O: Office>(alloc: Global, office: &mut O) -> Result<String, OfficeFault> {
+pub fn told<O: Office>(alloc: Global, office: &mut O) -> Result<String, OfficeFault> {
     let mut all = kept(alloc, office)?;
     add_responses(&mut all, office)?;
     add_looks(&mut all, office)?;

@@ -1,8 +1,5 @@
 //! A crash at each call on a database's files. It leaves the register before a change, or after it.
 
-use super::act::Act;
-use super::asking::Ask;
-use super::playing::{FEW, Image, NO_STOP, Played, Step, Stop, play, play_plain};
 use Act::{
     BeginClosing, Close, File, GiveUp, HandOver, Issue, Keep, Mark, Refuse, Reopen, Send, Start,
     Submit,
@@ -10,6 +7,11 @@ use Act::{
 use Format::{Fixed, Variable};
 use ResponseKind::{EndResponse, NegativeEndResponse};
 use oftp_register::ResponseKind;
+use oftp_test_acts::act::Act;
+use oftp_test_acts::asking::Ask;
+use oftp_test_acts::playing::{
+    FEW, Image, MOST_CALLS, NO_STOP, Played, STOPS, Step, Stop, play, play_plain,
+};
 use oftp_vfile::Format;
 use std::alloc::{AllocError, Global};
 use std::process::Abort;
@@ -138,9 +140,6 @@ fn goes_on(alloc: Global, registers: &[String], stopped: &Played) -> Result<bool
     Ok(false)
 }
 
-/// More calls than a run makes.
-pub(super) const MOST_CALLS: u64 = 100_000;
-
 // Crashes a run at a call. Returns whether it ended without a crash.
 fn stop_once(
     alloc: Global,
@@ -177,30 +176,6 @@ fn stop_at_each(
     }
     Err("no run ended".into())
 }
-
-/// Either file, with both states that a crash may leave.
-pub(super) const STOPS: [Stop; 4] = [
-    Stop {
-        in_log: true,
-        calls: 0,
-        stays: true,
-    },
-    Stop {
-        in_log: true,
-        calls: 0,
-        stays: false,
-    },
-    Stop {
-        in_log: false,
-        calls: 0,
-        stays: true,
-    },
-    Stop {
-        in_log: false,
-        calls: 0,
-        stays: false,
-    },
-];
 
 // Fewer calls than a run makes on either file.
 const FEW_CALLS: u64 = 4;

@@ -18,17 +18,17 @@ const ONE_OCTET: Limits = Limits {
 
 /// An office in memory. For contracts it reads nothing that was written, so that only its errors have to be proved.
 #[derive(Drop)]
-pub(crate) struct Noting {
+pub struct Noting {
     /// The register, which is still there when the office is opened again.
-    pub(crate) office: PlainOffice,
+    pub office: PlainOffice,
     /// The most rows that were requested at once.
-    pub(crate) most: u64,
+    pub most: u64,
     /// How often the next response was looked for, and not the next file alone.
-    pub(crate) next: u64,
+    pub next: u64,
     /// Whether it loses the last of the requested rows.
-    pub(crate) loses: bool,
+    pub loses: bool,
     /// Whether it has failed: then each call returns an error.
-    pub(crate) is_stopped: bool,
+    pub is_stopped: bool,
     stop: Option<Stop>,
     /// Whether the look-up of responses works even after it has failed, and finds none.
     looks: bool,
@@ -37,23 +37,23 @@ pub(crate) struct Noting {
 
 /// When an office fails.
 #[derive(Clone, Copy, Drop)]
-pub(crate) struct Stop {
+pub struct Stop {
     /// How many commits it makes before.
-    pub(crate) commits: u64,
+    pub commits: u64,
     /// Whether it fails after the change of the next commit, and not before it.
-    pub(crate) is_made: bool,
+    pub is_made: bool,
 }
 
 impl Noting {
     /// An office with an empty register, which may fail.
-    pub(crate) fn new(alloc: Global, stop: Option<Stop>) -> Noting {
+    pub fn new(alloc: Global, stop: Option<Stop>) -> Noting {
         let mut office = Noting::over(PlainOffice::new(alloc, LIMITS));
         office.stop = stop;
         office
     }
 
     /// An office over one in memory.
-    pub(crate) fn over(office: PlainOffice) -> Noting {
+    pub fn over(office: PlainOffice) -> Noting {
         Noting {
             office,
             most: 0,
@@ -67,7 +67,7 @@ impl Noting {
     }
 
     /// An office with room for one octet that has failed, except for the look-up of responses if `looks`.
-    pub(crate) fn failing(alloc: Global, looks: bool) -> Noting {
+    pub fn failing(alloc: Global, looks: bool) -> Noting {
         let mut office = Noting::over(PlainOffice::new(alloc, ONE_OCTET));
         office.is_stopped = true;
         office.looks = looks;
@@ -75,12 +75,12 @@ impl Noting {
     }
 
     /// How many errors it returned.
-    pub(crate) fn faults(&self) -> u64 {
+    pub fn faults(&self) -> u64 {
         self.faults
     }
 
     /// Opens it again. It doesn't fail any more.
-    pub(crate) fn open_again(&mut self) {
+    pub fn open_again(&mut self) {
         self.is_stopped = false;
         self.stop = None;
     }

@@ -7,6 +7,12 @@ use oftp_vfile::{Format, Limits};
 pub const BOOK: &str =
     "[station]\ncode = 'O0013SUPPLIER'\nbuffer = 128\ncredit = 2\nrestart = true\n[[partner]]\ncode = 'O0177CARMAKER'\nexpects = 'CARPW'\nsends = 'SUPPW'\nmode = 'B'\naddress = '127.0.0.1:3305'\n";
 
+/// The book of a supplier with two partners.
+pub const BOOK_OF_TWO: &str =
+    "[station]\ncode = 'O0013SUPPLIER'\nbuffer = 128\ncredit = 2\nrestart = true\n\
+      [[partner]]\ncode = 'O0177CARMAKER'\nexpects = 'CARPW'\nsends = 'SUPPW'\nmode = 'B'\naddress = '127.0.0.1:3305'\n\
+      [[partner]]\ncode = 'O0099OTHER'\nexpects = 'OTHERPW'\nsends = 'SUPPW'\nmode = 'B'\naddress = '127.0.0.1:3306'\n";
+
 /// Room for nine files of 9,999 octets each.
 pub const LIMITS: Limits = Limits {
     files: 9,

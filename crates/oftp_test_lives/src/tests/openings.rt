@@ -1,13 +1,13 @@
 //! Openings of sessions with callers, and a life that admits one. The octets are written by hand from RFC 5024.
 
-use super::answers::joined;
-use super::noting::Noting;
-use crate::given::{BOOK, LIMITS};
 use oftp_engine::{Admission, RunFault};
 use oftp_life::{Guest, Life, LifeSession, Opening, Stage};
 use oftp_partners::{Book, read};
 use oftp_register::{Office, OfficeFault, PlainOffice};
 use oftp_session::Ending;
+use oftp_test_parts::given::{BOOK, LIMITS};
+use oftp_test_parts::noting::Noting;
+use oftp_test_parts::octets::joined;
 use oftp_wire::SessionReason;
 use std::alloc::{AllocError, Global};
 use std::process::Abort;

@@ -2,16 +2,17 @@
 //! only codes tell them apart. A connection breaks within a file, which goes on in a later session. The second car maker offers a file under
 //! the other's code, and answers one that is for the other. What it sends then, and all registers, are written by hand.
 
-use super::answers::joined;
-use super::hearing::caller;
 use super::lives::{converse, order};
-use super::third::{ANOTHERS_ANSWER, ANOTHERS_FILE, BOOK_OF_TWO, NOT_TAKEN, SENT_AWAY, THIRD};
-use crate::given::{FILE, LIMITS};
-use crate::snapshot::snapshot;
 use oftp_engine::{Operator, Role, Submission, Told};
 use oftp_life::{Life, LifeSession};
 use oftp_partners::{Book, read};
 use oftp_register::{IncomingState, Office, OfficeFault, PlainOffice};
+use oftp_test_parts::given::{BOOK_OF_TWO, FILE, LIMITS};
+use oftp_test_parts::hearing::caller;
+use oftp_test_parts::octets::{
+    ANOTHERS_ANSWER, ANOTHERS_FILE, NOT_TAKEN, SENT_AWAY, THIRD, joined,
+};
+use oftp_test_parts::snapshot::snapshot;
 use oftp_vfile::Format;
 use std::alloc::Global;
 use std::process::Abort;

@@ -1,6 +1,6 @@
 //! Runs a session with an office, or an operator's call. Only this file calls the engine for one office.
 
-use super::noting::Noting;
+use crate::noting::Noting;
 use oftp_engine::{End, Operator, Port, Role, RunFault, Told, operate, serve};
 use oftp_partners::Book;
 use std::alloc::Global;
@@ -9,16 +9,16 @@ use std::test::Fail;
 
 /// A reader that returns some octets per call, and then ends or fails.
 #[derive(Drop)]
-pub(crate) struct Line<'a> {
-    pub(crate) octets: &'a [u8],
+pub struct Line<'a> {
+    pub octets: &'a [u8],
     /// How many octets it returns per call, at most.
-    pub(crate) at_once: usize,
-    pub(crate) breaks: bool,
+    pub at_once: usize,
+    pub breaks: bool,
 }
 
 impl<'a> Line<'a> {
     /// A reader that returns all octets at once, and ends.
-    pub(crate) fn of(octets: &'a [u8]) -> Line<'a> {
+    pub fn of(octets: &'a [u8]) -> Line<'a> {
         Line {
             octets,
             at_once: usize::MAX,
@@ -41,22 +41,22 @@ impl Read for Line<'_> {
 
 /// The result of a session.
 #[derive(Drop)]
-pub(crate) struct Heard {
-    pub(crate) end: Result<End, RunFault>,
+pub struct Heard {
+    pub end: Result<End, RunFault>,
     /// How many octets were read.
-    pub(crate) octets: u64,
+    pub octets: u64,
     /// Whether the input has ended.
-    pub(crate) has_ended: bool,
+    pub has_ended: bool,
     /// The station's output.
-    pub(crate) said: Vec<u8>,
+    pub said: Vec<u8>,
     /// How many octets of the output the port counts.
-    pub(crate) moved: u64,
+    pub moved: u64,
     /// How many errors of the writer the port counts.
-    pub(crate) faults: u64,
+    pub faults: u64,
 }
 
 /// Serves a session in which at most this many octets are read.
-pub(crate) fn hear(
+pub fn hear(
     alloc: Global,
     office: &mut Noting,
     book: &Book,
@@ -78,7 +78,7 @@ pub(crate) fn hear(
 }
 
 /// Does an operator's call, and adds its line.
-pub(crate) fn call(
+pub fn call(
     alloc: Global,
     office: &mut Noting,
     book: &Book,
@@ -92,7 +92,7 @@ pub(crate) fn call(
 }
 
 /// The role of a station that calls a partner.
-pub(crate) fn caller<'a>(book: &'a Book, partner: &[u8]) -> Result<Role<'a>, Fail> {
+pub fn caller<'a>(book: &'a Book, partner: &[u8]) -> Result<Role<'a>, Fail> {
     match book.partner(partner) {
         Some(partner) => Ok(Role::Initiator(partner)),
         None => Err("the partner isn't in the book".into()),

@@ -1,12 +1,12 @@
 //! A life over an office in memory, and over one that fails. The octets are written by hand from RFC 5024.
 
-use super::answers::{GREETING, OFFER, SENT, TAKES, THREE_OCTETS, joined};
-use super::noting::{Noting, Stop};
-use crate::given::{BOOK, LIMITS};
 use oftp_engine::{Operator, Port, Role, RunFault, Told};
 use oftp_life::{Life, LifeSession, Stage};
 use oftp_partners::{Book, read};
 use oftp_register::{Office, OutgoingState, PlainOffice};
+use oftp_test_parts::given::{BOOK, LIMITS};
+use oftp_test_parts::noting::{Noting, Stop};
+use oftp_test_parts::octets::{GREETING, OFFER, SENT, TAKES, THREE_OCTETS, joined};
 use std::alloc::Global;
 use std::process::Abort;
 use std::test::Fail;

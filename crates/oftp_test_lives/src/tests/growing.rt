@@ -1,14 +1,14 @@
 //! Jobs of a life, each done as it comes. The octets are written by hand from RFC 5024.
 
-use super::answers::{GREETING, OFFER, SENT, TAKES, THREE_OCTETS, joined};
-use super::hearing::caller;
-use super::noting::Noting;
-use crate::given::BOOK;
-use crate::snapshot::snapshot;
 use oftp_engine::{Operator, Port, Role, RunFault, Told};
 use oftp_life::{Life, Stage};
 use oftp_partners::{Book, read};
 use oftp_session::Ending;
+use oftp_test_parts::given::BOOK;
+use oftp_test_parts::hearing::caller;
+use oftp_test_parts::noting::Noting;
+use oftp_test_parts::octets::{GREETING, OFFER, SENT, TAKES, THREE_OCTETS, joined};
+use oftp_test_parts::snapshot::snapshot;
 use oftp_wire::Count;
 use std::alloc::{AllocError, Global};
 use std::process::Abort;

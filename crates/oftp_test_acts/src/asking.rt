@@ -1,14 +1,14 @@
 //! The look-ups of an office, each with its result as a line.
 
-use super::act::{Act, code, identity};
-use super::serving::session_line;
-use super::telling::{add_rows, answered, files_of_number, kept, told, told_of_file};
+use crate::act::{Act, code, identity};
+use crate::session::session_line;
+use crate::telling::{add_rows, answered, files_of_number, kept, told, told_of_file};
 use oftp_register::{Cause, Cursor, Item, Office, OfficeFault, ResponseKind, Side};
 use std::alloc::{AllocError, Global};
 
 /// A look-up or a change.
 #[derive(Clone, Copy, Drop)]
-pub(super) enum Ask {
+pub enum Ask {
     /// Makes a change. The line is its result.
     Change(Act),
     /// A session in which a partner calls and says this, in parts. The line is how it ends, and the octets that go out.
@@ -46,12 +46,12 @@ pub(super) enum Ask {
 }
 
 /// A line with these words.
-pub(super) fn line(alloc: Global, words: &str) -> Result<String, AllocError> {
+pub fn line(alloc: Global, words: &str) -> Result<String, AllocError> {
     String::from_str(alloc, words)
 }
 
 /// The line for the result of a change.
-pub(super) fn words_of(refused: Option<Cause>) -> &'static str {
+pub fn words_of(refused: Option<Cause>) -> &'static str {
     match refused {
         None => "made",
         Some(Cause::Duplicate) => "duplicate",
@@ -167,11 +167,7 @@ fn full<O: Office>(alloc: Global, office: &mut O) -> Result<String, OfficeFault>
 }
 
 /// The result of a look-up or a change.
-pub(super) fn answer<O: Office>(
-    alloc: Global,
-    office: &mut O,
-    ask: Ask,
-) -> Result<String, OfficeFault> {
+pub fn answer<O: Office>(alloc: Global, office: &mut O, ask: Ask) -> Result<String, OfficeFault> {
     match ask {
         Ask::Change(act) => change(alloc, office, act),
         Ask::Serve(heard) => session_line(alloc, office, heard),
