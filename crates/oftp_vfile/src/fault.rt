@@ -1,4 +1,5 @@
 //! Errors of a taker and of the local form.
+ghost use Rattle.std.specs.Prelude.{◌≡◌};
 ghost use Rattle.oftp_vfile.specs.declared.fault.LocalFault.TheVariants.{Memory as NoLocalMemory};
 ghost use Rattle.oftp_vfile.specs.declared.fault.TakeFault.TheVariants.{Memory};
 
