@@ -4,11 +4,11 @@
     checks/faults/processing.py [--seconds N] [--seed N]       10 seconds of random moments, and another seed each time, where none is given
 
 A trial begins with a database of files: two that the program of the check accepts, one that it refuses, one that it leaves, and one of another
-partner. A call is killed, and the next one comes to its end. A step is a command of the script itself: bash runs it, and kills it before its Nth one,
-for each N up to its end. Random moments also come within a command of the station or within the program. Several calls in a row are killed then, each
-alone or with all that it has started. Of the killed calls and the last one: no file with a response, and none of which a verdict is kept, comes to the
-program again; each comes whole. Behind the last one each file has the response that the program said, and what it leaves has none. The seed is
-printed, and at a failure all that is left is kept in a folder. The last line is `N passed, M failed`.
+partner. A call is killed, and the next one comes to its end. A step is a command of the script itself: bash runs it, and kills it before its Nth
+one, for each N up to its end. Random moments also come within a command of the station or within the program. Several calls in a row are killed
+then, each alone or with all that it has started. Of the killed calls and the last one: no file with a response, and none of which a verdict is kept,
+comes to the program again; each comes whole. Behind the last one each file has the response that the program said, and what it leaves has none. The
+seed is printed, and at a failure all that is left is kept in a folder. The last line is `N passed, M failed`.
 """
 
 import argparse

@@ -3,8 +3,8 @@
 
     checks/lint/version.py
 
-The version stands in crates/oftp_command_line/src/line/usage.rt, from which the program and the package have it. It is the newest of CHANGELOG.md, and
-what rows/lines/help.lines expects of the program. No other file that git has may spell it, so that none is forgotten. The last line is
+The version stands in crates/oftp_command_line/src/line/usage.rt, from which the program and the package have it. It is the newest of CHANGELOG.md,
+and what rows/lines/help.lines expects of the program. No other file that git has may spell it, so that none is forgotten. The last line is
 `N passed, M failed`.
 """
 
