@@ -15,6 +15,7 @@ import pty
 import re
 import select
 import shutil
+import signal
 import subprocess
 import sys
 import tarfile
@@ -40,8 +41,18 @@ WANTED = ["systemd-standalone-sysusers", "systemd-standalone-tmpfiles", "zsh"]
 # The folders that a purge asks about.
 DATA = ["var/lib/oftp", "var/backups/oftp", "etc/oftp"]
 QUESTION = "INPUT high oftp-station/remove_data"
-# What completes a line in zsh, once it is ready.
-ZSH = 'PS1="ready> "; autoload -U compinit; compinit -u; zstyle ":completion:*" list-colors ""; bindkey "^I" complete-word\n'
+# What has zsh complete the line at its prompt by the tabulator, and write into a file what it has then.
+ZSH = """autoload -U compinit; compinit -u
+show() { zle complete-word; print -r -- "$BUFFER" >> /completed }
+zle -N show; bindkey '^I' show
+"""
+# What is typed at the prompt, and what it is completed to.
+TYPED = {
+    "migr": "migrate",
+    "collect --rel": "collect --release",
+    "report --db db rec": "report --db db received",
+    "submit --format U --db /etc/os-rel": "submit --format U --db /etc/os-release",
+}
 
 
 def said(*words):
@@ -364,32 +375,35 @@ def first_day_goes_as_shown(guest):
 
 
 def completes_in_zsh(guest):
-    """zsh completes a command, an option and a value, typed at its prompt."""
+    """zsh completes a command, an option, a value and a file, typed at its prompt."""
+    wanted = [f"oftp_station {it}" for it in TYPED.values()]
     child, screen = pty.fork()
     if child == 0:
         os.execvpe("unshare", [str(it) for it in guest.within("zsh", "-f", "-i")], guest.environment)
     try:
         os.write(screen, ZSH.encode())
-        shown(screen, "ready> ", 2)
-        lines = {"migr": "migrate", "collect --rel": "--release", "report --db db rec": "received", "run --db /etc/os-rel": "/etc/os-release"}
-        for line, wanted in lines.items():
-            os.write(screen, f"oftp_station {line}\t".encode())
-            shown(screen, wanted)
-            os.write(screen, b"\x15")
+        for line in TYPED:
+            # The last octet empties the line.
+            os.write(screen, f"oftp_station {line}\t\x15".encode())
+        found = until_completed(screen, guest.root / "completed", len(wanted))
     finally:
-        os.kill(child, 9)
+        os.kill(child, signal.SIGKILL)
         os.waitpid(child, 0)
         os.close(screen)
+    expect([line.strip() for line in found], wanted, "what zsh completes")
 
 
-def shown(screen, wanted, times=1):
-    """Reads a terminal until it has shown a text so many times."""
-    text, until = "", time.monotonic() + LONG
-    while text.count(wanted) < times:
-        ready, _, _ = select.select([screen], [], [], max(0, until - time.monotonic()))
-        if not ready:
-            raise Wrong(f"zsh shows {text!r}, and not {wanted!r}")
-        text += os.read(screen, 4096).decode(errors="replace")
+def until_completed(screen, path, count):
+    """Reads a terminal until a file has so many lines, which it returns."""
+    shown, until = b"", time.monotonic() + LONG
+    while True:
+        lines = path.read_text(encoding="utf-8").splitlines() if path.exists() else []
+        if len(lines) >= count:
+            return lines
+        if time.monotonic() > until:
+            raise Wrong(f"zsh completes {lines}, and shows {shown!r}")
+        if select.select([screen], [], [], 0.1)[0]:
+            shown += os.read(screen, 4096)
 
 
 def purges(guest, package, kept):
