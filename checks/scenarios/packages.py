@@ -26,7 +26,7 @@ from pathlib import Path
 sys.path.insert(0, str(Path(__file__).resolve().parents[1] / "lib"))
 
 from program import PROGRAM, ROOT
-from services import LONG, NotTried, Wrong, expect, free_port
+from services import LONG, NotTried, Wrong, expect
 from typist import Typist, blocks_below, typed
 
 BUILD = ROOT / "packaging/build"
