@@ -63,7 +63,7 @@ class Site:
     def process(self, code=CARMAKER, book=BOOK):
         """Runs oftp-process to its end. It returns the status and both outputs."""
         done = subprocess.run([SCRIPT, *self.words(code, book)], env=self.environment, capture_output=True, timeout=LONG, check=False)
-        return done.returncode, done.stdout.decode(), done.stderr.decode()
+        return done.returncode, done.stdout.decode(errors="replace"), done.stderr.decode(errors="replace")
 
     def operate(self, command, *words):
         """Gives an operator's command, and returns what it prints."""
