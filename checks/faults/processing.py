@@ -20,6 +20,7 @@ import subprocess
 import sys
 import tempfile
 import time
+from concurrent.futures import ThreadPoolExecutor
 from pathlib import Path
 
 sys.path.insert(0, str(Path(__file__).resolve().parents[1] / "lib"))
@@ -43,6 +44,7 @@ trap 'if [ "$BASH_SUBSHELL" = 0 ] && ((++taken_steps == KILL_BEFORE)); then kill
 WHOM = {"alone": os.kill, "with what it started": os.killpg}
 # A script has some 150 steps for these files. Fewer than the first number, or more than the second, aren't believed.
 FEWEST, MOST = 60, 1000
+AT_ONCE = 6
 # How many kills of each kind the random moments have to bring.
 KILLS = 10
 LONGEST = 300
@@ -62,12 +64,11 @@ class Trials:
         (self.room / name).mkdir()
         return self.room / name
 
-    def site(self):
+    def site(self, name):
         """A new database with the files, which is a copy of the first one."""
-        self.number += 1
         site = Site.__new__(Site)
         site.__dict__ |= self.first.__dict__
-        site.room = self.made(str(self.number))
+        site.room = self.made(name)
         site.database, site.folder = site.room / "database", site.room / "process"
         shutil.copy(self.first.database, site.database)
         return site
@@ -82,22 +83,30 @@ class Trials:
             return subprocess.Popen([*words, *site.words()], env=environment, stdout=told, stderr=told, start_new_session=True)
 
     def at_each_step(self):
-        """Kills the script before its first step, its second one, and so on until it comes to its end."""
-        for step in range(1, MOST):
-            site = self.site()
-            more = {"BASH_ENV": str(self.steps), "KILL_BEFORE": str(step)}
-            status = self.start(site, ["bash", SCRIPT], **more).wait(LONG)
-            expect(status in (KILLED, 1), True, f"the status {status} of a call that is to be killed before step {step}")
-            self.go_on(site)
-            if status != KILLED:
-                expect(step >= FEWEST, True, f"whether {step} steps are enough")
-                return
-            self.count("killed before a step")
+        """Kills the script before its first step, its second one, and so on until it comes to its end. Some are tried at once: they mostly wait for
+        the disk."""
+        with ThreadPoolExecutor(max_workers=AT_ONCE) as runners:
+            for first in range(1, MOST, AT_ONCE):
+                are_killed = list(runners.map(self.before_step, range(first, first + AT_ONCE)))
+                self.counts["killed before a step"] = self.counts.get("killed before a step", 0) + sum(are_killed)
+                if not all(are_killed):
+                    expect(first >= FEWEST, True, f"whether {first} steps are enough")
+                    return
         raise Wrong(f"it isn't at its end behind {MOST} steps")
+
+    def before_step(self, step):
+        """Kills the script before a step. Whether it came so far."""
+        site = self.site(f"step {step}")
+        more = {"BASH_ENV": str(self.steps), "KILL_BEFORE": str(step)}
+        status = self.start(site, ["bash", SCRIPT], **more).wait(LONG)
+        expect(status in (KILLED, 1), True, f"the status {status} of a call that is to be killed before step {step}")
+        self.go_on(site)
+        return status == KILLED
 
     def at_random(self):
         """Kills one call after another at a random moment, and then lets one come to its end."""
-        site = self.site()
+        self.number += 1
+        site = self.site(f"random {self.number}")
         seen = Seen(site)
         for _ in range(self.chance.randint(1, 4)):
             whom = self.chance.choice(list(WHOM))

@@ -162,6 +162,9 @@ def has_its_units(package):
         programs = re.findall(r"^ExecStart=/(\S+)", text, re.M)
         expect([it for it in programs if it not in package.files()], [], f"programs of {unit.name} that the package doesn't have")
         expect(bool(programs), unit.suffix == ".service", f"whether {unit.name} starts a program")
+        pages = [f"usr/share/man/man{number}/{name}.{number}.gz" for name, number in re.findall(r"^Documentation=man:(\S+)\((\d)\)$", text, re.M)]
+        expect([it for it in pages if it not in package.files()], [], f"pages of {unit.name} that the package doesn't have")
+        expect(len(pages), int(unit.suffix == ".service"), f"how many pages {unit.name} names")
         read = re.findall(r"^EnvironmentFile=-?/(\S+)", text, re.M)
         expect([it for it in read if it not in package.files()], [], f"what {unit.name} reads and the package doesn't have")
 

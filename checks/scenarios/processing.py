@@ -137,6 +137,15 @@ def verdict_on_an_answered_file(room):
     expect((site.responses(), site.verdicts(), site.notes()), ({1: RELEASED}, set(), []), "responses, verdicts and notes")
 
 
+def operator_who_is_first(room):
+    """A file that an operator answers while the program has it keeps that response."""
+    by_hand = f'"$OFTP_STATION" refuse --db "$1/database" --book {BOOK} "$OFTP_NO" 12 "by hand"'
+    site = Site(room, [GOOD], f"#!/bin/sh\n{by_hand} > /dev/null\n")
+    status, out, err = site.process()
+    expect((status, "refused: 3 state\n" in out, err), (0, True, ""), f"the call, which told {out!r}")
+    expect((site.responses(), site.verdicts()), ({1: ("NERP", "12", "by hand")}, set()), "the response, and the verdicts")
+
+
 def no_verdict(room):
     """What is no verdict is neither a release nor a refusal, and says where it is."""
     site = Site(room, [GOOD])
@@ -218,6 +227,7 @@ CASES = [
     file_that_is_moved_or_changed,
     station_that_is_not_reached,
     verdict_on_an_answered_file,
+    operator_who_is_first,
     no_verdict,
     two_at_once,
     program_that_outlives_a_kill,
