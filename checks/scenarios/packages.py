@@ -289,7 +289,7 @@ class Guest(Typist):
         return ["unshare", "--mount", "--propagation", "private", "bash", "-c", script, f"{user}:{user}", self.root, *words]
 
     def words(self, command):
-        return self.within("bash", "-c", f"cd /var/lib/oftp/day && {command}", user="oftp")
+        return self.within("bash", "-c", f"cd /var/lib/oftp/day || exit\n{command}", user="oftp")
 
     def try_(self, *words, user="root", stdin="", **more):
         """Runs a command there, and returns its status and both outputs."""

@@ -27,8 +27,13 @@ RELEASED = ("EERP", "", "")
 REFUSED = ("NERP", "34", f"BAD.1 from {CARMAKER} is bad")
 # A program that refuses each file with the file's own content as its output.
 SAYS = '#!/bin/sh\ncat "$2"\nexit 10\n'
-# A program that works until there is a file `end`, and says meanwhile that it does.
-WORKS = '#!/bin/sh\necho "$OFTP_NO" >> "$1/notes"\ntouch "$1/begun"\nuntil [ -e "$1/end" ]; do sleep 0.05; done\n'
+# A program that works until there is a file `end`, and says meanwhile that it does. Where the check fails, it ends in its time.
+WORKS = f"""#!/bin/sh
+echo "$OFTP_NO" >> "$1/notes"
+touch "$1/begun"
+tries=0
+until [ -e "$1/end" ] || [ $((tries += 1)) -gt {20 * LONG // 2} ]; do sleep 0.05; done
+"""
 # The texts of refusals, by what a program prints.
 TEXTS = {
     b"first\nlast": "last",
