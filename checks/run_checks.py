@@ -73,6 +73,13 @@ CHECKS = [
     Check("kills", "python3 checks/faults/kill_at_random.py", "the program, killed at random moments"),
     Check("backups", "python3 checks/faults/backups.py", "backups while files are handed in, and either program is killed"),
     Check("folders killed", "python3 checks/faults/folders.py", "files that are collected and offered, and either program is killed"),
+    Check(
+        "packages",
+        "python3 checks/scenarios/packages.py",
+        "the package: what it has, and how it is installed, used, removed and purged",
+        quick="python3 checks/scenarios/packages.py --here",
+    ),
+    Check("processing killed", "python3 checks/faults/processing.py", "files that a program of the site gets, killed at each step of that"),
     Check("random sessions", "python3 checks/scenarios/fuzz.py --seconds 20", "random sessions, over the program and over a model of a station"),
     Check("schedule", "python3 checks/scenarios/schedule.py", "rows of schedules and random events, over the schedule and a model of it", is_of_gate=True),
     Check("command lines", "python3 checks/scenarios/command_lines.py", "command lines, with what each prints, makes and leaves"),
@@ -99,6 +106,7 @@ CHECKS = [
     Check("sockets", "python3 checks/scenarios/sockets.py", "sessions and requests over sockets"),
     Check("files made", "python3 checks/scenarios/files_made.py", "the files that the program makes: modes, owners and drafts"),
     Check("folders", "python3 checks/scenarios/folders.py", "folders into which files are collected, and from which they are offered"),
+    Check("processing", "python3 checks/scenarios/processing.py", "files that a program of the site gets, and what becomes of each"),
     Check("edge calls", "python3 checks/faults/edge_calls.py", "calls for sockets and files that fail, and their order", wants_cc=True),
     Check("memory", "bash checks/speed/feed_64_mib.sh", "the memory of a session of 64 MiB", ALONE),
     Check("speed", "python3 checks/speed/receive_speed.py --assert", "what a file that comes in takes", ALONE),
@@ -119,6 +127,8 @@ WANTED = {
     "systemd": (["systemd-analyze"], ["systemd"]),
     "stunnel": (["stunnel", "openssl"], ["stunnel4", "openssl"]),
     "a browser": (["chromium"], ["chromium", "fonts-dejavu-core"]),
+    "man": (["man"], ["man-db"]),
+    "debootstrap": (["debootstrap"], ["debootstrap"]),
     "the text of RFC 5024": (["/usr/share/doc/RFC/informational/rfc5024.txt.gz"], ["doc-rfc-informational"]),
 }
 # How a check begins the line of what it couldn't try.

@@ -1,9 +1,11 @@
 #!/bin/bash
-# Checks the units of examples/service by systemd-analyze, if that is installed, and that the name of a call's timer gives back the partner's code.
-# The last line is `N passed, M failed`.
+# Checks the units of examples/service by systemd-analyze, if that is installed: systemd reads them, each service's exposure is below 3, and the name
+# of a unit for a partner gives back the partner's code. The options that are shown for the station's unit are options of `run`. The last line is
+# `N passed, M failed`.
 # No unit is started: docs/DECISIONS.md says why.
 set -euo pipefail
 root=$(cd "$(dirname "$0")/../.." && pwd)
+service=$root/examples/service
 room=$(mktemp -d)
 trap 'rm -rf "$room"' EXIT
 passed=0
@@ -18,41 +20,66 @@ count() {
     fi
 }
 
-# The unit is verified under a name that systemd starts, with a program and a user that exist here. Errors and unknown settings both fail;
-# systemd-analyze reports them by its status or only by a message.
+# Where a unit is verified: under a name that systemd starts.
+place_of() {
+    echo "$room/${1/@./@O0177CARMAKER.}"
+}
+
+# The unit is verified with a program and a user that exist here. Errors and unknown settings both fail; systemd-analyze reports them by its status
+# or only by a message.
 verify() {
-    local unit=$room/${1/@./@O0177CARMAKER.} status=0
-    sed -e 's|/usr/local/bin/oftp_station|/bin/true|; s/^User=oftp/User=root/' "$root/examples/service/$1" > "$unit" || return
+    local unit status=0
+    unit=$(place_of "$1")
+    sed -e 's|/usr/local/bin/oftp[a-z_-]*|/bin/true|; s/^User=oftp/User=root/' "$service/$1" > "$unit" || return
     systemd-analyze verify --man=no "$unit" > "$room/verified" 2>&1 || status=$?
     cat "$room/verified"
     [ "$status" = 0 ] && ! grep -q 'Unknown\|Failed to parse\|not executable\|Invalid' "$room/verified"
 }
 
-# The unit of the station with the lines that docs/OPERATING.md gives for the page.
-verify_edited() {
-    local unit=$room/oftp-run.service
-    mkdir -p "$unit.d"
-    sed -n 's/^    //; /^\[Service\]$/,/^$/p' "$root/docs/OPERATING.md" | sed 's|/usr/local/bin/oftp_station|/bin/true|' > "$unit.d/page.conf"
-    grep -q -- '--http-port' "$unit.d/page.conf" && verify oftp-run.service
+# The exposure of a service, as systemd-analyze counts it from 0 to 10, is below 3.
+is_confined() {
+    local unit exposure
+    unit=$(place_of "$1")
+    sed -e 's|/usr/local/bin/oftp[a-z_-]*|/bin/true|' "$service/$1" > "$unit" || return
+    exposure=$(systemd-analyze security --no-pager --offline=true "$unit" | sed -n 's/.*Overall exposure level for .*: \([0-9.]*\) .*/\1/p')
+    echo "the exposure of $1 is ${exposure:-unknown}"
+    awk -v exposure="${exposure:-10}" 'BEGIN {exit !(exposure < 3)}'
 }
 
-# The command that the comment of the timer gives for a code names an instance of the timer, whose %I is that code, and the service calls %I.
-calls() {
-    local command unit
-    command=$(grep -o '"oftp-call@[^"]*"' "$root/examples/service/oftp-call@.timer") || return
-    unit=$(code=$1 bash -c "printf %s ${command/O0177CARMAKER/\"\$code\"}") || return
-    echo "the timer for $1 is $unit"
-    [ "${unit%%@*}" = oftp-call ] && [ "$(systemd-escape --unescape --instance "$unit")" = "$1" ] &&
-        grep -q -- ' --partner %I$' "$root/examples/service/oftp-call@.service"
+# The station's unit passes on what /etc/default/oftp-station has, and the lines OPTIONS=".." that are shown for that file name options of `run`.
+passes_options() {
+    local told options option count=0
+    grep -qxF 'EnvironmentFile=-/etc/default/oftp-station' "$service/oftp-run.service" || return
+    grep -q '^ExecStart=.* \$OPTIONS$' "$service/oftp-run.service" || return
+    told=$(grep '^| `./oftp_station run ' "$root/docs/COMMANDS.md") || return
+    options=$(sed -n 's/^ *#\{0,1\}OPTIONS="\(.*\)"$/\1/p' "$service/default" "$root/docs/OPERATING.md") || return
+    for option in $(grep -o -- '--[a-z-]*' <<< "$options"); do
+        echo "the option $option"
+        [[ $told == *"[$option "* ]] || return
+        count=$((count + 1))
+    done
+    [ "$count" -ge 3 ]
+}
+
+# The command that the comment of a unit for partners gives for a code names an instance of it, whose %I is that code, and the service passes %I on.
+leads_to_partner() {
+    local name=$1 kind=$2 code=$3 command unit
+    command=$(grep -o "\"$name@[^\"]*\.$kind\"" "$service/$name@.$kind" | head -n 1) || return
+    unit=$(code=$code bash -c "printf %s ${command/O0177CARMAKER/\"\$code\"}") || return
+    echo "the $kind for $code is $unit"
+    [ "${unit%%@*}" = "$name" ] && [ "$(systemd-escape --unescape --instance "$unit")" = "$code" ] &&
+        grep -q -- '^ExecStart=.* --partner %I\( \|$\)' "$service/$name@.service"
 }
 
 if command -v systemd-analyze > /dev/null; then
-    for unit in "$root"/examples/service/oftp-*; do
+    for unit in "$service"/oftp-*.*; do
         count verify "${unit##*/}"
+        if [ "${unit##*.}" = service ]; then count is_confined "${unit##*/}"; fi
     done
-    count verify_edited
+    count passes_options
     for code in O0177CARMAKER O0177-CAR 'O0013/VAN' 'O.13-(A&B)/C'; do
-        count calls "$code"
+        count leads_to_partner oftp-call timer "$code"
+        count leads_to_partner oftp-process path "$code"
     done
 else
     echo 'NOT TRIED without systemd: the units of examples/service'

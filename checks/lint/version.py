@@ -1,0 +1,54 @@
+#!/usr/bin/env python3
+"""Compares the program's version with what else has it.
+
+    checks/lint/version.py
+
+The version stands in crates/oftp_command_line/src/line/usage.rt, from which the program and the package have it. It is the newest of CHANGELOG.md,
+and what rows/lines/help.lines expects of the program. No other file that git has may spell it, so that none is forgotten. The last line is
+`N passed, M failed`.
+"""
+
+import re
+import subprocess
+import sys
+from pathlib import Path
+
+sys.path.insert(0, str(Path(__file__).resolve().parents[1] / "lib"))
+
+from program import ROOT
+
+USAGE = "crates/oftp_command_line/src/line/usage.rt"
+# Where it stands a second time, and how.
+REPEATED = {
+    "CHANGELOG.md": re.compile(r"\A.*?^## (\S+),", re.M | re.S),
+    "rows/lines/help.lines": re.compile(r"^out oftp_station (\S+), schema", re.M),
+}
+
+
+def text_of(name):
+    return (ROOT / name).read_text(encoding="utf-8")
+
+
+def main():
+    found = re.search(r'^pub const VERSION: &str = "oftp_station (\d+\.\d+\.\d+), schema \d+";$', text_of(USAGE), re.M)
+    if not found:
+        print(f"{USAGE} has no version\n0 passed, 1 failed")
+        return 1
+    version, passed, failed = found[1], 0, 0
+    for name, pattern in REPEATED.items():
+        told = pattern.findall(text_of(name))
+        is_right = bool(told) and set(told) == {version}
+        passed, failed = passed + is_right, failed + (not is_right)
+        if not is_right:
+            print(f"{name} has {told or 'no version'}, and {USAGE} has {version}")
+    words = ["git", "grep", "-lwF", "-e", version]
+    spelled = set(subprocess.run(words, cwd=ROOT, capture_output=True, text=True, check=False).stdout.splitlines())
+    for name in sorted(spelled - {USAGE, *REPEATED}):
+        failed += 1
+        print(f"{name} spells the version {version}: take it from {USAGE}, or compare it here")
+    print(f"{passed} passed, {failed} failed")
+    return 1 if failed else 0
+
+
+if __name__ == "__main__":
+    sys.exit(main())
