@@ -1,0 +1,5 @@
+mod HeaderLemmas
+mod NextLemmas
+mod ReadLemmas
+mod CutLemmas
+mod ChangeLemmas
