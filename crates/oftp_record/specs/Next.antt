@@ -70,3 +70,10 @@ IsNext before octets (Cut None) = BreaksInHeader octets
 IsNext before octets (Cut (Some lacking)) = BreaksBehind octets lacking
 IsNext before octets (Changed signs.Header) = HasNoHeader octets
 IsNext before octets (Changed signs.Digest) = HasOtherDigest before octets
+
+-- a whole entry has octets, and all of them are there
+abbrev pub IsThere : List ℕ → NextEntry → Type 0
+IsThere octets (shows.Whole stored) = (0 < stored.length) × (stored.length ≤ length octets)
+IsThere octets shows.End = Unit {0}
+IsThere octets (shows.Cut lacking) = Unit {0}
+IsThere octets (shows.Changed sign) = Unit {0}

@@ -2,7 +2,7 @@
 
 ghost use Rattle.std.specs.Prelude.{◌≡◌, ◌<◌, ◌≤◌, ◌^◌, ◌++◌, drop};
 ghost use Rattle.oftp_record.specs.Entries.{entry_header};
-ghost use Rattle.oftp_record.specs.Next.{IsNext, shown_next};
+ghost use Rattle.oftp_record.specs.Next.{IsNext, IsThere, shown_next};
 ghost use Rattle.oftp_record.specs.declared.header.TheConstants.{HEADER_LEN, LONGEST_CONTENT};
 
 use crate::chain::{ChainDigest, DIGEST_LEN};
@@ -48,7 +48,8 @@ pub enum NextEntry<'a> {
 ///
 /// It takes no memory, and its time is linear in the octets of one entry; no clause says this.
 pub fn next_entry<'a>(octets: &'a [u8], before: &ChainDigest) -> NextEntry<'a>
-    ensures { IsNext before.now.0 octets.now (shown_next result) }
+    ensures next { IsNext before.now.0 octets.now (shown_next result) }
+    ensures there { IsThere octets.now result }
 {
     if octets.is_empty() {
         return NextEntry::End;
@@ -67,7 +68,8 @@ fn entry_behind<'a>(octets: &'a [u8], header: Header, before: &ChainDigest) -> N
     requires headed { octets.now ≡ entry_header header.kind header.moment header.count ++ drop HEADER_LEN octets.now }
     requires moment { header.moment < 2 ^ 64 }
     requires count { header.count ≤ LONGEST_CONTENT }
-    ensures { IsNext before.now.0 octets.now (shown_next result) }
+    ensures next { IsNext before.now.0 octets.now (shown_next result) }
+    ensures there { IsThere octets.now result }
 {
     let body = HEADER_LEN + header.count as usize;
     let length = body + DIGEST_LEN;

@@ -39,7 +39,7 @@ impl From<AllocError> for AppendFault {
     ghost from_gives = { λ _ e. e ≡ Memory };
 
     fn from(_refused: AllocError) -> AppendFault {
-        AppendFault::Memory
+        Self::Memory
     }
 }
 
