@@ -1,12 +1,12 @@
 -- The octets of headers and entries: their lengths, and that they are read in one way.
-use Rattle.std.proofs.Common.{◌≡◌, ℕ, ◌+◌, ◌-◌, ◌^◌, ◌<◌, ◌≤◌, List, [], ◌∷◌, ◌++◌, length, take, drop, get_or, refl, sym, ap, ◌∙◌, append_assoc, arith, length-append}
-use Rattle.std.proofs.lemmas.List.{take_at, drop_at}
+use Rattle.std.proofs.Common.{◌≡◌, ℕ, ◌+◌, ◌-◌, ◌^◌, ◌<◌, ◌≤◌, List, [], ◌∷◌, ◌++◌, length, take, drop, get_or, codes, refl, sym, ap, ◌∙◌, append_assoc, arith, length-append}
+use Rattle.std.proofs.lemmas.List.{drop-drop, drop_at, drop_more, take-append-drop, take_at}
 use Rattle.std.proofs.lemmas.Nat.{from_be_bytes-to_be_bytes_4, from_be_bytes-to_be_bytes_8}
 use Rattle.std.specs.Int.{w32, w64, to_be_bytes, from_be_bytes}
 use Rattle.sha2.proofs.Facts256.{length-sha256}
 use Rattle.oftp_record.specs.Entries.{IsEntry, Noted, entry_body, entry_digest, entry_header, entry_length, entry_octets, kind_number}
 use Rattle.oftp_record.specs.declared.chain.TheConstants.{DIGEST_LEN}
-use Rattle.oftp_record.specs.declared.header.TheConstants.{COUNT_AT, HEADER_LEN, LONGEST_CONTENT, MOMENT_AT}
+use Rattle.oftp_record.specs.declared.header.TheConstants.{COUNT_AT, HEADER_LEN, KIND_AT, LACK_AT, LONGEST_CONTENT, MOMENT_AT}
 use Rattle.oftp_record.specs.declared.kind.RecordKind.{RecordKind}
 use Rattle.oftp_record.specs.declared.kind.RecordKind.TheVariants as kinds
 
@@ -82,3 +82,29 @@ digest_length e before = length-sha256 (entry_body e ++ before)
 
 pub octets_length : (e : Noted) (before : List ℕ) → length (entry_octets e before) ≡ entry_length e
 octets_length e before = omega (arith, length-append (entry_body e) (entry_digest e before), body_length e, digest_length e before)
+
+-- octets that have the parts of a header
+pub header_from : (o : List ℕ) (k : RecordKind) (m n : ℕ) → length o ≡ HEADER_LEN → take KIND_AT o ≡ codes "OREC1" → kind_number k ≡ get_or o KIND_AT 0
+    → to_be_bytes w64 m ≡ take 8 (drop MOMENT_AT o) → to_be_bytes w32 n ≡ take 4 (drop COUNT_AT o) → to_be_bytes w32 (2 ^ 32 - 1 - n) ≡ drop LACK_AT o
+    → o ≡ entry_header k m n
+header_from o k m n long word kind moment count lack =
+    let behind_word : drop KIND_AT o ≡ get_or o KIND_AT 0 ∷ drop MOMENT_AT o = drop_more o KIND_AT 0 (omega (arith, long)) in
+    let behind_kind : drop MOMENT_AT o ≡ to_be_bytes w64 m ++ drop COUNT_AT o =
+    sym (take-append-drop 8 (drop MOMENT_AT o)) ∙ ap (λ (z : List ℕ). z ++ drop 8 (drop MOMENT_AT o)) (sym moment)
+    ∙ ap (λ (z : List ℕ). to_be_bytes w64 m ++ z) (drop-drop 8 MOMENT_AT o) in
+    let behind_moment : drop COUNT_AT o ≡ to_be_bytes w32 n ++ drop LACK_AT o =
+    sym (take-append-drop 4 (drop COUNT_AT o)) ∙ ap (λ (z : List ℕ). z ++ drop 4 (drop COUNT_AT o)) (sym count)
+    ∙ ap (λ (z : List ℕ). to_be_bytes w32 n ++ z) (drop-drop 4 COUNT_AT o) in
+    let numbers : drop MOMENT_AT o ≡ to_be_bytes w64 m ++ (to_be_bytes w32 n ++ to_be_bytes w32 (2 ^ 32 - 1 - n)) =
+    behind_kind ∙ ap (λ (z : List ℕ). to_be_bytes w64 m ++ z) (behind_moment ∙ ap (λ (z : List ℕ). to_be_bytes w32 n ++ z) (sym lack)) in
+    sym (take-append-drop KIND_AT o) ∙ ap (λ (z : List ℕ). z ++ drop KIND_AT o) word ∙ ap (λ (z : List ℕ). codes "OREC1" ++ z)
+    (behind_word ∙ ap (λ (x : ℕ). x ∷ drop MOMENT_AT o) (sym kind) ∙ ap (λ (z : List ℕ). kind_number k ∷ z) numbers)
+
+-- octets whose numbers are no count and what it lacks are no header
+pub no_header_by_count : (o : List ℕ) (c l : ℕ) → c < 2 ^ 32 → l < 2 ^ 32 → to_be_bytes w32 c ≡ take 4 (drop COUNT_AT o) → to_be_bytes w32 l ≡ drop LACK_AT o
+    → ((c ≤ LONGEST_CONTENT) × (l ≡ 2 ^ 32 - 1 - c) → ⊥)
+    → (k : RecordKind) (m n : ℕ) → n ≤ LONGEST_CONTENT → o ≡ entry_header k m n → ⊥
+no_header_by_count o c l small low count lack no k m n few e =
+    let counts : c ≡ n = same_short c n small (omega (arith, few)) (count ∙ ap (λ (z : List ℕ). take 4 (drop COUNT_AT z)) e) in
+    let lacks : l ≡ 2 ^ 32 - 1 - n = same_short l (2 ^ 32 - 1 - n) low (omega arith) (lack ∙ ap (λ (z : List ℕ). drop LACK_AT z) e) in
+    no (omega (arith, counts, few), omega (arith, counts, lacks))

@@ -75,7 +75,8 @@ impl Header {
         ensures header { IfSome result (λ header. octets.now ≡ entry_header header.kind header.moment header.count) }
         ensures moment { IfSome result (λ header. header.moment < 2 ^ 64) }
         ensures count { IfSome result (λ header. header.count ≤ LONGEST_CONTENT) }
-        ensures none { result ≡ None → (kind : RecordKind) (moment count : ℕ) → count ≤ LONGEST_CONTENT → octets.now ≡ entry_header kind moment count → ⊥ }
+        ensures none { result ≡ None → (kind : RecordKind) (moment count : ℕ) → count ≤ LONGEST_CONTENT
+            → octets.now ≡ entry_header kind moment count → ⊥ }
     {
         if &octets[..KIND_AT] != b"OREC1".as_slice() {
             return None;

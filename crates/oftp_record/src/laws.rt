@@ -17,7 +17,8 @@ pub fn one_reading()
         → (xs ≡ ys) × (x ≡ y) }
     // Who asks for one entry after another, until none is whole, reads them so.
     ensures more { (before octets digest : List ℕ) (entry : Noted) (count : ℕ) (entries : List Noted) (next : Next)
-        → IsNext before octets (Whole entry count digest) → IsRead digest (drop count octets) entries next → IsRead before octets (entry ∷ entries) next }
+        → IsNext before octets (Whole entry count digest) → IsRead digest (drop count octets) entries next
+        → IsRead before octets (entry ∷ entries) next }
     ensures stop { (before octets : List ℕ) (next : Next) → IsNext before octets next → IsStop next → IsRead before octets [] next }
 {}
 
