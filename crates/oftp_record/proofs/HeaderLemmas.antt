@@ -5,6 +5,7 @@ use Rattle.std.proofs.lemmas.Nat.{from_be_bytes-to_be_bytes_4, from_be_bytes-to_
 use Rattle.std.specs.Int.{w32, w64, to_be_bytes, from_be_bytes}
 use Rattle.sha2.proofs.Facts256.{length-sha256}
 use Rattle.oftp_record.specs.Entries.{IsEntry, Noted, entry_body, entry_digest, entry_header, entry_length, entry_octets, kind_number}
+use Rattle.oftp_record.specs.Next.{HasNoHeader}
 use Rattle.oftp_record.specs.declared.chain.TheConstants.{DIGEST_LEN}
 use Rattle.oftp_record.specs.declared.header.TheConstants.{COUNT_AT, HEADER_LEN, KIND_AT, LACK_AT, LONGEST_CONTENT, MOMENT_AT}
 use Rattle.oftp_record.specs.declared.kind.RecordKind.{RecordKind}
@@ -100,11 +101,10 @@ header_from o k m n long word kind moment count lack =
     sym (take-append-drop KIND_AT o) ∙ ap (λ (z : List ℕ). z ++ drop KIND_AT o) word ∙ ap (λ (z : List ℕ). codes "OREC1" ++ z)
     (behind_word ∙ ap (λ (x : ℕ). x ∷ drop MOMENT_AT o) (sym kind) ∙ ap (λ (z : List ℕ). kind_number k ∷ z) numbers)
 
--- octets whose numbers are no count and what it lacks are no header
-pub no_header_by_count : (o : List ℕ) (c l : ℕ) → c < 2 ^ 32 → l < 2 ^ 32 → to_be_bytes w32 c ≡ take 4 (drop COUNT_AT o) → to_be_bytes w32 l ≡ drop LACK_AT o
-    → ((c ≤ LONGEST_CONTENT) × (l ≡ 2 ^ 32 - 1 - c) → ⊥)
-    → (k : RecordKind) (m n : ℕ) → n ≤ LONGEST_CONTENT → o ≡ entry_header k m n → ⊥
-no_header_by_count o c l small low count lack no k m n few e =
-    let counts : c ≡ n = same_short c n small (omega (arith, few)) (count ∙ ap (λ (z : List ℕ). take 4 (drop COUNT_AT z)) e) in
-    let lacks : l ≡ 2 ^ 32 - 1 - n = same_short l (2 ^ 32 - 1 - n) low (omega arith) (lack ∙ ap (λ (z : List ℕ). drop LACK_AT z) e) in
-    no (omega (arith, counts, few), omega (arith, counts, lacks))
+-- octets of which the first ones are no header
+pub no_header : (o : List ℕ) → HEADER_LEN ≤ length o
+    → ((k : RecordKind) (m n : ℕ) → n ≤ LONGEST_CONTENT → take HEADER_LEN o ≡ entry_header k m n → ⊥) → HasNoHeader o
+no_header o enough none = record {
+  enough = enough;
+  none = λ k m n rest few e. none k m n few (ap (λ (z : List ℕ). take HEADER_LEN z) e ∙ take_at (entry_header k m n) rest HEADER_LEN refl);
+}
