@@ -1,17 +1,17 @@
 -- An octet of an entry that was changed is told.
-use Rattle.std.proofs.Common.{◌≡◌, ◌≢◌, ℕ, zero, suc, ◌+◌, ◌-◌, ◌*◌, ◌%◌, ◌/◌, ◌^◌, ◌<◌, ◌≤◌, ◌⊎◌, inl, inr, List, [], ◌∷◌, ◌++◌, length, take, drop, get_or, set, codes, refl, sym, ap, ◌∙◌, subst, append_assoc, arith, length-append, length-set}
+use Rattle.std.proofs.Common.{◌≡◌, ◌≢◌, ℕ, zero, suc, ◌+◌, ◌-◌, ◌^◌, ◌<◌, ◌≤◌, ◌⊎◌, inl, inr, List, [], ◌∷◌, ◌++◌, length, take, drop, get_or, set, codes, refl, sym, ap, ◌∙◌, subst, append_assoc, arith, length-append, length-set}
 use Rattle.std.proofs.lemmas.Bool.{cases_eq, cases_lt}
-use Rattle.std.proofs.lemmas.List.{drop_at, get_or-append_right, get_or_append_left, get_or_past, get_or-set_other, get_or-set_same, set-append_left, set-append_right, set_past, take_at}
+use Rattle.std.proofs.lemmas.List.{drop_at, get_or-append_right, get_or_append_left, get_or-set_other, get_or-set_same, set-append_left, set-append_right, set_past, take_at}
 use Rattle.std.proofs.lemmas.Nat.{be_bytes_8}
 use Rattle.std.specs.Int.{w32, w64, from_be_bytes, to_be_bytes}
 use Rattle.std.specs.List.{AllByRecursion}
 use Rattle.sha2.specs.Sha256.{sha256}
 use Rattle.oftp_record.specs.Changes.{EndsWithOtherDigest, IsChangedAt, IsGuardedByDigest, TellsChange}
 use Rattle.oftp_record.specs.Entries.{IsEntry, Noted, entry_body, entry_digest, entry_header, entry_length, entry_octets, kind_number}
-use Rattle.oftp_record.specs.Next.{Changed, HasNoHeader, HasOtherDigest, IsNext}
-use Rattle.oftp_record.specs.Records.{IsRead, last_digest, record_octets}
+use Rattle.oftp_record.specs.Next.{Changed, IsNext}
+use Rattle.oftp_record.specs.Records.{last_digest, record_octets}
 use Rattle.oftp_record.specs.declared.chain.TheConstants.{DIGEST_LEN}
-use Rattle.oftp_record.specs.declared.header.TheConstants.{COUNT_AT, HEADER_LEN, KIND_AT, LACK_AT, LONGEST_CONTENT, MOMENT_AT}
+use Rattle.oftp_record.specs.declared.header.TheConstants.{COUNT_AT, HEADER_LEN, KIND_AT, LACK_AT, MOMENT_AT}
 use Rattle.oftp_record.specs.declared.kind.RecordKind.{RecordKind}
 use Rattle.oftp_record.specs.declared.kind.RecordKind.TheVariants as kinds
 use Rattle.oftp_record.specs.declared.next.Alteration.{Alteration}
@@ -168,15 +168,15 @@ module _ (before rest : List ℕ) (e : Noted) (is : IsEntry e) (at v : ℕ) (sma
     | inl k ↦ by_digest (record e { kind = k.kind }) (record { moment = is.moment; content = is.content })
         (ap (λ (p : ℕ). set was p v) here ∙ ap (λ (w : ℕ). set was KIND_AT w) (sym k.number)) ends
     | inr none ↦ record {
-        sign = signs.Header;
-        next = record {
-          enough = enough;
-          none = λ kind moment count more few same. none (record {
-            kind = kind;
-            number = sym (ap (λ (z : List ℕ). get_or z KIND_AT 0) (ap (λ (p : ℕ). set was p v ++ rest) (sym here) ∙ same));
-          });
-        };
-      }
+      sign = signs.Header;
+      next = record {
+        enough = enough;
+        none = λ kind moment count more few same. none (record {
+          kind = kind;
+          number = sym (ap (λ (z : List ℕ). get_or z KIND_AT 0) (ap (λ (p : ℕ). set was p v ++ rest) (sym here) ∙ same));
+        });
+      };
+    }
   ]
 
   in_moment : MOMENT_AT ≤ at → at < COUNT_AT → EndsWithOtherDigest before (set was at v) → Told before (set was at v ++ rest)

@@ -5,7 +5,7 @@ use Rattle.std.proofs.lemmas.Bool.{cases_lt, eqb-false}
 use Rattle.std.proofs.lemmas.List.{length-take-le, take-append-le}
 use Rattle.std.specs.List.{AllByRecursion}
 use Rattle.oftp_record.specs.Entries.{IsEntry, Noted, entry_digest, entry_header, entry_length, entry_octets}
-use Rattle.oftp_record.specs.Next.{BreaksBehind, BreaksInHeader, IsNext, Next, Ends, Cut}
+use Rattle.oftp_record.specs.Next.{BreaksBehind, BreaksInHeader, IsNext, Ends, Cut}
 use Rattle.oftp_record.specs.Records.{IsCutRead, IsRead, IsStop, cut_next, record_octets}
 use Rattle.oftp_record.specs.declared.header.TheConstants.{HEADER_LEN}
 use Rattle.oftp_record.proofs.HeaderLemmas.{digest_length, octets_length}

@@ -1,5 +1,5 @@
 -- Of octets behind an entry one thing alone is told.
-use Rattle.std.proofs.Common.{◌≡◌, ℕ, ◌<◌, ◌≤◌, List, [], ◌++◌, length, drop, Some, None, refl, sym, ap, ◌∙◌, append_assoc, arith, length-append}
+use Rattle.std.proofs.Common.{◌≡◌, ℕ, ◌≤◌, List, [], ◌++◌, length, drop, Some, None, refl, sym, ap, ◌∙◌, append_assoc, arith, length-append}
 use Rattle.std.proofs.lemmas.List.{drop_at}
 use Rattle.oftp_record.specs.Entries.{IsEntry, Noted, entry_body, entry_digest, entry_header, entry_length, entry_octets}
 use Rattle.oftp_record.specs.Next.{BeginsEntry, BreaksBehind, BreaksInHeader, HasNoHeader, HasOtherDigest, IsNext, Next, Whole, Ends, Cut, Changed}

@@ -63,10 +63,10 @@ one_read_by : (before : List ℕ) (xs ys : List Noted) (r q : List ℕ) (x y : N
 one_read_by before [] [] r q x y same f g p t s u = (refl, one_next before q x y (subst (λ (z : List ℕ). IsNext before z x) same p) t)
 one_read_by before [] (b ∷ others) r q x y same f g p t s u =
     absurd (not_written before r (record_octets (entry_digest b before) others ++ q) b x g.0
-        (same ∙ append_assoc (entry_octets b before) (record_octets (entry_digest b before) others) q) p s)
+    (same ∙ append_assoc (entry_octets b before) (record_octets (entry_digest b before) others) q) p s)
 one_read_by before (a ∷ more) [] r q x y same f g p t s u =
     absurd (not_written before q (record_octets (entry_digest a before) more ++ r) a y f.0
-        (sym same ∙ append_assoc (entry_octets a before) (record_octets (entry_digest a before) more) r) t u)
+    (sym same ∙ append_assoc (entry_octets a before) (record_octets (entry_digest a before) more) r) t u)
 one_read_by before (a ∷ more) (b ∷ others) r q x y same f g p t s u =
     let first = same_first before a b more others r q f.0 g.0 same in
     let heads : a ≡ b = first.0 in

@@ -1,4 +1,4 @@
-use Rattle.std.proofs.Common.{rules, ◌≡◌, ◌+◌, ◌-◌, take, drop, arith}
+use Rattle.std.proofs.Common.{rules, ◌≡◌, ◌+◌, ◌-◌, take, drop}
 use Rattle.oftp_record.specs.declared.chain.TheConstants.{DIGEST_LEN}
 use Rattle.oftp_record.specs.declared.header.TheConstants.{HEADER_LEN}
 use Rattle.oftp_record.proofs.StoredLemmas.{begins, broken, otherwise}

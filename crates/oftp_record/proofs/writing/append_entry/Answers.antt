@@ -21,8 +21,15 @@ returns-clause-digest c =
     let header = entry_header c.args.entry.now.kind c.args.entry.now.moment (length content) in
     let begin = c.len-begin.result in
     let long : begin + (length header + length content) ≡ length ((items ++ header) ++ content) =
-    omega (arith, c.len-begin.ensures, c.append.ensures.len, c.append-2.ensures.len, c.deref.ensures.len, ap (λ (z : List ℕ). length z) (body c),
-        ap (λ (z : List ℕ). length z) (c.as_slice.ensures ∙ c.octets.ensures)) in
+    omega (
+      arith,
+      c.len-begin.ensures,
+      c.append.ensures.len,
+      c.append-2.ensures.len,
+      c.deref.ensures.len,
+      ap (λ (z : List ℕ). length z) (body c),
+      ap (λ (z : List ℕ). length z) (c.as_slice.ensures ∙ c.octets.ensures),
+    ) in
     sealed items header content c.of-digest.result.0 c.args.before.now.0 begin long
     (c.of-digest.ensures ∙ ap (λ (s : List ℕ). sha256 (take (length s - begin) (drop begin s) ++ c.args.before.now.0)) (body c))
 
