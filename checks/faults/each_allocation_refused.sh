@@ -167,6 +167,7 @@ else
     none_behind_reservation oftp_test_register tests::streams::no_memory_within_room
     each_of_test oftp_test_register tests::files::refused_and_taken_again
     each_of_test oftp_test_register tests::registers::memory::each_allocation_refused
+    each_of_test oftp_test_record tests::three_entries_written
     each_of_test oftp_test_sessions tests::refused::three_octets_out
     each_of_test oftp_test_sessions tests::refused::broken_and_taken_up
 fi

@@ -1,0 +1,6 @@
+mod HeaderLemmas
+mod NextLemmas
+mod StoredLemmas
+mod ReadLemmas
+mod CutLemmas
+mod ChangeLemmas

@@ -1,0 +1,6 @@
+-- The definitions that contracts cite: an entry as octets, what stands at the beginning of octets, and records.
+pub mod Entries
+pub mod Next
+pub mod Records
+pub mod Changes
+pub mod AppendFaults

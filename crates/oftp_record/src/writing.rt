@@ -1,0 +1,91 @@
+//! Writing an entry.
+
+ghost use Rattle.std.specs.Prelude.{◌≡◌, ◌+◌, ◌<◌, ◌≤◌, ◌++◌, Some, Err, IfOk, IfErr, OnOk, OnErr, length, vec_capacity, vec_len};
+ghost use Rattle.oftp_record.specs.AppendFaults.{append_fault_text};
+ghost use Rattle.oftp_record.specs.Entries.{entry_digest, entry_length, entry_octets, noted};
+ghost use Rattle.oftp_record.specs.declared.header.TheConstants.{LONGEST_CONTENT};
+ghost use Rattle.oftp_record.specs.declared.writing.AppendFault.TheVariants.{Memory, TooLong};
+
+use crate::chain::{ChainDigest, DIGEST_LEN};
+use crate::entry::RecordEntry;
+use crate::header::{HEADER_LEN, Header, LONGEST_CONTENT};
+use std::alloc::AllocError;
+use std::error::Error;
+use std::fmt;
+
+/// Why an entry wasn't written.
+#[derive(Clone, Copy, Debug, PartialEq, Eq, Drop)]
+pub enum AppendFault {
+    /// Its content has more than [`LONGEST_CONTENT`] octets.
+    TooLong,
+    /// Out of memory.
+    Memory,
+}
+
+impl fmt::Display for AppendFault {
+    ghost output = { λ e. Some (append_fault_text e) };
+
+    fn fmt<W: fmt::Write>(&self, f: &mut fmt::Formatter<W>) -> fmt::Result {
+        f.write_str(match self {
+            AppendFault::TooLong => "an entry of a record is too long",
+            AppendFault::Memory => "out of memory",
+        })
+    }
+}
+
+impl Error for AppendFault {}
+
+impl From<AllocError> for AppendFault {
+    ghost from_gives = { λ _ e. e ≡ Memory };
+
+    fn from(_refused: AllocError) -> AppendFault {
+        Self::Memory
+    }
+}
+
+// Appends octets for which there is room.
+fn append(record: &mut Vec<u8>, octets: &[u8])
+    requires { vec_len record.old + length octets.now ≤ vec_capacity record.old }
+    ensures items { record.new.items ≡ record.old.items ++ octets.now }
+    ensures len { vec_len record.new ≡ vec_len record.old + length octets.now }
+    ensures capacity { vec_capacity record.old ≤ vec_capacity record.new }
+{
+    let _ = record.extend_from_slice(octets);
+}
+
+/// Appends the octets of an entry to those of a record, and returns its digest. `before` is the digest of the entry before it.
+///
+/// # Errors
+///
+/// - [`AppendFault::TooLong`] exactly where the content has more than [`LONGEST_CONTENT`] octets.
+/// - [`AppendFault::Memory`]: out of memory, only where the record had no room for the entry.
+///
+/// The octets of the record are unchanged.
+pub fn append_entry(
+    record: &mut Vec<u8>,
+    entry: &RecordEntry<'_>,
+    before: &ChainDigest,
+) -> Result<ChainDigest, AppendFault>
+    ensures octets { OnOk result (record.new.items ≡ record.old.items ++ entry_octets (noted entry.now) before.now.0) }
+    ensures digest { IfOk result (λ digest. digest.0 ≡ entry_digest (noted entry.now) before.now.0) }
+    ensures long { LONGEST_CONTENT < length entry.now.content.now → result ≡ Err TooLong }
+    ensures too_long { IfErr result (λ fault. fault ≡ TooLong → LONGEST_CONTENT < length entry.now.content.now) }
+    ensures memory { IfErr result (λ fault. fault ≡ Memory → vec_capacity record.old < vec_len record.old + entry_length (noted entry.now)) }
+    ensures err { OnErr result (record.new.items ≡ record.old.items) }
+{
+    if entry.content.len() > LONGEST_CONTENT {
+        return Err(AppendFault::TooLong);
+    }
+    record.reserve(HEADER_LEN + entry.content.len() + DIGEST_LEN)?;
+    let header = Header {
+        kind: entry.kind,
+        moment: entry.moment,
+        count: entry.content.len() as u32,
+    };
+    let begin = record.len();
+    append(record, header.octets().as_slice());
+    append(record, entry.content);
+    let digest = ChainDigest::of(&record[begin..], before);
+    append(record, digest.0.as_slice());
+    Ok(digest)
+}

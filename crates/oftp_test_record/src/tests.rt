@@ -1,0 +1,156 @@
+//! A record of three entries.
+
+use oftp_record::{
+    Alteration, AppendFault, ChainDigest, HEADER_LEN, NextEntry, RecordEntry, RecordKind,
+    append_entry, next_entry,
+};
+use std::process::Abort;
+use std::test::Fail;
+
+/// The entries. The second is what a station heard in its session 1, the command RTR.
+const ENTRIES: [RecordEntry<'static>; 3] = [
+    RecordEntry {
+        kind: RecordKind::Opening,
+        moment: 1_700_000_000_000_000,
+        content: b"jukeralo",
+    },
+    RecordEntry {
+        kind: RecordKind::OctetsIn,
+        moment: 1_700_000_000_250_000,
+        content: &[0, 0, 0, 0, 0, 0, 0, 1, 0x10, 0, 0, 5, 0x50],
+    },
+    RecordEntry {
+        kind: RecordKind::Mark,
+        moment: 1_700_003_600_000_000,
+        content: &[],
+    },
+];
+
+/// Where each of them ends.
+const ENDS: [usize; 3] = [62, 129, 183];
+
+/// Their octets: of each the header, the content, and the digest, which Python's hashlib worked out.
+#[rattlefmt::skip]
+const RECORD: [u8; 183] = [
+    // The first entry: its header,
+    0x4F, 0x52, 0x45, 0x43, 0x31, 1, 0, 0x06, 0x0A, 0x24, 0x18, 0x1E, 0x40, 0, 0, 0, 0, 8, 0xFF, 0xFF, 0xFF, 0xF7,
+    // its content,
+    0x6A, 0x75, 0x6B, 0x65, 0x72, 0x61, 0x6C, 0x6F,
+    // and its digest.
+    0x22, 0x82, 0x9D, 0xA7, 0xAD, 0xE7, 0x02, 0x66, 0x37, 0x5B, 0x89, 0xEC, 0x78, 0xD9, 0x35, 0x1C,
+    0x17, 0x1C, 0xFF, 0xD8, 0xA3, 0x5D, 0x9D, 0xB4, 0x5E, 0xF3, 0xB3, 0xB8, 0x42, 0xB6, 0xAA, 0xC7,
+    // The second.
+    0x4F, 0x52, 0x45, 0x43, 0x31, 3, 0, 0x06, 0x0A, 0x24, 0x18, 0x22, 0x10, 0x90, 0, 0, 0, 13, 0xFF, 0xFF, 0xFF, 0xF2,
+    0, 0, 0, 0, 0, 0, 0, 1, 0x10, 0, 0, 5, 0x50,
+    0xF9, 0x79, 0xC1, 0x0C, 0x76, 0xD2, 0x34, 0x05, 0x9E, 0x54, 0x26, 0xFA, 0xFE, 0xFD, 0x72, 0xF5,
+    0x81, 0xDF, 0xE9, 0xBB, 0x04, 0x30, 0xE6, 0x9E, 0xB9, 0xC9, 0x4C, 0xEB, 0xA9, 0x95, 0xA0, 0x58,
+    // The third, which has no content.
+    0x4F, 0x52, 0x45, 0x43, 0x31, 8, 0, 0x06, 0x0A, 0x24, 0xEE, 0xB1, 0xE4, 0, 0, 0, 0, 0, 0xFF, 0xFF, 0xFF, 0xFF,
+    0x3F, 0xAC, 0xC3, 0x74, 0x9A, 0xA2, 0x64, 0xA4, 0xA3, 0x5A, 0x40, 0x0B, 0x06, 0xB3, 0x3D, 0xF6,
+    0xC3, 0x17, 0x1F, 0x03, 0x1B, 0x43, 0x3B, 0x9C, 0x14, 0xE5, 0x93, 0xEF, 0xE4, 0x4F, 0xFA, 0x18,
+];
+
+/// Appends an entry. If memory was refused, the record is as it was, and then takes the entry.
+fn append_again(
+    rt: &impl Abort,
+    record: &mut Vec<u8>,
+    entry: &RecordEntry<'_>,
+    before: &ChainDigest,
+) -> Result<ChainDigest, AppendFault> {
+    let count = record.len();
+    match append_entry(record, entry, before) {
+        Err(fault) => {
+            assert_eq!(rt; fault, AppendFault::Memory);
+            assert_eq!(rt; record.len(), count);
+            append_entry(record, entry, before)
+        }
+        digest => digest,
+    }
+}
+
+// This is also run with each allocation refused in turn.
+#[test]
+fn three_entries_written(rt: HostRuntime) -> Result<(), Fail> {
+    let mut record = Vec::new(rt.alloc());
+    let mut before = ChainDigest::first();
+    for entry in &ENTRIES {
+        before = append_again(&rt, &mut record, entry, &before)?;
+    }
+    assert!(rt; record.as_slice() == RECORD.as_slice());
+    assert!(rt; before.0.as_slice() == &RECORD[183 - 32..]);
+    Ok(())
+}
+
+/// What octets are read as: how many whole entries, which have to be those above, and what is told behind them.
+fn read_all<'a>(rt: &impl Abort, octets: &'a [u8]) -> (usize, NextEntry<'a>) {
+    let mut before = ChainDigest::first();
+    let mut rest = octets;
+    for (count, entry) in ENTRIES.iter().enumerate() {
+        let NextEntry::Whole(stored) = next_entry(rest, &before) else {
+            return (count, next_entry(rest, &before));
+        };
+        assert_eq!(rt; stored.entry.kind, entry.kind);
+        assert_eq!(rt; stored.entry.moment, entry.moment);
+        assert!(rt; stored.entry.content == entry.content);
+        rest = &rest[stored.length..];
+        before = stored.digest;
+    }
+    (ENTRIES.len(), next_entry(rest, &before))
+}
+
+/// How many entries end before this octet or at it, and how many octets of the next one there are then.
+fn whole_before(at: usize) -> (usize, usize) {
+    let mut whole = (0, at);
+    for (count, end) in ENDS.iter().enumerate() {
+        if *end <= at {
+            whole = (count + 1, at - *end);
+        }
+    }
+    whole
+}
+
+#[test]
+fn cut_at_each_octet(rt: HostRuntime) {
+    for at in 0..RECORD.len() {
+        let (whole, part) = whole_before(at);
+        let (count, told) = read_all(&rt, &RECORD[..at]);
+        assert_eq!(rt; count, whole);
+        match told {
+            NextEntry::End => assert_eq!(rt; part, 0),
+            NextEntry::Cut(None) => assert!(rt; part > 0 && part < HEADER_LEN),
+            NextEntry::Cut(Some(lacking)) => {
+                assert!(rt; part >= HEADER_LEN);
+                assert_eq!(rt; at.checked_add(lacking), ENDS.get(whole).copied());
+            }
+            _ => assert!(rt; false),
+        }
+    }
+    assert!(rt; matches!(read_all(&rt, &RECORD), (3, NextEntry::End)));
+}
+
+#[test]
+fn each_octet_changed(rt: HostRuntime) -> Result<(), Fail> {
+    let mut record = Vec::from_slice(rt.alloc(), &RECORD)?;
+    for at in 0..RECORD.len() {
+        let (whole, _) = whole_before(at);
+        record.clear();
+        record.extend_from_slice(&RECORD[..at])?;
+        record.push(RECORD[at] ^ 1)?;
+        record.extend_from_slice(&RECORD[at + 1..])?;
+        let (count, told) = read_all(&rt, record.as_slice());
+        assert_eq!(rt; count, whole);
+        assert!(rt; matches!(told, NextEntry::Changed(_)));
+    }
+    Ok(())
+}
+
+// Without the second entry the third doesn't stand behind the first.
+#[test]
+fn entry_taken_out(rt: HostRuntime) -> Result<(), Fail> {
+    let mut record = Vec::from_slice(rt.alloc(), &RECORD[..62])?;
+    record.extend_from_slice(&RECORD[129..])?;
+    let (count, told) = read_all(&rt, record.as_slice());
+    assert_eq!(rt; count, 1);
+    assert!(rt; matches!(told, NextEntry::Changed(Alteration::Digest)));
+    Ok(())
+}
