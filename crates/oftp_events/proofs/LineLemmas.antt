@@ -38,7 +38,7 @@ line_is first front one all line members values a b c d e =
     let ms : Members = present_members (key_values members) in
     let value : List ℕ = compact_text (string first) in
     let object_is : all ++ 125 ∷ [] ≡ compact_text (object (member (codes "at") (string first) ms)) =
-        ap (λ (t : List ℕ). t ++ 125 ∷ []) c ∙ all_added members one ∙ ap (λ (t : List ℕ). t ++ members_text true ms) (b ∙ ap (λ (t : List ℕ). t ++ value) a)
-        ∙ append_assoc (codes "{\"at\":") value (members_text true ms) ∙ begun first ms in
+    ap (λ (t : List ℕ). t ++ 125 ∷ []) c ∙ all_added members one ∙ ap (λ (t : List ℕ). t ++ members_text true ms) (b ∙ ap (λ (t : List ℕ). t ++ value) a)
+    ∙ append_assoc (codes "{\"at\":") value (members_text true ms) ∙ begun first ms in
     d ∙ sym (append_assoc all (125 ∷ []) (codes "\n")) ∙ ap (λ (t : List ℕ). t ++ codes "\n") object_is
     ∙ ap (λ (vs : List (List ℕ × Option Data)). compact_text (object (present_members vs)) ++ codes "\n") e

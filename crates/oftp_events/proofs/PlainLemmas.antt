@@ -73,7 +73,7 @@ unfolding escape_byte
 escape_printed x =
     let low : List ℕ = 92 ∷ 117 ∷ 48 ∷ 48 ∷ digit_char (x / 16) ∷ digit_char (x % 16) ∷ [] in
     let digits_high : IsPrinted (digit_char (x / 16) ∷ digit_char (x % 16) ∷ []) =
-        one_more (digit_char (x / 16)) (digit_char (x % 16) ∷ []) (char_high (x / 16)) (one_more (digit_char (x % 16)) [] (char_high (x % 16)) refl) in
+    one_more (digit_char (x / 16)) (digit_char (x % 16) ∷ []) (char_high (x / 16)) (one_more (digit_char (x % 16)) [] (char_high (x % 16)) refl) in
     cond_both (nat_lt 0 (escape_letter x)) (92 ∷ escape_letter x ∷ []) (cond (nat_lt x 32) low (x ∷ [])) IsPrinted
     (λ some. one_more (escape_letter x) [] (letter_high x some) refl)
     (λ _. cond_both (nat_lt x 32) low (x ∷ []) IsPrinted (λ _. digits_high) (λ high. one_more x [] (ltb-false x 32 high) refl))
