@@ -20,8 +20,8 @@ DOCUMENTS = "/usr/share/doc/oftp-station"
 # The parts of a text that are set apart: code, words that are marked, and links.
 MARKED = re.compile(r"`([^`]+)`|\*\*([^*]+)\*\*|(?<!\w)\*([^*]+)\*(?!\w)|\[((?:[^\]`]|`[^`]*`)+)\]\(([^)]*)\)")
 PLACEHOLDER = re.compile(r"<(\w+)>")
-# The tables that belong to one command's page, by their first headings. oftp_station(1) has those that belong to all.
-TABLES = {"report": ["Report"], "refuse": ["NERP"]}
+# The tables that belong to one command's page: how it heads each, and its first heading. oftp_station(1) has those that belong to all.
+TABLES = {"report": [("Reports", "Report")], "refuse": [("Reasons", "NERP")]}
 
 
 def plain(text):
@@ -54,9 +54,9 @@ def heading_of(target):
 
 
 def sentence(text):
-    """A part of a sentence as a sentence of its own."""
+    """A part of a sentence as a sentence of its own. What is code alone is none."""
     text = text.strip()
-    return text if not text or text.endswith(".") else f"{text[0].upper()}{text[1:]}."
+    return text if not text or text.endswith(".") or re.fullmatch(r"`[^`]*`", text) else f"{text[0].upper()}{text[1:]}."
 
 
 def usage_of(command):
@@ -132,8 +132,8 @@ def page_of(command, *made):
     page.usage(command)
     page.section("Description", sentence(told.done_by(command.word)) or sentence(command.about))
     page.arguments(command)
-    for first in TABLES.get(command.word, []):
-        page.table(told.table(first).headings[0] + "s", first)
+    for name, first in TABLES.get(command.word, []):
+        page.table(name, first)
     page.table("Exit status", "Exit status")
     page.section("Lines", "What the printed lines mean, and what to do about each, is in oftp_station(1).")
     page.see_also(("oftp_station", 1), ("oftp-book", 5))

@@ -41,10 +41,11 @@ WANTED = ["systemd-standalone-sysusers", "systemd-standalone-tmpfiles", "zsh"]
 # The folders that a purge asks about.
 DATA = ["var/lib/oftp", "var/backups/oftp", "etc/oftp"]
 QUESTION = "INPUT high oftp-station/remove_data"
-# What has zsh complete the line at its prompt by the tabulator, and write into a file what it has then.
+# What has zsh say in a file that its prompt is there, complete a line by the tabulator, and write there what the line is then.
 ZSH = """autoload -U compinit; compinit -u
+zle-line-init() { print ready >> /completed }
 show() { zle complete-word; print -r -- "$BUFFER" >> /completed }
-zle -N show; bindkey '^I' show
+zle -N zle-line-init; zle -N show; bindkey '^I' show
 """
 # What is typed at the prompt, and what it is completed to.
 TYPED = {
@@ -379,21 +380,22 @@ def first_day_goes_as_shown(guest):
 
 def completes_in_zsh(guest):
     """zsh completes a command, an option, a value and a file, typed at its prompt."""
-    wanted = [f"oftp_station {it}" for it in TYPED.values()]
+    (guest.root / "root/.zshrc").write_text(ZSH, encoding="utf-8")
     child, screen = pty.fork()
     if child == 0:
-        os.execvpe("unshare", [str(it) for it in guest.within("zsh", "-f", "-i")], guest.environment)
+        os.execvpe("unshare", [str(it) for it in guest.within("zsh", "-i")], {**guest.environment, "HOME": "/root"})
+    path = guest.root / "completed"
     try:
-        os.write(screen, ZSH.encode())
+        until_completed(screen, path, 1)
         for line in TYPED:
             # The last octet empties the line.
             os.write(screen, f"oftp_station {line}\t\x15".encode())
-        found = until_completed(screen, guest.root / "completed", len(wanted))
+        found = until_completed(screen, path, 1 + len(TYPED))[1:]
     finally:
         os.kill(child, signal.SIGKILL)
         os.waitpid(child, 0)
         os.close(screen)
-    expect([line.strip() for line in found], wanted, "what zsh completes")
+    expect([line.strip() for line in found], [f"oftp_station {it}" for it in TYPED.values()], "what zsh completes")
 
 
 def until_completed(screen, path, count):

@@ -131,15 +131,17 @@ def station_that_is_not_reached(room):
 
 
 def verdict_on_an_answered_file(room):
-    """A verdict on a file that an operator has answered is removed, and so is what was collected of it."""
+    """What a kill has left of a file that an operator has answered is removed: what was collected, what the program got, and the verdict on it."""
     site = Site(room, [GOOD])
-    for folder in ("collected", "verdicts"):
-        (site.folder / folder).mkdir(parents=True)
     name = f"0000001_GOOD.1_20240131_0800000001_{CARMAKER}"
-    (site.folder / "verdicts" / name).write_text("refuse by mistake\n", encoding="utf-8")
+    left = [site.folder / folder / name for folder in ("collected", "taken", "verdicts")]
+    for path in left:
+        path.parent.mkdir(parents=True)
+        path.write_text("refuse by mistake\n", encoding="utf-8")
     expect(site.operate("release", "1"), "done: release 1\n", "the release by hand")
     expect(site.process(), (0, "", ""), "the call")
-    expect((site.responses(), site.verdicts(), site.notes()), ({1: RELEASED}, set(), []), "responses, verdicts and notes")
+    expect((site.responses(), site.notes()), ({1: RELEASED}, []), "responses and notes")
+    expect([path for path in left if path.exists()], [], "what is left")
 
 
 def operator_who_is_first(room):
