@@ -3,6 +3,7 @@
 
 mod channel;
 mod commands;
+mod events;
 mod files;
 mod line;
 mod octets;
@@ -42,6 +43,8 @@ fn answer(rt: &HostRuntime, line: &mut Line) -> io::Result<()> {
         "take" => takers::take(rt, line),
         "channel" => channel::answer(rt, line),
         "typed" => requests::answer(rt, line),
+        "event" => events::line(rt, line),
+        "events" => events::words(rt),
         call => answer_of_wire(rt, call, line),
     }
 }

@@ -1,0 +1,3 @@
+mod Examples
+pub mod LineLemmas
+pub mod PlainLemmas
