@@ -1,5 +1,5 @@
 -- JSON has no control character, whatever its texts have.
-use Rattle.std.proofs.Common.{◌≡◌, ◌⊎◌, inl, inr, ℕ, zero, suc, ◌+◌, ◌<◌, ◌≤◌, ◌/◌, ◌%◌, ◌==◌, ◌||◌, pos, negsuc, List, [], ◌∷◌, ◌++◌, Bool, true, false, cond, nat_lt, codes, decimal, refl, sym, ◌∙◌, arith}
+use Rattle.std.proofs.Common.{◌≡◌, ◌⊎◌, inl, inr, ℕ, zero, suc, ◌+◌, ◌<◌, ◌≤◌, ◌/◌, ◌%◌, ◌==◌, ◌||◌, pos, negsuc, List, [], ◌∷◌, ◌++◌, Bool, true, false, cond, nat_le, nat_lt, codes, decimal, refl, sym, ◌∙◌, arith}
 use Rattle.std.specs.Char.{digit_char}
 use Rattle.std.specs.Fmt.{digit_glyph, digits, digits_onto}
 use Rattle.std.specs.List.{flat_map, list_all}
@@ -8,14 +8,14 @@ use Rattle.std.proofs.lemmas.List.Folds.{list_all-append}
 use Rattle.json.specs.Print.{escape_byte, escape_letter, quoted}
 use Rattle.serde_json.specs.Data.{Num, unsigned, negative, float, Data, null, boolean, number, string, array, object, Items, no_items, item, Members, no_members, member}
 use Rattle.serde_json.specs.Written.{comma_if, compact_text, items_text, members_text, number_text}
-use Rattle.oftp_events.specs.Lines.{IsOneLine, is_printed}
+use Rattle.oftp_events.specs.Lines.{IsOneLine}
 
--- no octet of a text is a control character
+-- no octet of a text is below 32
 abbrev IsPrinted : List ℕ → Type 0
-IsPrinted octets = list_all is_printed octets ≡ true
+IsPrinted octets = list_all (nat_le 32) octets ≡ true
 
 joined : (xs ys : List ℕ) → IsPrinted xs → IsPrinted ys → IsPrinted (xs ++ ys)
-joined xs ys first second = list_all-append is_printed xs ys ∙ and_from _ _ first second
+joined xs ys first second = list_all-append (nat_le 32) xs ys ∙ and_from _ _ first second
 
 one_more : (x : ℕ) (xs : List ℕ) → 32 ≤ x → IsPrinted xs → IsPrinted (x ∷ xs)
 one_more x xs high rest = and_from _ _ (le-leb 32 x high) rest

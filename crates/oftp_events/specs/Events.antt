@@ -10,34 +10,34 @@ use Rattle.oftp_events.specs.declared.event.Event.{Event}
 use Rattle.oftp_events.specs.declared.event.Event.TheVariants.{Started, Stopped, SessionBegun, SessionEnded, NotLetIn, NotReached, Submitted, StartedToCome, Came, BrokenOff, GivenUp, Sent, HandedOver, Refused, Reopened, Released, RefusedHere, ResponseSent, ResponseReceived, RefusedFile, RefusedEnd, Backup}
 
 -- the words of an event
-abbrev pub word_of : Event → List ℕ
-word_of Started = codes "started"
-word_of Stopped = codes "stopped"
-word_of SessionBegun = codes "session begun"
-word_of SessionEnded = codes "session ended"
-word_of NotLetIn = codes "not let in"
-word_of NotReached = codes "not reached"
-word_of Submitted = codes "submitted"
-word_of StartedToCome = codes "started to come"
-word_of Came = codes "came"
-word_of BrokenOff = codes "broken off"
-word_of GivenUp = codes "given up"
-word_of Sent = codes "sent"
-word_of HandedOver = codes "handed over"
-word_of Refused = codes "refused"
-word_of Reopened = codes "reopened"
-word_of Released = codes "released"
-word_of RefusedHere = codes "refused here"
-word_of ResponseSent = codes "response sent"
-word_of ResponseReceived = codes "response received"
-word_of RefusedFile = codes "refused file"
-word_of RefusedEnd = codes "refused end"
-word_of Backup = codes "backup"
+abbrev pub event_text : Event → List ℕ
+event_text Started = codes "started"
+event_text Stopped = codes "stopped"
+event_text SessionBegun = codes "session begun"
+event_text SessionEnded = codes "session ended"
+event_text NotLetIn = codes "not let in"
+event_text NotReached = codes "not reached"
+event_text Submitted = codes "submitted"
+event_text StartedToCome = codes "started to come"
+event_text Came = codes "came"
+event_text BrokenOff = codes "broken off"
+event_text GivenUp = codes "given up"
+event_text Sent = codes "sent"
+event_text HandedOver = codes "handed over"
+event_text Refused = codes "refused"
+event_text Reopened = codes "reopened"
+event_text Released = codes "released"
+event_text RefusedHere = codes "refused here"
+event_text ResponseSent = codes "response sent"
+event_text ResponseReceived = codes "response received"
+event_text RefusedFile = codes "refused file"
+event_text RefusedEnd = codes "refused end"
+event_text Backup = codes "backup"
 
 -- the word of a direction
-abbrev pub direction_word : Direction → List ℕ
-direction_word In = codes "in"
-direction_word Out = codes "out"
+abbrev pub direction_text : Direction → List ℕ
+direction_text In = codes "in"
+direction_text Out = codes "out"
 
 -- the event of a response that is issued
 abbrev pub issued_event : ResponseKind → Event

@@ -3,18 +3,18 @@ use Rattle.std.specs.Prelude.{ℕ, List, [], ◌++◌, Option, None, Some, codes
 use Rattle.std.specs.Borrow.{Bor}
 use Rattle.serde_json.specs.Data.{Data, string}
 use Rattle.serde_json.specs.Written.{compact_text}
-use Rattle.oftp_events.specs.Lines.{number_value, text_value}
+use Rattle.oftp_events.specs.Lines.{number_data, text_data}
 use Rattle.oftp_events.specs.declared.members.Field.{Field}
 use Rattle.oftp_events.specs.declared.members.Field.TheVariants.{Text, Number}
 
 -- what a key has as a value, if it has something
-abbrev pub value_of : Field → Option Data
-value_of (Text text) = text_value text
-value_of (Number n) = number_value n
+abbrev pub field_data : Field → Option Data
+field_data (Text text) = text_data text
+field_data (Number n) = number_data n
 
 -- each key with its value
-abbrev pub told : List (Bor (List ℕ) × Field) → List (List ℕ × Option Data)
-told members = map (λ (m : Bor (List ℕ) × Field). (m.0.now, value_of m.1)) members
+abbrev pub key_values : List (Bor (List ℕ) × Field) → List (List ℕ × Option Data)
+key_values members = map (λ (m : Bor (List ℕ) × Field). (m.0.now, field_data m.1)) members
 
 -- a comma, a key and a colon
 abbrev pub key_text : List ℕ → List ℕ
@@ -27,4 +27,4 @@ member_text key (Some value) = key_text key ++ compact_text value
 
 -- the text with one more member
 abbrev pub with_member : List ℕ → Bor (List ℕ) × Field → List ℕ
-with_member text m = text ++ member_text m.0.now (value_of m.1)
+with_member text m = text ++ member_text m.0.now (field_data m.1)

@@ -1,7 +1,7 @@
 //! Which way a session or a file goes.
 
 ghost use Rattle.std.specs.Prelude.{◌≡◌, Some};
-ghost use Rattle.oftp_events.specs.Events.{direction_word};
+ghost use Rattle.oftp_events.specs.Events.{direction_text};
 
 use std::fmt;
 
@@ -17,7 +17,7 @@ pub enum Direction {
 impl Direction {
     /// The word that a line has for it: `in` or `out`.
     pub fn word(self) -> &'static str
-        ensures { result.now ≡ direction_word self }
+        ensures { result.now ≡ direction_text self }
     {
         match self {
             Direction::In => "in",
@@ -27,7 +27,7 @@ impl Direction {
 }
 
 impl fmt::Display for Direction {
-    ghost output = { λ direction. Some (direction_word direction) };
+    ghost output = { λ direction. Some (direction_text direction) };
 
     fn fmt<W: fmt::Write>(&self, f: &mut fmt::Formatter<W>) -> fmt::Result {
         f.write_str(self.word())

@@ -1,7 +1,7 @@
 //! The events of a station's work, and which change of the register is which.
 
 ghost use Rattle.std.specs.Prelude.{◌≡◌, Some};
-ghost use Rattle.oftp_events.specs.Events.{event_of, issued_event, word_of};
+ghost use Rattle.oftp_events.specs.Events.{event_of, event_text, issued_event};
 
 use oftp_register::{Change, ResponseKind};
 use std::fmt;
@@ -57,8 +57,8 @@ pub enum Event {
 
 impl Event {
     /// The words that a line has for it.
-    pub fn word(self) -> &'static str
-        ensures { result.now ≡ word_of self }
+    pub fn words(self) -> &'static str
+        ensures { result.now ≡ event_text self }
     {
         match self {
             Event::Started => "started",
@@ -88,10 +88,10 @@ impl Event {
 }
 
 impl fmt::Display for Event {
-    ghost output = { λ event. Some (word_of event) };
+    ghost output = { λ event. Some (event_text event) };
 
     fn fmt<W: fmt::Write>(&self, f: &mut fmt::Formatter<W>) -> fmt::Result {
-        f.write_str(self.word())
+        f.write_str(self.words())
     }
 }
 

@@ -2,8 +2,8 @@
 
 ghost use Rattle.std.specs.Prelude.{◌≡◌, ◌∷◌, IfOk, Some, codes};
 ghost use Rattle.serde_json.specs.Data.{string};
-ghost use Rattle.oftp_events.specs.InsideMembers.{told};
-ghost use Rattle.oftp_events.specs.Lines.{IsOneLine, direction_value, line_text, plain_line, text_value, values_of};
+ghost use Rattle.oftp_events.specs.InsideMembers.{key_values};
+ghost use Rattle.oftp_events.specs.Lines.{IsOneLine, direction_data, line_members, line_text, plain_line, text_data};
 
 use crate::direction::Direction;
 use crate::event::Event;
@@ -71,7 +71,7 @@ pub struct EventLine<'a> {
 
 // The word of a direction, if there is one.
 fn word_of_direction(direction: Option<Direction>) -> Option<&'static str>
-    ensures { text_value result ≡ direction_value direction }
+    ensures { text_data result ≡ direction_data direction }
 {
     Some(direction?.word())
 }
@@ -120,10 +120,10 @@ impl<'a> EventLine<'a> {
 
     // The keys behind the first, in their order, each with what it has.
     fn members(&self) -> [Member<'a>; 25]
-        ensures { (codes "at", Some (string self.now.at.now)) ∷ told result ≡ values_of self.now }
+        ensures { (codes "at", Some (string self.now.at.now)) ∷ key_values result ≡ line_members self.now }
     {
         [
-            ("event", Field::Text(Some(self.event.word()))),
+            ("event", Field::Text(Some(self.event.words()))),
             ("session", Field::Number(self.session)),
             ("partner", Field::Text(self.partner)),
             ("way", Field::Text(word_of_direction(self.way))),

@@ -3,7 +3,7 @@
 ghost use Rattle.std.specs.Prelude.{◌≡◌, ◌++◌, OnOk, codes, fold};
 ghost use Rattle.serde_json.specs.Data.{number, string, unsigned};
 ghost use Rattle.serde_json.specs.Written.{compact_text};
-ghost use Rattle.oftp_events.specs.InsideMembers.{key_text, member_text, value_of, with_member};
+ghost use Rattle.oftp_events.specs.InsideMembers.{field_data, key_text, member_text, with_member};
 
 use serde_json::Value;
 use std::alloc::{AllocError, Global};
@@ -55,7 +55,7 @@ fn add_member(
     field: Field<'_>,
     line: &mut Vec<u8>,
 ) -> Result<(), AllocError>
-    ensures { OnOk result (line.new.items ≡ line.old.items ++ member_text key.now (value_of field.entry)) }
+    ensures { OnOk result (line.new.items ≡ line.old.items ++ member_text key.now (field_data field.entry)) }
 {
     match field {
         Field::Text(None) | Field::Number(None) => Ok(()),

@@ -44,7 +44,7 @@ pub fn words(rt: &HostRuntime) -> io::Result<()> {
 /// The event with these words, the first one for others.
 fn event_named(words: &str) -> Event {
     for event in EVENTS {
-        if event.word() == words {
+        if event.words() == words {
             return event;
         }
     }
