@@ -4,7 +4,7 @@ use Rattle.std.specs.Borrow.{Bor}
 use Rattle.serde_json.specs.Data.{Data, Members, member, object, string}
 use Rattle.serde_json.specs.Written.{compact_text, members_text}
 use Rattle.serde_json.proofs.OnLiterals.{serde_json_on_literals}
-use Rattle.oftp_events.specs.InsideMembers.{key_text, member_text, key_values, field_data, with_member}
+use Rattle.oftp_events.specs.InsideMembers.{member_text, key_values, field_data, with_member}
 use Rattle.oftp_events.specs.Lines.{member_if, present_members}
 use Rattle.oftp_events.specs.declared.members.Field.{Field}
 
@@ -38,7 +38,7 @@ line_is first front one all line members values a b c d e =
     let ms : Members = present_members (key_values members) in
     let value : List ℕ = compact_text (string first) in
     let object_is : all ++ 125 ∷ [] ≡ compact_text (object (member (codes "at") (string first) ms)) =
-        ap (λ (t : List ℕ). t ++ 125 ∷ []) c ∙ all_added members one ∙ ap (λ (t : List ℕ). t ++ members_text true ms) (b ∙ ap (λ (t : List ℕ). t ++ value) a)
-        ∙ append_assoc (codes "{\"at\":") value (members_text true ms) ∙ begun first ms in
+    ap (λ (t : List ℕ). t ++ 125 ∷ []) c ∙ all_added members one ∙ ap (λ (t : List ℕ). t ++ members_text true ms) (b ∙ ap (λ (t : List ℕ). t ++ value) a)
+    ∙ append_assoc (codes "{\"at\":") value (members_text true ms) ∙ begun first ms in
     d ∙ sym (append_assoc all (125 ∷ []) (codes "\n")) ∙ ap (λ (t : List ℕ). t ++ codes "\n") object_is
     ∙ ap (λ (vs : List (List ℕ × Option Data)). compact_text (object (present_members vs)) ++ codes "\n") e

@@ -1,5 +1,5 @@
 -- JSON has no control character, whatever its texts have.
-use Rattle.std.proofs.Common.{◌≡◌, ◌⊎◌, inl, inr, ℕ, zero, suc, ◌+◌, ◌<◌, ◌≤◌, ◌/◌, ◌%◌, ◌==◌, ◌||◌, pos, negsuc, List, [], ◌∷◌, ◌++◌, Bool, true, false, cond, nat_le, nat_lt, codes, decimal, refl, sym, ◌∙◌, arith}
+use Rattle.std.proofs.Common.{◌≡◌, ◌⊎◌, inl, inr, ℕ, zero, suc, ◌+◌, ◌≤◌, ◌/◌, ◌%◌, ◌==◌, ◌||◌, pos, negsuc, List, [], ◌∷◌, ◌++◌, Bool, true, false, cond, nat_le, nat_lt, codes, decimal, refl, ◌∙◌, arith}
 use Rattle.std.specs.Char.{digit_char}
 use Rattle.std.specs.Fmt.{digit_glyph, digits, digits_onto}
 use Rattle.std.specs.List.{flat_map, list_all}
@@ -73,7 +73,7 @@ unfolding escape_byte
 escape_printed x =
     let low : List ℕ = 92 ∷ 117 ∷ 48 ∷ 48 ∷ digit_char (x / 16) ∷ digit_char (x % 16) ∷ [] in
     let digits_high : IsPrinted (digit_char (x / 16) ∷ digit_char (x % 16) ∷ []) =
-        one_more _ _ (char_high (x / 16)) (one_more _ [] (char_high (x % 16)) refl) in
+    one_more (digit_char (x / 16)) (digit_char (x % 16) ∷ []) (char_high (x / 16)) (one_more (digit_char (x % 16)) [] (char_high (x % 16)) refl) in
     cond_both (nat_lt 0 (escape_letter x)) (92 ∷ escape_letter x ∷ []) (cond (nat_lt x 32) low (x ∷ [])) IsPrinted
     (λ some. one_more (escape_letter x) [] (letter_high x some) refl)
     (λ _. cond_both (nat_lt x 32) low (x ∷ []) IsPrinted (λ _. digits_high) (λ high. one_more x [] (ltb-false x 32 high) refl))
@@ -83,7 +83,7 @@ escapes_printed [] = refl
 escapes_printed (x ∷ xs) = joined (escape_byte x) (flat_map escape_byte xs) (escape_printed x) (escapes_printed xs)
 
 quoted_printed : (text : List ℕ) → IsPrinted (quoted text)
-quoted_printed text = one_more 34 _ (omega arith) (joined (flat_map escape_byte text) (34 ∷ []) (escapes_printed text) refl)
+quoted_printed text = one_more 34 (flat_map escape_byte text ++ 34 ∷ []) (omega arith) (joined (flat_map escape_byte text) (34 ∷ []) (escapes_printed text) refl)
 
 -- ---- values
 
