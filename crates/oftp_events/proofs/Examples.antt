@@ -1,5 +1,5 @@
 -- Worked rows, which the definitions compute.
-use Rattle.std.proofs.Common.{◌≡◌, ℕ, List, [], ◌∷◌, Option, None, Some, codes, refl}
+use Rattle.std.proofs.Common.{◌≡◌, ℕ, List, [], ◌∷◌, None, Some, codes, refl}
 use Rattle.std.specs.Borrow.{Bor}
 use Rattle.std.specs.Fmt.{digits}
 use Rattle.serde_json.proofs.OnLiterals.{serde_json_on_literals}
@@ -7,9 +7,8 @@ use Rattle.oftp_register.specs.declared.change.Change.TheVariants as change
 use Rattle.oftp_register.specs.declared.entry.ResponseKind.TheVariants.{EndResponse, NegativeEndResponse}
 use Rattle.oftp_events.specs.Events.{event_of}
 use Rattle.oftp_events.specs.Lines.{line_text, plain_line}
-use Rattle.oftp_events.specs.declared.direction.Direction.TheVariants.{In, Out}
+use Rattle.oftp_events.specs.declared.direction.Direction.TheVariants.{In}
 use Rattle.oftp_events.specs.declared.event.Event.TheVariants.{Started, Came, GivenUp, Sent, NotLetIn, Released, RefusedHere, ResponseSent, Backup}
-use Rattle.oftp_events.specs.declared.line.EventLine.{EventLine}
 
 -- ---- changes
 

@@ -4,7 +4,7 @@ use Rattle.std.specs.Borrow.{Bor}
 use Rattle.serde_json.specs.Data.{Data, Members, member, object, string}
 use Rattle.serde_json.specs.Written.{compact_text, members_text}
 use Rattle.serde_json.proofs.OnLiterals.{serde_json_on_literals}
-use Rattle.oftp_events.specs.InsideMembers.{key_text, member_text, key_values, field_data, with_member}
+use Rattle.oftp_events.specs.InsideMembers.{member_text, key_values, field_data, with_member}
 use Rattle.oftp_events.specs.Lines.{member_if, present_members}
 use Rattle.oftp_events.specs.declared.members.Field.{Field}
 

@@ -1,5 +1,5 @@
 -- JSON has no control character, whatever its texts have.
-use Rattle.std.proofs.Common.{◌≡◌, ◌⊎◌, inl, inr, ℕ, zero, suc, ◌+◌, ◌<◌, ◌≤◌, ◌/◌, ◌%◌, ◌==◌, ◌||◌, pos, negsuc, List, [], ◌∷◌, ◌++◌, Bool, true, false, cond, nat_le, nat_lt, codes, decimal, refl, sym, ◌∙◌, arith}
+use Rattle.std.proofs.Common.{◌≡◌, ◌⊎◌, inl, inr, ℕ, zero, suc, ◌+◌, ◌≤◌, ◌/◌, ◌%◌, ◌==◌, ◌||◌, pos, negsuc, List, [], ◌∷◌, ◌++◌, Bool, true, false, cond, nat_le, nat_lt, codes, decimal, refl, ◌∙◌, arith}
 use Rattle.std.specs.Char.{digit_char}
 use Rattle.std.specs.Fmt.{digit_glyph, digits, digits_onto}
 use Rattle.std.specs.List.{flat_map, list_all}
