@@ -44,48 +44,48 @@ impl From<AllocError> for AppendFault {
 }
 
 // Appends octets for which there is room.
-fn append(record: &mut Vec<u8>, octets: &[u8])
-    requires { vec_len record.old + length octets.now ≤ vec_capacity record.old }
-    ensures items { record.new.items ≡ record.old.items ++ octets.now }
-    ensures len { vec_len record.new ≡ vec_len record.old + length octets.now }
-    ensures capacity { vec_capacity record.old ≤ vec_capacity record.new }
+fn append(octets: &mut Vec<u8>, part: &[u8])
+    requires { vec_len octets.old + length part.now ≤ vec_capacity octets.old }
+    ensures items { octets.new.items ≡ octets.old.items ++ part.now }
+    ensures len { vec_len octets.new ≡ vec_len octets.old + length part.now }
+    ensures capacity { vec_capacity octets.old ≤ vec_capacity octets.new }
 {
-    let _ = record.extend_from_slice(octets);
+    let _ = octets.extend_from_slice(part);
 }
 
-/// Appends the octets of an entry to those of a record, and returns its digest. `before` is the digest of the entry before it.
+/// Appends an entry to the octets of a record, and returns its digest. `before` is the digest of the entry before it.
 ///
 /// # Errors
 ///
 /// - [`AppendFault::TooLong`] exactly where the content has more than [`LONGEST_CONTENT`] octets.
-/// - [`AppendFault::Memory`]: out of memory, only where the record had no room for the entry.
+/// - [`AppendFault::Memory`]: out of memory, only where there was no room for the entry.
 ///
-/// The octets of the record are unchanged.
+/// The octets are unchanged.
 pub fn append_entry(
-    record: &mut Vec<u8>,
+    octets: &mut Vec<u8>,
     entry: &RecordEntry<'_>,
     before: &ChainDigest,
 ) -> Result<ChainDigest, AppendFault>
-    ensures octets { OnOk result (record.new.items ≡ record.old.items ++ entry_octets (noted entry.now) before.now.0) }
+    ensures written { OnOk result (octets.new.items ≡ octets.old.items ++ entry_octets (noted entry.now) before.now.0) }
     ensures digest { IfOk result (λ digest. digest.0 ≡ entry_digest (noted entry.now) before.now.0) }
     ensures long { LONGEST_CONTENT < length entry.now.content.now → result ≡ Err TooLong }
     ensures too_long { IfErr result (λ fault. fault ≡ TooLong → LONGEST_CONTENT < length entry.now.content.now) }
-    ensures memory { IfErr result (λ fault. fault ≡ Memory → vec_capacity record.old < vec_len record.old + entry_length (noted entry.now)) }
-    ensures err { OnErr result (record.new.items ≡ record.old.items) }
+    ensures memory { IfErr result (λ fault. fault ≡ Memory → vec_capacity octets.old < vec_len octets.old + entry_length (noted entry.now)) }
+    ensures err { OnErr result (octets.new.items ≡ octets.old.items) }
 {
     if entry.content.len() > LONGEST_CONTENT {
         return Err(AppendFault::TooLong);
     }
-    record.reserve(HEADER_LEN + entry.content.len() + DIGEST_LEN)?;
+    octets.reserve(HEADER_LEN + entry.content.len() + DIGEST_LEN)?;
     let header = Header {
         kind: entry.kind,
         moment: entry.moment,
         count: entry.content.len() as u32,
     };
-    let begin = record.len();
-    append(record, header.octets().as_slice());
-    append(record, entry.content);
-    let digest = ChainDigest::of(&record[begin..], before);
-    append(record, digest.0.as_slice());
+    let begin = octets.len();
+    append(octets, header.octets().as_slice());
+    append(octets, entry.content);
+    let digest = ChainDigest::of(&octets[begin..], before);
+    append(octets, digest.0.as_slice());
     Ok(digest)
 }

@@ -5,10 +5,10 @@ use Rattle.oftp_record.proofs.StoredLemmas.{added, sealed}
 use Rattle.oftp_record.proofs.writing.append_entry.Goals as goal
 
 -- the octets that are digested
-body : (c : goal.After-append-3) → c.deref.result.now ≡ (c.args.record.now.items
+body : (c : goal.After-append-3) → c.deref.result.now ≡ (c.args.octets.now.items
     ++ entry_header c.args.entry.now.kind c.args.entry.now.moment (length c.args.entry.now.content.now)) ++ c.args.entry.now.content.now
 body c =
-    let items = c.args.record.now.items in
+    let items = c.args.octets.now.items in
     let content = c.args.entry.now.content.now in
     let header = c.as_slice.ensures ∙ c.octets.ensures in
     c.deref.ensures.value ∙ c.append-2.ensures.items ∙ ap (λ (z : List ℕ). z ++ content)
@@ -16,7 +16,7 @@ body c =
 
 pub returns-clause-digest : goal.returns-clause-digest
 returns-clause-digest c =
-    let items = c.args.record.now.items in
+    let items = c.args.octets.now.items in
     let content = c.args.entry.now.content.now in
     let header = entry_header c.args.entry.now.kind c.args.entry.now.moment (length content) in
     let begin = c.len-begin.result in
@@ -33,9 +33,9 @@ returns-clause-digest c =
     sealed items header content c.of-digest.result.0 c.args.before.now.0 begin long
     (c.of-digest.ensures ∙ ap (λ (s : List ℕ). sha256 (take (length s - begin) (drop begin s) ++ c.args.before.now.0)) (body c))
 
-pub returns-clause-octets : goal.returns-clause-octets
-returns-clause-octets c =
-    let items = c.args.record.now.items in
+pub returns-clause-written : goal.returns-clause-written
+returns-clause-written c =
+    let items = c.args.octets.now.items in
     let content = c.args.entry.now.content.now in
     let header = entry_header c.args.entry.now.kind c.args.entry.now.moment (length content) in
     let digest = c.of-digest.result.0 in
