@@ -13,7 +13,7 @@ from program import PROGRAM, ROOT
 from services import LONG, Wrong, expect, free_port
 
 # The ports that the documents name.
-PORT = re.compile(r"\b(?:3305|3306|8080|6619|13305)\b")
+PORT = re.compile(r"\b(?:3305|3306|3307|3308|8080|6619|6620|13305|13306)\b")
 # The end of a text that a command gets in the lines below it.
 HERE = re.compile(r"<<'?(\w+)'?$")
 

@@ -75,7 +75,7 @@ PATIENCE = constant(LINE, "MOST_PATIENCE")
 CALLERS = constant(LINE, "MOST_CALLERS")
 INTERVAL = constant(LINE, "MOST_INTERVAL")
 
-LONGEST_FRAME = constant("oftp_engine/src/limits.rt", "LONGEST_FRAME")
+LONGEST_FRAME = constant("oftp_codec/src/limits.rt", "LONGEST_FRAME")
 
 COMMANDS = variants("oftp_wire/src/command.rt", "Command")
 CHANGES = variants("oftp_register/src/change.rt", "Change")

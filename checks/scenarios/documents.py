@@ -8,7 +8,8 @@ program's version. The reasons of docs/COMMANDS.md are those of oftp_wire. Its t
 its table of reports the columns that are printed. Its keys of the JSON objects are those of rows/listing, which `listing.py` compares with
 the program. README.md and the table of docs/ARCHITECTURE.md name all crates, and its picture has each above those that it uses. The blocks
 below README's heading "A day .." and below "The first day" of docs/OPERATING.md are typed as they are, each in a folder of its own, with
-free ports: what follows a `$` prints the lines below it. Without stunnel the first day ends before it. README's three lines for a service
+free ports: what follows a `$` prints the lines below it. So are the second partner and the second plant of docs/HOWTO.md, after the
+first day. Without stunnel the first day ends before it, and these are left out. README's three lines for a service
 are typed too, in a folder that takes the place of /usr/local and /etc, without systemd. So are the change of the year of docs/OPERATING.md,
 with two stations between which something is open at first, and its restore. Each folder that a unit of examples/service needs is made
 there, what reads a service's database is given as its user, and the book for a service leads to the tunnel. Each speed of README.md stands
@@ -42,6 +43,7 @@ from typist import Typist, blocks_below, part_of, typed
 README = ROOT / "README.md"
 COMMANDS = ROOT / "docs/COMMANDS.md"
 OPERATING = ROOT / "docs/OPERATING.md"
+HOWTO = ROOT / "docs/HOWTO.md"
 ARCHITECTURE = ROOT / "docs/ARCHITECTURE.md"
 PROMISES = ROOT / "docs/PROMISES.md"
 PERFORMANCE = ROOT / "docs/PERFORMANCE.md"
@@ -226,13 +228,16 @@ def service_is_installed_as_shown():
 
 
 def first_day_goes_as_shown():
-    """The first day of docs/OPERATING.md, typed as it is."""
+    """The first day of docs/OPERATING.md, typed as it is, and then the second partner and the second plant of docs/HOWTO.md."""
     has_tunnel = shutil.which("stunnel") and shutil.which("openssl")
     with Typist() as typist:
         for block in blocks_below(OPERATING, "The first day", 9):
             if block[0].startswith("openssl ") and not has_tunnel:
-                print("NOT TRIED without stunnel: the first day through TLS")
+                print("NOT TRIED without stunnel: the first day through TLS, a second partner, a second plant")
                 return
+            for command, wanted in typed(block):
+                typist.type(command, wanted)
+        for block in [*blocks_below(HOWTO, "A second partner", 6), *blocks_below(HOWTO, "Many plants", 1)]:
             for command, wanted in typed(block):
                 typist.type(command, wanted)
 

@@ -9,10 +9,10 @@ echo 'oftp_codec:' > "$room/crates.txt"
     cd "$root/crates/oftp_codec"
     mkdir -p "$room/crates/oftp_codec"
     # the stream's modules stand on no other crate
-    cp --parents src/{cutting,deframer,frame_fault,headers}.rt specs/{Header,Stream,FrameFaults}.antt "$room/crates/oftp_codec"
+    cp --parents src/{cutting,deframer,frame_fault,headers,limits}.rt specs/{Header,Stream,FrameFaults}.antt "$room/crates/oftp_codec"
 )
 cd "$room/crates/oftp_codec"
-printf '%s\n' '#![tactic(auto)]' 'mod '{cutting,deframer,frame_fault,headers}';' 'pub use cutting::cut;' > src/lib.rt
+printf '%s\n' '#![tactic(auto)]' 'mod '{cutting,deframer,frame_fault,headers,limits}';' 'pub use cutting::cut;' > src/lib.rt
 printf 'pub mod %s\n' Header Stream FrameFaults > specs/Lib.antt
 edit=$root/checks/wrong_bodies/oftp_codec/frame_held_over_feed.md
 file=$(sed -n 's/^file: //p' "$edit")

@@ -1,7 +1,7 @@
 //! The station that has a command's database open, which is asked over its socket.
 
 use oftp_channel::{
-    AnswerPart, Ending, HearFault, Request, fits, read_part, read_ready, write_request,
+    AnswerPart, Ending, ReadFault, Request, fits, read_part, read_ready, write_request,
 };
 use oftp_engine::{Port, RunFault};
 use oftp_outcomes::Fault;
@@ -103,9 +103,9 @@ fn take_piece(
 }
 
 /// The error for an answer that can't be read.
-fn fault_of(fault: HearFault) -> Fault {
+fn fault_of(fault: ReadFault) -> Fault {
     match fault {
-        HearFault::Memory => Fault::MEMORY,
-        HearFault::Input | HearFault::Form => GONE,
+        ReadFault::Memory => Fault::MEMORY,
+        ReadFault::Input | ReadFault::Form => GONE,
     }
 }

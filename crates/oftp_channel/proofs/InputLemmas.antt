@@ -6,8 +6,8 @@ use Rattle.oftp_io.specs.Ports.{Gives, GivesNothing, IsDone}
 use Rattle.oftp_io.specs.declared.port.Port.{Port}
 use Rattle.oftp_io.proofs.Bytes.{consumes_none, consumes_on, keeps_consumes}
 use Rattle.oftp_channel.specs.Inputs.{Gave, GaveSome, Leaves, Stopped}
-use Rattle.oftp_channel.specs.declared.fault.HearFault.{HearFault}
-use Rattle.oftp_channel.specs.declared.fault.HearFault.TheVariants as faults
+use Rattle.oftp_channel.specs.declared.fault.ReadFault.{ReadFault}
+use Rattle.oftp_channel.specs.declared.fault.ReadFault.TheVariants as faults
 
 abbrev pub some : List ℕ → Option (List ℕ)
 some xs = Some xs
@@ -59,7 +59,7 @@ module _ {X : Type 0} (remaining : X → Option (List ℕ)) where
   some_on : (a b d : Port X) (xs : List ℕ) → Gave remaining a b xs → GaveSome remaining b d → GaveSome remaining a d
   some_on a b d xs p q = record { octets = xs ++ q.octets; gave = gave_on a b d xs q.octets p q.gave }
 
-  pub leaves_on : (a b d : Port X) (xs : List ℕ) (fault : HearFault) → Gave remaining a b xs → Leaves remaining b d fault → Leaves remaining a d fault
+  pub leaves_on : (a b d : Port X) (xs : List ℕ) (fault : ReadFault) → Gave remaining a b xs → Leaves remaining b d fault → Leaves remaining a d fault
   leaves_on a b d xs faults.Memory p q = some_on a b d xs p q
   leaves_on a b d xs faults.Form p q = some_on a b d xs p q
   leaves_on a b d xs faults.Input p q = record {
@@ -73,26 +73,26 @@ module _ {X : Type 0} (remaining : X → Option (List ℕ)) where
   front_of a b front heard p e = left_over (remaining a.inner) (remaining b.inner) front heard p.bytes e
 
   -- an error that is passed on, after octets that were read
-  pub passed_behind : {T : Type 0} (a b d : Port X) (xs : List ℕ) (told : HearFault) (result : Result T HearFault) → IsErrAnd result (λ (x : HearFault). x ≡ told)
-      → Gave remaining a b xs → Leaves remaining b d told → IfErr result (λ (x : HearFault). Leaves remaining a d x)
+  pub passed_behind : {T : Type 0} (a b d : Port X) (xs : List ℕ) (told : ReadFault) (result : Result T ReadFault) → IsErrAnd result (λ (x : ReadFault). x ≡ told)
+      → Gave remaining a b xs → Leaves remaining b d told → IfErr result (λ (x : ReadFault). Leaves remaining a d x)
   passed_behind a b d xs told (Ok x) is p q = tt
   passed_behind a b d xs told (Err x) is p q = subst (Leaves remaining a d) (sym is) (leaves_on a b d xs told p q)
 
   -- out of memory, after octets that were read
-  pub want_behind : {T : Type 0} (a d : Port X) (xs : List ℕ) (result : Result T HearFault) → IsErrAnd result (λ (x : HearFault). x ≡ faults.Memory)
-      → Gave remaining a d xs → IfErr result (λ (x : HearFault). Leaves remaining a d x)
+  pub want_behind : {T : Type 0} (a d : Port X) (xs : List ℕ) (result : Result T ReadFault) → IsErrAnd result (λ (x : ReadFault). x ≡ faults.Memory)
+      → Gave remaining a d xs → IfErr result (λ (x : ReadFault). Leaves remaining a d x)
   want_behind a d xs (Ok x) is p = tt
   want_behind a d xs (Err x) is p = subst (Leaves remaining a d) (sym is) (record { octets = xs; gave = p })
 
   -- octets that were read, and are the encoding of nothing
-  pub form_behind : {T : Type 0} (a d : Port X) (xs : List ℕ) (found : Option T) (result : Result T HearFault) → result ≡ ok_or found faults.Form
-      → Gave remaining a d xs → IfErr result (λ (x : HearFault). Leaves remaining a d x)
+  pub form_behind : {T : Type 0} (a d : Port X) (xs : List ℕ) (found : Option T) (result : Result T ReadFault) → result ≡ ok_or found faults.Form
+      → Gave remaining a d xs → IfErr result (λ (x : ReadFault). Leaves remaining a d x)
   form_behind a d xs found (Ok x) is p = tt
-  form_behind a d xs None (Err x) is p = subst (λ (r : Result _ HearFault). IfErr r (λ (x : HearFault). Leaves remaining a d x)) (sym is) (record { octets = xs; gave = p })
+  form_behind a d xs None (Err x) is p = subst (λ (r : Result _ ReadFault). IfErr r (λ (x : ReadFault). Leaves remaining a d x)) (sym is) (record { octets = xs; gave = p })
   form_behind a d xs (Some y) (Err x) is p = absurd cc
 
   -- the same for a last call, whose result is returned
-  pub answered_behind : {T : Type 0} (a b d : Port X) (xs : List ℕ) (result : Result T HearFault) → Gave remaining a b xs
-      → IfErr result (λ (x : HearFault). Leaves remaining b d x) → IfErr result (λ (x : HearFault). Leaves remaining a d x)
+  pub answered_behind : {T : Type 0} (a b d : Port X) (xs : List ℕ) (result : Result T ReadFault) → Gave remaining a b xs
+      → IfErr result (λ (x : ReadFault). Leaves remaining b d x) → IfErr result (λ (x : ReadFault). Leaves remaining a d x)
   answered_behind a b d xs (Ok x) p q = tt
   answered_behind a b d xs (Err x) p q = leaves_on a b d xs x p q

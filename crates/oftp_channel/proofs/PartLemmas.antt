@@ -10,8 +10,8 @@ use Rattle.oftp_channel.specs.declared.answer.Outlet.{Outlet}
 use Rattle.oftp_channel.specs.declared.answer.Outlet.TheVariants as outlets
 use Rattle.oftp_channel.specs.declared.answer.TheConstants.{LONGEST_PIECE}
 use Rattle.oftp_channel.specs.declared.ending.Ending.{Ending}
-use Rattle.oftp_channel.specs.declared.fault.HearFault.{HearFault}
-use Rattle.oftp_channel.specs.declared.fault.HearFault.TheVariants.{Form}
+use Rattle.oftp_channel.specs.declared.fault.ReadFault.{ReadFault}
+use Rattle.oftp_channel.specs.declared.fault.ReadFault.TheVariants.{Form}
 use Rattle.oftp_channel.proofs.EndingLemmas.{first}
 use Rattle.oftp_channel.proofs.InputLemmas.{front_of, some}
 use Rattle.oftp_channel.proofs.SpellingLemmas.{regroup, same_word}
@@ -47,9 +47,9 @@ module _ {X : Type 0} (remaining : X → Option (List ℕ)) (a b : Port X) where
       let k = one_end told l.0 rest is (sym l.2) in
       ap (λ (t : Ending). end t) (again k.0 rest k.1 (l.1 ∙ ap (λ (z : List ℕ). some z) k.3)) ∙ sym k.2
 
-  pub no_part : {T : Type 0} (told : HearFault) (result : Result T HearFault) → IsErrAnd result (λ (x : HearFault). x ≡ told) → Gave remaining a b (0 ∷ [])
+  pub no_part : {T : Type 0} (told : ReadFault) (result : Result T ReadFault) → IsErrAnd result (λ (x : ReadFault). x ≡ told) → Gave remaining a b (0 ∷ [])
       → (told ≡ Form → (heard more rest : List ℕ) (t : Ending) → remaining b.inner ≡ Some heard → IsEnding t → heard ++ more ≡ spelled_ending t ++ rest → ⊥)
-      → IfErr result (λ (x : HearFault). x ≡ Form → (heard : List ℕ) → remaining a.inner ≡ Some heard → BeginsNoPart heard)
+      → IfErr result (λ (x : ReadFault). x ≡ Form → (heard : List ℕ) → remaining a.inner ≡ Some heard → BeginsNoPart heard)
   no_part told (Ok x) is h refused = tt
   no_part told (Err x) is h refused = λ form heard s more rest part fits spelled.
       let l = front_of remaining a b (0 ∷ []) heard h s in

@@ -3,8 +3,8 @@ use Rattle.std.specs.Prelude.{◌≡◌, ℕ, ◌+◌, ◌%◌, ◌^◌, ◌⊎�
 use Rattle.std.specs.Io.KnownBytes.{Consumes}
 use Rattle.oftp_io.specs.Ports.{IsDone}
 use Rattle.oftp_io.specs.declared.port.Port.{Port}
-use Rattle.oftp_channel.specs.declared.fault.HearFault.{HearFault}
-use Rattle.oftp_channel.specs.declared.fault.HearFault.TheVariants as faults
+use Rattle.oftp_channel.specs.declared.fault.ReadFault.{ReadFault}
+use Rattle.oftp_channel.specs.declared.fault.ReadFault.TheVariants as faults
 
 module _ {X : Type 0} where
   -- it gave these octets, and returned no error
@@ -24,7 +24,7 @@ module _ {X : Type 0} where
     pub cause : (new.faults ≡ (old.faults + 1) % 2 ^ 64) ⊎ IsDone remaining new
 
   -- what an error leaves: the octets that were read are lost
-  abbrev pub Leaves : (X → Option (List ℕ)) → Port X → Port X → HearFault → Type 0
+  abbrev pub Leaves : (X → Option (List ℕ)) → Port X → Port X → ReadFault → Type 0
   Leaves remaining old new faults.Memory = GaveSome remaining old new
   Leaves remaining old new faults.Input = Stopped remaining old new
   Leaves remaining old new faults.Form = GaveSome remaining old new

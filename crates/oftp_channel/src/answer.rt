@@ -8,10 +8,10 @@ ghost use Rattle.oftp_channel.specs.Inputs.{Gave, Leaves};
 ghost use Rattle.oftp_channel.specs.declared.answer.Outlet.{Outlet};
 ghost use Rattle.oftp_channel.specs.declared.answer.TheConstants.{LONGEST_PIECE};
 ghost use Rattle.oftp_channel.specs.declared.ending.Ending.{Ending};
-ghost use Rattle.oftp_channel.specs.declared.fault.HearFault.TheVariants.{Form};
+ghost use Rattle.oftp_channel.specs.declared.fault.ReadFault.TheVariants.{Form};
 
 use crate::ending::Ending;
-use crate::fault::HearFault;
+use crate::fault::ReadFault;
 use crate::inputs::{read_long, read_octet, read_word};
 use crate::labels::Label;
 use oftp_io::Port;
@@ -89,7 +89,7 @@ pub fn write_end<W: Write>(writer: &mut Port<W>, ending: Ending) -> bool
 }
 
 // Reads the kind of an ending and its number.
-fn read_ending<R: Read>(alloc: Global, reader: &mut Port<R>) -> Result<Ending, HearFault>
+fn read_ending<R: Read>(alloc: Global, reader: &mut Port<R>) -> Result<Ending, ReadFault>
     ensures ending { IfOk result (λ ending. IsEnding ending) }
     ensures read { IfOk result (λ ending. Gave R.remaining reader.old reader.new (spelled_ending ending)) }
     ensures again { (told : Ending) (rest : List ℕ) → IsEnding told → R.remaining reader.old.inner ≡ Some (spelled_ending told ++ rest)
@@ -100,19 +100,19 @@ fn read_ending<R: Read>(alloc: Global, reader: &mut Port<R>) -> Result<Ending, H
 {
     let kind = read_octet(alloc, reader)?;
     let number = read_long(alloc, reader)?;
-    Ending::of_label(Label { kind, number }).ok_or(HearFault::Form)
+    Ending::of_label(Label { kind, number }).ok_or(ReadFault::Form)
 }
 
 /// Reads the next part of an answer.
 ///
 /// # Errors
 ///
-/// - [`HearFault::Form`] only where no part of an answer begins with the octets of the input, whatever follows them.
-/// - [`HearFault::Input`] only where the reader returned an error or its end.
-/// - [`HearFault::Memory`]: out of memory.
+/// - [`ReadFault::Form`] only where no part of an answer begins with the octets of the input, whatever follows them.
+/// - [`ReadFault::Input`] only where the reader returned an error or its end.
+/// - [`ReadFault::Memory`]: out of memory.
 ///
 /// The octets that were read are lost.
-pub fn read_part<R: Read>(alloc: Global, reader: &mut Port<R>) -> Result<AnswerPart, HearFault>
+pub fn read_part<R: Read>(alloc: Global, reader: &mut Port<R>) -> Result<AnswerPart, ReadFault>
     // The octets that were read are the encoding of the part.
     ensures part { IfOk result (λ part. IsPart (part_of part)) }
     ensures read { IfOk result (λ part. Gave R.remaining reader.old reader.new (spelled_part (part_of part))) }
@@ -127,7 +127,7 @@ pub fn read_part<R: Read>(alloc: Global, reader: &mut Port<R>) -> Result<AnswerP
         let ending = read_ending(alloc, reader)?;
         return Ok(AnswerPart::End(ending));
     }
-    let outlet = Outlet::of_code(code).ok_or(HearFault::Form)?;
+    let outlet = Outlet::of_code(code).ok_or(ReadFault::Form)?;
     let octets = read_word(alloc, reader, LONGEST_PIECE)?;
     Ok(AnswerPart::Piece(outlet, octets))
 }

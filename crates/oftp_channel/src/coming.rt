@@ -3,9 +3,9 @@
 ghost use Rattle.std.specs.Prelude.{◌≡◌, ◌<◌, ◌^◌, ◌≤◌, ◌⊎◌, ◌++◌, ℕ, List, [], IfOk, IfErr, replicate};
 ghost use Rattle.std.specs.Int.{w32, to_be_bytes};
 ghost use Rattle.oftp_channel.specs.Requests.{BeginsNoRequest, Lacks};
-ghost use Rattle.oftp_channel.specs.declared.fault.HearFault.TheVariants.{Form};
+ghost use Rattle.oftp_channel.specs.declared.fault.ReadFault.TheVariants.{Form};
 
-use crate::fault::HearFault;
+use crate::fault::ReadFault;
 use crate::inputs::number_of;
 use crate::request::{LARGEST_REQUEST, MOST_WORDS};
 
@@ -13,15 +13,15 @@ use crate::request::{LARGEST_REQUEST, MOST_WORDS};
 ///
 /// # Errors
 ///
-/// [`HearFault::Form`] where no octets could complete a request.
-pub fn lacking(heard: &[u8]) -> Result<usize, HearFault>
+/// [`ReadFault::Form`] where no octets could complete a request.
+pub fn lacking(heard: &[u8]) -> Result<usize, ReadFault>
     ensures lacks { IfOk result (λ count. Lacks heard.now count) }
     ensures refused { IfErr result (λ fault. (fault ≡ Form) × BeginsNoRequest heard.now) }
 {
     let head = begun_at(heard);
     let count = head.least as usize;
     if count > MOST_WORDS {
-        return Err(HearFault::Form);
+        return Err(ReadFault::Form);
     }
     let mut lacking = head.missing;
     let mut rest = head.behind;
@@ -31,7 +31,7 @@ pub fn lacking(heard: &[u8]) -> Result<usize, HearFault>
         let begun = begun_at(rest);
         let length = begun.least as usize;
         if length > left {
-            return Err(HearFault::Form);
+            return Err(ReadFault::Form);
         }
         let came = length.min(begun.behind.len());
         lacking += begun.missing + (length - came);

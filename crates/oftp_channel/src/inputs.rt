@@ -4,9 +4,9 @@ ghost use Rattle.std.specs.Prelude.{◌≡◌, ◌≤◌, ◌<◌, ◌^◌, ◌+
 ghost use Rattle.std.specs.Int.{w32, w64, to_be_bytes};
 ghost use Rattle.oftp_channel.specs.Inputs.{Gave, Leaves};
 ghost use Rattle.oftp_channel.specs.Requests.{spelled_word};
-ghost use Rattle.oftp_channel.specs.declared.fault.HearFault.TheVariants.{Form};
+ghost use Rattle.oftp_channel.specs.declared.fault.ReadFault.TheVariants.{Form};
 
-use crate::fault::HearFault;
+use crate::fault::ReadFault;
 use oftp_io::Port;
 use std::alloc::Global;
 use std::io::Read;
@@ -19,7 +19,7 @@ fn read_octets<R: Read>(
     alloc: Global,
     reader: &mut Port<R>,
     count: usize,
-) -> Result<Vec<u8>, HearFault>
+) -> Result<Vec<u8>, ReadFault>
     ensures count { IfOk result (λ octets. length octets.items ≡ count) }
     ensures read { IfOk result (λ octets. Gave R.remaining reader.old reader.new octets.items) }
     ensures form { IfErr result (λ fault. fault ≡ Form → ⊥) }
@@ -31,10 +31,10 @@ fn read_octets<R: Read>(
         let most = (count - octets.len()).min(STEP);
         let part = &mut step[..most];
         let Some(came) = reader.read(part) else {
-            return Err(HearFault::Input);
+            return Err(ReadFault::Input);
         };
         if came == 0 {
-            return Err(HearFault::Input);
+            return Err(ReadFault::Input);
         }
         octets.extend_from_slice(&part[..came])?;
     }
@@ -42,7 +42,7 @@ fn read_octets<R: Read>(
 }
 
 // Reads an octet.
-pub(crate) fn read_octet<R: Read>(alloc: Global, reader: &mut Port<R>) -> Result<u8, HearFault>
+pub(crate) fn read_octet<R: Read>(alloc: Global, reader: &mut Port<R>) -> Result<u8, ReadFault>
     ensures read { IfOk result (λ octet. Gave R.remaining reader.old reader.new (octet ∷ [])) }
     ensures form { IfErr result (λ fault. fault ≡ Form → ⊥) }
     ensures leaves { IfErr result (λ fault. Leaves R.remaining reader.old reader.new fault) }
@@ -59,7 +59,7 @@ pub(crate) fn number_of(octets: [u8; 4]) -> u32
 }
 
 // Reads a number of four octets.
-pub(crate) fn read_number<R: Read>(alloc: Global, reader: &mut Port<R>) -> Result<u32, HearFault>
+pub(crate) fn read_number<R: Read>(alloc: Global, reader: &mut Port<R>) -> Result<u32, ReadFault>
     ensures read { IfOk result (λ number. Gave R.remaining reader.old reader.new (to_be_bytes w32 number)) }
     ensures form { IfErr result (λ fault. fault ≡ Form → ⊥) }
     ensures leaves { IfErr result (λ fault. Leaves R.remaining reader.old reader.new fault) }
@@ -79,7 +79,7 @@ pub(crate) fn long_of(octets: &[u8]) -> u64
 }
 
 // Reads a number of eight octets.
-pub(crate) fn read_long<R: Read>(alloc: Global, reader: &mut Port<R>) -> Result<u64, HearFault>
+pub(crate) fn read_long<R: Read>(alloc: Global, reader: &mut Port<R>) -> Result<u64, ReadFault>
     ensures read { IfOk result (λ number. Gave R.remaining reader.old reader.new (to_be_bytes w64 number)) }
     ensures form { IfErr result (λ fault. fault ≡ Form → ⊥) }
     ensures leaves { IfErr result (λ fault. Leaves R.remaining reader.old reader.new fault) }
@@ -93,7 +93,7 @@ pub(crate) fn read_word<R: Read>(
     alloc: Global,
     reader: &mut Port<R>,
     most: usize,
-) -> Result<Vec<u8>, HearFault>
+) -> Result<Vec<u8>, ReadFault>
     requires { most < 2 ^ 32 }
     ensures most { IfOk result (λ word. length word.items ≤ most) }
     ensures read { IfOk result (λ word. Gave R.remaining reader.old reader.new (spelled_word word.items)) }
@@ -103,7 +103,7 @@ pub(crate) fn read_word<R: Read>(
 {
     let count = read_number(alloc, reader)? as usize;
     if count > most {
-        return Err(HearFault::Form);
+        return Err(ReadFault::Form);
     }
     read_octets(alloc, reader, count)
 }

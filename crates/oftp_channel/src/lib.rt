@@ -21,7 +21,7 @@ pub use answer::{AnswerPart, LONGEST_PIECE, Outlet, read_part, write_end, write_
 pub use asking::{Request, Tracing, fits, write_request};
 pub use coming::lacking;
 pub use ending::Ending;
-pub use fault::HearFault;
+pub use fault::ReadFault;
 pub use listed::{ListedFile, write_entry};
 pub use piece_writer::PieceWriter;
 pub use ready::{READY, read_ready, write_ready};

@@ -3,10 +3,10 @@
 ghost use Rattle.std.specs.Prelude.{◌≡◌, ◌∷◌, [], ℕ, List, Some, IfErr, OnOk};
 ghost use Rattle.oftp_io.specs.Ports.{Sent};
 ghost use Rattle.oftp_channel.specs.Inputs.{Gave, Leaves};
-ghost use Rattle.oftp_channel.specs.declared.fault.HearFault.TheVariants.{Form};
+ghost use Rattle.oftp_channel.specs.declared.fault.ReadFault.TheVariants.{Form};
 ghost use Rattle.oftp_channel.specs.declared.ready.TheConstants.{READY};
 
-use crate::fault::HearFault;
+use crate::fault::ReadFault;
 use crate::inputs::read_octet;
 use oftp_io::Port;
 use std::alloc::Global;
@@ -26,12 +26,12 @@ pub fn write_ready<W: Write>(writer: &mut Port<W>) -> bool
 ///
 /// # Errors
 ///
-/// - [`HearFault::Form`] only where the input begins with another octet.
-/// - [`HearFault::Input`] only where the reader returned an error or its end.
-/// - [`HearFault::Memory`]: out of memory.
+/// - [`ReadFault::Form`] only where the input begins with another octet.
+/// - [`ReadFault::Input`] only where the reader returned an error or its end.
+/// - [`ReadFault::Memory`]: out of memory.
 ///
 /// The octets that were read are lost.
-pub fn read_ready<R: Read>(alloc: Global, reader: &mut Port<R>) -> Result<(), HearFault>
+pub fn read_ready<R: Read>(alloc: Global, reader: &mut Port<R>) -> Result<(), ReadFault>
     ensures read { OnOk result (Gave R.remaining reader.old reader.new (READY ∷ [])) }
     ensures refused { IfErr result (λ fault. fault ≡ Form → (rest : List ℕ) → R.remaining reader.old.inner ≡ Some (READY ∷ rest) → ⊥) }
     ensures leaves { IfErr result (λ fault. Leaves R.remaining reader.old reader.new fault) }
@@ -39,6 +39,6 @@ pub fn read_ready<R: Read>(alloc: Global, reader: &mut Port<R>) -> Result<(), He
     if read_octet(alloc, reader)? == READY {
         Ok(())
     } else {
-        Err(HearFault::Form)
+        Err(ReadFault::Form)
     }
 }

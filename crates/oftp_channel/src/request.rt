@@ -5,9 +5,9 @@ ghost use Rattle.oftp_io.specs.Ports.{Sent};
 ghost use Rattle.oftp_channel.specs.Asked.{octets_in, read_words, written_words};
 ghost use Rattle.oftp_channel.specs.Inputs.{Gave, Leaves};
 ghost use Rattle.oftp_channel.specs.Requests.{BeginsNoRequest, IsRequest, spelled_request, spelled_word};
-ghost use Rattle.oftp_channel.specs.declared.fault.HearFault.TheVariants.{Form};
+ghost use Rattle.oftp_channel.specs.declared.fault.ReadFault.TheVariants.{Form};
 
-use crate::fault::HearFault;
+use crate::fault::ReadFault;
 use crate::inputs::{read_number, read_word};
 use oftp_io::Port;
 use std::alloc::Global;
@@ -109,12 +109,12 @@ fn write_octets<W: Write>(writer: &mut Port<W>, word: &[u8]) -> bool
 ///
 /// # Errors
 ///
-/// - [`HearFault::Form`] only where no request begins with the octets of the input, whatever follows them.
-/// - [`HearFault::Input`] only where the reader returned an error or its end.
-/// - [`HearFault::Memory`]: out of memory.
+/// - [`ReadFault::Form`] only where no request begins with the octets of the input, whatever follows them.
+/// - [`ReadFault::Input`] only where the reader returned an error or its end.
+/// - [`ReadFault::Memory`]: out of memory.
 ///
 /// The octets that were read are lost.
-pub fn read_request<R: Read>(alloc: Global, reader: &mut Port<R>) -> Result<Vec<Vec<u8>>, HearFault>
+pub fn read_request<R: Read>(alloc: Global, reader: &mut Port<R>) -> Result<Vec<Vec<u8>>, ReadFault>
     // The octets that were read are the encoding of the request.
     ensures request { IfOk result (λ words. IsRequest (read_words words.items)) }
     ensures read { IfOk result (λ words. Gave R.remaining reader.old reader.new (spelled_request (read_words words.items))) }
@@ -126,7 +126,7 @@ pub fn read_request<R: Read>(alloc: Global, reader: &mut Port<R>) -> Result<Vec<
 {
     let count = read_number(alloc, reader)? as usize;
     if count > MOST_WORDS {
-        return Err(HearFault::Form);
+        return Err(ReadFault::Form);
     }
     let mut left = LARGEST_REQUEST;
     let mut words = Vec::new(alloc);

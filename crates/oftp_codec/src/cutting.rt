@@ -2,6 +2,7 @@
 
 ghost use Rattle.std.specs.Prelude.{◌≡◌, ◌≤◌, ◌++◌, IfOk, OnOk, None};
 ghost use Rattle.std.specs.List.{flat_map, AllByRecursion};
+ghost use Rattle.oftp_codec.specs.declared.limits.TheConstants.{LONGEST_FRAME, SHORTEST_FRAME};
 ghost use Rattle.oftp_codec.specs.Header.{frame, IsCommand};
 ghost use Rattle.oftp_codec.specs.Stream.{IsRest, copied, joined, Reads};
 
@@ -49,8 +50,8 @@ fn drain(
 ///
 /// Out of memory.
 pub fn cut(alloc: Global, limit: usize, pieces: &[&[u8]]) -> Result<CutStream, AllocError>
-    requires low { 5 ≤ limit }
-    requires high { limit ≤ 100003 }
+    requires low { SHORTEST_FRAME ≤ limit }
+    requires high { limit ≤ LONGEST_FRAME }
     ensures { IfOk result (λ c. Reads limit (joined pieces.now) (copied c.commands.items) c.fault) }
 {
     let mut deframer = Deframer::new(alloc, limit);

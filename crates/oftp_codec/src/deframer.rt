@@ -2,10 +2,11 @@
 
 ghost use Rattle.std.specs.Prelude.{◌≡◌, ◌+◌, ◌-◌, ◌*◌, ◌<◌, ◌≤◌, ◌++◌, [], length, drop, max, Some, None, Ok, Err, OnOk, OnErr, IfOk, IfErr, IfSome, IfNone};
 ghost use Rattle.std.specs.Vec.{vec_len, vec_capacity};
+ghost use Rattle.oftp_codec.specs.declared.limits.TheConstants.{LONGEST_FRAME, SHORTEST_FRAME};
 ghost use Rattle.oftp_codec.specs.Stream.{front, len_of, Finds, BeginsWith, IsRest, next_of, left_of, shown};
 
 use crate::frame_fault::FrameFault;
-use crate::headers::HEADER_LEN;
+use crate::limits::{FRAME_HEADER, SHORTEST_FRAME};
 use std::alloc::Global;
 use std::marker::Model;
 
@@ -25,6 +26,7 @@ impl Model for Deframer {
     ghost use Rattle.std.specs.Prelude.{◌≤◌, ◌*◌, length, drop};
     ghost use Rattle.std.specs.Vec.{vec_capacity};
     ghost use Rattle.oftp_codec.specs.Stream.{Stream};
+    ghost use Rattle.oftp_codec.specs.declared.limits.TheConstants.{LONGEST_FRAME, SHORTEST_FRAME};
 
     ghost Value = { Stream };
 
@@ -37,7 +39,7 @@ impl Model for Deframer {
     } };
 
     // The capacity is twice the room, because `make_room` allocates twice what is needed.
-    ghost invariant = { λ d. (5 ≤ d.limit) × (d.limit ≤ 100003) × (d.begin ≤ length d.buffer.items)
+    ghost invariant = { λ d. (SHORTEST_FRAME ≤ d.limit) × (d.limit ≤ LONGEST_FRAME) × (d.begin ≤ length d.buffer.items)
         × (2 * d.room ≤ vec_capacity d.buffer) };
 }
 
@@ -51,10 +53,10 @@ fn frame_len(rest: &[u8], limit: usize) -> Result<Option<usize>, FrameFault>
         [] => Ok(None),
         [0x10, high, middle, low, command @ ..] => {
             let len = usize::from(*high) * 65_536 + usize::from(*middle) * 256 + usize::from(*low);
-            if len < 5 || limit < len {
+            if len < SHORTEST_FRAME || limit < len {
                 return Err(FrameFault::BadLength);
             }
-            if command.len() + HEADER_LEN < len {
+            if command.len() + FRAME_HEADER < len {
                 return Ok(None);
             }
             Ok(Some(len))
@@ -110,8 +112,8 @@ impl Deframer {
     /// A deframer without octets. It allocates nothing. `limit` is the greatest length of a frame in octets, with its header. It must be 5
     /// to 100,003, the greatest of RFC 5024, section 8.
     pub fn new(alloc: Global, limit: usize) -> Deframer
-        requires low { 5 ≤ limit }
-        requires high { limit ≤ 100003 }
+        requires low { SHORTEST_FRAME ≤ limit }
+        requires high { limit ≤ LONGEST_FRAME }
         ensures { result ≡ record { limit = limit; rest = []; told = None; room = 0; capacity = 0 } }
     {
         Deframer {
@@ -130,8 +132,8 @@ impl Deframer {
     ///
     /// [`FrameFault::Memory`]: out of memory, or twice `room` isn't a `usize`.
     pub fn with_room(alloc: Global, limit: usize, room: usize) -> Result<Deframer, FrameFault>
-        requires low { 5 ≤ limit }
-        requires high { limit ≤ 100003 }
+        requires low { SHORTEST_FRAME ≤ limit }
+        requires high { limit ≤ LONGEST_FRAME }
         ensures ok { IfOk result
             (λ d. d ≡ record { limit = limit; rest = []; told = None; room = room; capacity = 2 * room }) }
         ensures err { IfErr result (λ fault. fault ≡ FrameFault.Memory) }
@@ -217,7 +219,7 @@ impl Deframer {
         }
         match frame_len(&self.buffer[self.begin..], self.limit) {
             Ok(Some(len)) => {
-                let from = self.begin + HEADER_LEN;
+                let from = self.begin + FRAME_HEADER;
                 self.begin += len;
                 Ok(Some(&self.buffer[from..self.begin]))
             }

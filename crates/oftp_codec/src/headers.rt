@@ -3,8 +3,7 @@
 ghost use Rattle.std.specs.Prelude.{◌≡◌, ◌+◌, ◌≤◌, ◌<◌, ◌⊎◌, IfSome, IfNone};
 ghost use Rattle.oftp_codec.specs.Header.{header_of};
 
-/// The octets of the stream header.
-pub(crate) const HEADER_LEN: usize = 4;
+use crate::limits::FRAME_HEADER;
 
 /// The most octets of a command. With its header it has 100,003.
 const LONGEST_COMMAND: usize = 99_999;
@@ -17,7 +16,7 @@ pub fn header(n: usize) -> Option<[u8; 4]>
     if n == 0 || n > LONGEST_COMMAND {
         return None;
     }
-    let len = n + HEADER_LEN;
+    let len = n + FRAME_HEADER;
     Some([
         0x10,
         (len / 65_536) as u8,

@@ -13,7 +13,7 @@ use Rattle.oftp_command_line.specs.OperatorLines.{refuse_app, release_app, submi
 use Rattle.oftp_command_line.specs.RegisterLines.{backup_app, fetch_app, report_app}
 use Rattle.oftp_command_line.specs.ServiceLines.{call_app, http_app, listen_app, run_app}
 use Rattle.oftp_command_line.specs.Terms.{EntranceSaid, TermsSaid}
-use Rattle.oftp_command_line.specs.declared.line.commands.feed.Side.TheVariants.{Initiator, Responder}
+use Rattle.oftp_command_line.specs.declared.line.commands.feed.FeedRole.TheVariants.{Initiator, Responder}
 
 -- the words with this octet before the first of them
 abbrev begun : ℕ → List (List ℕ) → List (List ℕ)

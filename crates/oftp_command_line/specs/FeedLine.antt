@@ -3,14 +3,14 @@ use Rattle.std.specs.Prelude.{List, [], ◌∷◌, Option, codes, option_map}
 use Rattle.clap.specs.Words.{App, Row, Text, first_of}
 use Rattle.oftp_command_line.specs.Arguments.{app_with, defaulted, given, named, optional, own_book, own_trace, word}
 use Rattle.oftp_command_line.specs.declared.line.commands.feed.Feed.{Feed}
-use Rattle.oftp_command_line.specs.declared.line.commands.feed.Side.{Side}
-use Rattle.oftp_command_line.specs.declared.line.commands.feed.Side.TheVariants.{Initiator, Responder}
+use Rattle.oftp_command_line.specs.declared.line.commands.feed.FeedRole.{FeedRole}
+use Rattle.oftp_command_line.specs.declared.line.commands.feed.FeedRole.TheVariants.{Initiator, Responder}
 
 -- the options and words of `feed`
 pub record FeedSaid : Type 0 where
   pub database : Option Text
   pub book : Text
-  pub role : Side
+  pub role : FeedRole
   pub partner : Option Text
   pub trace : Option Text
   pub input : Text
@@ -34,11 +34,11 @@ feed_app = app_with (codes "feed") (optional (codes "db") ∷ own_book ∷ defau
     ∷ optional (codes "partner") ∷ own_trace ∷ word (codes "in") ∷ word (codes "out") ∷ [])
 
 -- the side with this name
-abbrev pub side_of : Text → Option Side
+abbrev pub side_of : Text → Option FeedRole
 side_of = named ((codes "responder", Responder) ∷ (codes "initiator", Initiator) ∷ [])
 
 -- the command `feed` with these values, on a side
-abbrev pub feed_with : Side → List Row → FeedSaid
+abbrev pub feed_with : FeedRole → List Row → FeedSaid
 feed_with role rows = record {
   database = first_of (codes "db") rows;
   book = given (codes "book") rows;

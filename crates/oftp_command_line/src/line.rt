@@ -14,7 +14,7 @@ mod values;
 use arguments::command;
 pub use arguments::{Argument, Kind};
 use commands::Name;
-pub use commands::feed::{Feed, Side};
+pub use commands::feed::{Feed, FeedRole};
 pub use commands::files::Files;
 pub use commands::folders::{Collect, Offer};
 pub use commands::operators::{Refuse, Release, Submit};

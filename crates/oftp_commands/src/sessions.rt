@@ -1,6 +1,6 @@
 //! The command `feed`, which runs one session from file to file.
 
-use oftp_command_line::{Feed, Side};
+use oftp_command_line::{Feed, FeedRole};
 use oftp_database::{self as database, DatabaseOffice, PATIENCE};
 use oftp_engine::{End, Port, Refusal, Role, serve_in_memory};
 use oftp_files::{
@@ -87,10 +87,10 @@ fn role_of<'b>(book: &'b Book, line: &Feed<'_>) -> Option<Role<'b>> {
 }
 
 /// The role for this side of the session, with the named partner.
-fn role_with<'b>(side: Side, named: Option<&'b Partner>) -> Option<Role<'b>> {
+fn role_with<'b>(side: FeedRole, named: Option<&'b Partner>) -> Option<Role<'b>> {
     match side {
-        Side::Responder => Some(Role::Responder),
-        Side::Initiator => named.map(Role::Initiator),
+        FeedRole::Responder => Some(Role::Responder),
+        FeedRole::Initiator => named.map(Role::Initiator),
     }
 }
 

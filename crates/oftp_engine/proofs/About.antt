@@ -14,7 +14,7 @@ use Rattle.oftp_wire.specs.declared.reason.StartReason.{StartReason}
 use Rattle.oftp_wire.specs.declared.reason.StartReason.TheVariants.{InvalidFilename, InvalidDestination, InvalidOrigin, DuplicateFile, FileDirectionRefused, Unspecified}
 use Rattle.oftp_wire.specs.Reasons.{start_number}
 use Rattle.oftp_partners.specs.declared.partner.Partner.{Partner}
-use Rattle.oftp_vfile.specs.declared.format.TakeFault.{TakeFault}
+use Rattle.oftp_vfile.specs.declared.fault.TakeFault.{TakeFault}
 use Rattle.oftp_vfile.specs.Carries.{is_open}
 use Rattle.oftp_vfile.specs.Reading.{taken}
 use Rattle.oftp_vfile.specs.Taking.{Taking, counts_of}

@@ -19,7 +19,7 @@ use Rattle.oftp_session.specs.Steps.{has_turn, turned, turns_due, Suits}
 use Rattle.oftp_session.specs.Calls.{Allows, Proceeds}
 use Rattle.oftp_session.proofs.Proceeding.{turned_proceeds}
 use Rattle.oftp_session.proofs.Phases.{opening_suits, over_no_turn, turn_falls}
-use Rattle.oftp_engine.specs.declared.limits.TheConstants.{LONGEST_FRAME}
+use Rattle.oftp_codec.specs.declared.limits.TheConstants.{LONGEST_FRAME}
 use Rattle.oftp_engine.specs.Runs.{Course, Output, started, octets_of, with_change, with_output, advance, came_in, turned_in, is_stopped, turns, settled, on_front, next_in, run_by, run}
 use Rattle.oftp_engine.specs.Progress.{Grows, Sound, Counted}
 use Rattle.oftp_engine.proofs.Phases.{step_proceeds, fails_proceed}

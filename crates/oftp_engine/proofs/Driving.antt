@@ -17,7 +17,7 @@ use Rattle.oftp_session.specs.Phases.{Phase, Step, ending_of, fails, is_over}
 use Rattle.oftp_session.specs.Steps.{Suits}
 use Rattle.oftp_session.specs.Calls.{Proceeds, Seen, Stands}
 use Rattle.oftp_session.specs.Standings.{Standing, is_sending}
-use Rattle.oftp_engine.specs.declared.limits.TheConstants.{LONGEST_FRAME}
+use Rattle.oftp_codec.specs.declared.limits.TheConstants.{LONGEST_FRAME}
 use Rattle.oftp_engine.specs.declared.serving.Going.{Going}
 use Rattle.oftp_engine.specs.declared.serving.Pace.{Pace}
 use Rattle.oftp_engine.specs.declared.serving.Pace.TheVariants as pace

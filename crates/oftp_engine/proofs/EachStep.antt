@@ -12,7 +12,7 @@ use Rattle.oftp_session.specs.Phases.{Phase, Step, fails, is_over}
 use Rattle.oftp_session.specs.Settings.{Setting}
 use Rattle.oftp_session.specs.Steps.{has_turn, turns_due}
 use Rattle.oftp_session.proofs.Outputs.{MaySay, came_may, fails_may, turned_may}
-use Rattle.oftp_engine.specs.declared.limits.TheConstants.{LONGEST_FRAME}
+use Rattle.oftp_codec.specs.declared.limits.TheConstants.{LONGEST_FRAME}
 use Rattle.oftp_engine.specs.Runs.{Course, advance, came_in, is_stopped, next_in, on_front, refusal, run, run_by, settled, step_on, turned_in, turns}
 
 -- P holds after each turn, each command that arrives, and an end because of a bad header

@@ -8,7 +8,7 @@ use Rattle.oftp_codec.specs.declared.frame_fault.FrameFault.{FrameFault}
 use Rattle.oftp_codec.specs.Header.{frame, header_of, IsCommand}
 use Rattle.oftp_codec.specs.Stream.{Whole, front, command_in, head_of, Reads}
 use Rattle.oftp_codec.proofs.Fronts.{front_frame, front_rest}
-use Rattle.oftp_engine.specs.declared.limits.TheConstants.{LONGEST_FRAME}
+use Rattle.oftp_codec.specs.declared.limits.TheConstants.{LONGEST_FRAME}
 use Rattle.oftp_engine.specs.Runs.{Course, came_in, is_stopped, settled, on_front, next_in, run_by, run}
 use Rattle.oftp_engine.specs.Frames.{with_fault, over_commands}
 use Rattle.oftp_engine.proofs.Courses.{run_enough}

@@ -11,7 +11,7 @@ use Rattle.oftp_wire.specs.declared.reason.SessionReason.{SessionReason}
 use Rattle.oftp_wire.specs.declared.reason.SessionReason.TheVariants.{BufferSizeError, InvalidData, ProtocolViolation}
 use Rattle.oftp_wire.specs.Reasons.{start_number, end_number}
 use Rattle.oftp_partners.specs.declared.partner.Partner.{Partner}
-use Rattle.oftp_vfile.specs.declared.format.TakeFault.{TakeFault}
+use Rattle.oftp_vfile.specs.declared.fault.TakeFault.{TakeFault}
 use Rattle.oftp_vfile.specs.VirtualFile.{closed}
 use Rattle.oftp_vfile.specs.Carries.{is_open}
 use Rattle.oftp_vfile.specs.Taking.{Taking, counts_of}

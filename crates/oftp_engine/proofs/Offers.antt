@@ -7,7 +7,7 @@ use Rattle.std.specs.List.{list_any}
 use Rattle.std.specs.Str.{bytes_eq}
 use Rattle.oftp_vfile.specs.declared.format.Format.{Format}
 use Rattle.oftp_vfile.specs.declared.format.Format.TheVariants.{Variable}
-use Rattle.oftp_vfile.specs.declared.format.Limits.{Limits}
+use Rattle.oftp_vfile.specs.declared.limits.Limits.{Limits}
 use Rattle.oftp_vfile.specs.declared.format.TheConstants.{MOST_ROWS}
 use Rattle.oftp_vfile.specs.LocalForm.{IsLocal, local_of, local_row}
 use Rattle.oftp_vfile.specs.VirtualFile.{octets_in, units_in}

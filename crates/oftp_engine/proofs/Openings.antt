@@ -36,7 +36,7 @@ use Rattle.oftp_io.proofs.Bytes.{appends_on, count_on}
 use Rattle.oftp_io.proofs.Puts.{same_on}
 use Rattle.oftp_io.specs.declared.port.Port.{Port}
 use Rattle.oftp_io.specs.Ports.{Sent, SentAll}
-use Rattle.oftp_engine.specs.declared.limits.TheConstants.{LONGEST_FRAME}
+use Rattle.oftp_codec.specs.declared.limits.TheConstants.{LONGEST_FRAME}
 use Rattle.oftp_engine.specs.declared.serving.Admission.{Admission}
 use Rattle.oftp_engine.specs.declared.serving.Admission.TheVariants.{LetIn, SentAway, Undecided}
 use Rattle.oftp_engine.specs.declared.serving.RunFault.{RunFault}

@@ -17,7 +17,7 @@ use Rattle.oftp_wire.specs.declared.reason.StartReason.TheVariants.{DuplicateFil
 use Rattle.oftp_wire.specs.Reasons.{start_number}
 use Rattle.oftp_wire.specs.declared.reason.SessionReason.TheVariants.{BufferSizeError, InvalidData, ProtocolViolation}
 use Rattle.oftp_partners.specs.declared.partner.Partner.{Partner}
-use Rattle.oftp_vfile.specs.declared.format.TakeFault.{TakeFault}
+use Rattle.oftp_vfile.specs.declared.fault.TakeFault.{TakeFault}
 use Rattle.oftp_vfile.specs.Taking.{Taking, counts_of}
 use Rattle.oftp_vfile.specs.Reading.{taken}
 use Rattle.oftp_vfile.specs.Carries.{Carries, is_open}

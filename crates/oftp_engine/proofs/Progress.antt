@@ -12,7 +12,7 @@ use Rattle.oftp_session.specs.Phases.{is_over, Phase, Step, fails, framed, frame
 use Rattle.oftp_session.specs.Steps.{has_turn, turned, Suits}
 use Rattle.oftp_session.specs.Calls.{Proceeds, Seen}
 use Rattle.oftp_session.proofs.Proceeding.{turned_proceeds}
-use Rattle.oftp_engine.specs.declared.limits.TheConstants.{LONGEST_FRAME}
+use Rattle.oftp_codec.specs.declared.limits.TheConstants.{LONGEST_FRAME}
 use Rattle.oftp_engine.specs.declared.serving.RunFault.{RunFault}
 use Rattle.oftp_engine.specs.declared.serving.RunFault.TheVariants as fault
 use Rattle.oftp_engine.specs.Runs.{Course, Output, advance, run, is_stopped, octets_of, with_output, with_change, turned_in, came_in}

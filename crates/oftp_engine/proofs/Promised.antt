@@ -4,7 +4,7 @@ use Rattle.std.proofs.Common.{◌≡◌, List, [], ◌∷◌, Option, None, Some
 use Rattle.std.proofs.lemmas.Bool.{false≢true}
 use Rattle.oftp_partners.specs.Book.{BookData}
 use Rattle.oftp_partners.specs.declared.partner.Partner.{Partner}
-use Rattle.oftp_vfile.specs.declared.format.Limits.{Limits}
+use Rattle.oftp_vfile.specs.declared.limits.Limits.{Limits}
 use Rattle.oftp_register.specs.declared.entry.IncomingState.TheVariants.{Whole}
 use Rattle.oftp_register.specs.declared.entry.Identity.{Identity}
 use Rattle.oftp_register.specs.Register.{Register, Incoming, Outgoing, empty}

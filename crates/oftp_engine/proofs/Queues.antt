@@ -28,7 +28,7 @@ use Rattle.oftp_session.specs.Phases.{Phase, Step, esid_of, frame_of, is_over}
 use Rattle.oftp_session.specs.Settings.{Setting}
 use Rattle.oftp_session.specs.Steps.{opening}
 use Rattle.oftp_session.proofs.Phases.{opening_suits}
-use Rattle.oftp_engine.specs.declared.limits.TheConstants.{LONGEST_FRAME}
+use Rattle.oftp_codec.specs.declared.limits.TheConstants.{LONGEST_FRAME}
 use Rattle.oftp_engine.specs.Frames.{over_commands}
 use Rattle.oftp_engine.specs.Queues.{AreHeard, IsQueue, IsSayable, QueuesAreHeard, RunsAreHeard, RunsSayCommands, RunsSayQueues, SaysQueues, as_read, in_frames, over_queue}
 use Rattle.oftp_engine.specs.Ranges.{IsSpellable, RangesAreKept, StartsInRange}

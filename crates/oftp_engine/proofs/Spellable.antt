@@ -9,7 +9,7 @@ use Rattle.std.specs.Option.{IfSome}
 use Rattle.std.specs.Prelude.{codes}
 use Rattle.std.specs.Str.{IsUtf8, bytes_eq}
 use Rattle.oftp_wire.specs.Octets.{IsName}
-use Rattle.oftp_vfile.specs.declared.format.Limits.{Limits}
+use Rattle.oftp_vfile.specs.declared.limits.Limits.{Limits}
 use Rattle.oftp_partners.specs.Book.{BookData, IsBook, IsPartner, partner_at}
 use Rattle.oftp_partners.specs.declared.partner.Partner.{Partner}
 use Rattle.oftp_register.specs.declared.change.Cause.{Cause}

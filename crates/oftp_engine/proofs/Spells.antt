@@ -16,7 +16,7 @@ use Rattle.oftp_codec.specs.Spelling.{IsFit}
 use Rattle.oftp_partners.specs.Book.{IsBook, IsPartner}
 use Rattle.oftp_partners.specs.Fields.{IsBufferSize}
 use Rattle.oftp_partners.specs.declared.partner.Partner.{Partner}
-use Rattle.oftp_vfile.specs.declared.format.TakeFault.{TakeFault}
+use Rattle.oftp_vfile.specs.declared.fault.TakeFault.{TakeFault}
 use Rattle.oftp_vfile.specs.declared.format.TheConstants.{MOST_ROWS}
 use Rattle.oftp_vfile.specs.Carries.{is_open}
 use Rattle.oftp_vfile.specs.Fill.{records_of}

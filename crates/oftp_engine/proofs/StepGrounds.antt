@@ -7,7 +7,7 @@ use Rattle.oftp_wire.specs.declared.command.Command.TheVariants as command
 use Rattle.oftp_wire.specs.declared.command.Sfid.{Sfid}
 use Rattle.oftp_wire.specs.declared.command.Efid.{Efid}
 use Rattle.oftp_wire.specs.declared.command.Sfna.{Sfna}
-use Rattle.oftp_vfile.specs.declared.format.TakeFault.{TakeFault}
+use Rattle.oftp_vfile.specs.declared.fault.TakeFault.{TakeFault}
 use Rattle.oftp_vfile.specs.VirtualFile.{AreRows, closed, BeginsWith}
 use Rattle.oftp_vfile.specs.Fill.{payloads_of}
 use Rattle.oftp_vfile.specs.Carries.{Carries, is_open}

@@ -9,7 +9,7 @@ use Rattle.oftp_session.specs.Settings.{Setting}
 use Rattle.oftp_session.specs.Steps.{opening}
 use Rattle.oftp_session.specs.declared.session.Ending.{Ending}
 use Rattle.oftp_io.specs.declared.port.Port.{Port}
-use Rattle.oftp_engine.specs.declared.limits.TheConstants.{LONGEST_FRAME}
+use Rattle.oftp_codec.specs.declared.limits.TheConstants.{LONGEST_FRAME}
 use Rattle.oftp_engine.specs.declared.serving.Going.{Going}
 use Rattle.oftp_engine.specs.declared.serving.Going.TheVariants as going
 use Rattle.oftp_engine.specs.declared.serving.RunFault.{RunFault}

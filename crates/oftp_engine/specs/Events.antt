@@ -13,7 +13,7 @@ use Rattle.oftp_session.specs.Opening.{Agreement, ssid_verdict}
 use Rattle.oftp_session.specs.Settings.{Setting}
 use Rattle.oftp_session.specs.Phases.{Step}
 use Rattle.oftp_engine.specs.declared.operating.Operator.{Operator}
-use Rattle.oftp_engine.specs.declared.limits.TheConstants.{LONGEST_FRAME}
+use Rattle.oftp_codec.specs.declared.limits.TheConstants.{LONGEST_FRAME}
 use Rattle.oftp_engine.specs.Operating.{Deed, IsDeed}
 use Rattle.oftp_engine.specs.Parts.{SessionData, course_of}
 use Rattle.oftp_engine.specs.Runs.{Course, advance, answered, octets_of}

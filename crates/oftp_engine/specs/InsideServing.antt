@@ -11,7 +11,7 @@ use Rattle.oftp_session.specs.Standings.{Broken, Standing, is_sending}
 use Rattle.oftp_session.specs.declared.session.Ending.{Ending}
 use Rattle.oftp_session.specs.declared.session.SessionFault.{SessionFault}
 use Rattle.oftp_session.specs.declared.session.SessionFault.TheVariants as session
-use Rattle.oftp_engine.specs.declared.limits.TheConstants.{LONGEST_FRAME}
+use Rattle.oftp_codec.specs.declared.limits.TheConstants.{LONGEST_FRAME}
 use Rattle.oftp_engine.specs.Conversation.{Dialogue, IsOwn}
 use Rattle.oftp_engine.specs.Runs.{Course, run, is_stopped, advance, octets_of, step_on}
 use Rattle.oftp_io.specs.declared.port.Port.{Port}

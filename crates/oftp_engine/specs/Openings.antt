@@ -22,7 +22,7 @@ use Rattle.oftp_io.specs.declared.port.Port.{Port}
 use Rattle.oftp_io.specs.Ports.{SentAll}
 use Rattle.oftp_engine.specs.declared.serving.Admission.{Admission}
 use Rattle.oftp_engine.specs.declared.serving.Admission.TheVariants.{LetIn, SentAway, Undecided}
-use Rattle.oftp_engine.specs.declared.limits.TheConstants.{LONGEST_FRAME}
+use Rattle.oftp_codec.specs.declared.limits.TheConstants.{LONGEST_FRAME}
 use Rattle.oftp_engine.specs.declared.serving.RunFault.{RunFault}
 use Rattle.oftp_engine.specs.Conversation.{Dialogue, HasHeard}
 use Rattle.oftp_engine.specs.Runs.{refusal}

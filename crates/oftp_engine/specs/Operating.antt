@@ -4,7 +4,7 @@ use Rattle.std.specs.Fmt.{decimal}
 use Rattle.oftp_wire.specs.Octets.{IsDigits, IsName}
 use Rattle.oftp_vfile.specs.LocalForm.{IsLocal}
 use Rattle.oftp_vfile.specs.VirtualFile.{IsLongest, units_in}
-use Rattle.oftp_vfile.specs.declared.format.Limits.{Limits}
+use Rattle.oftp_vfile.specs.declared.limits.Limits.{Limits}
 use Rattle.oftp_vfile.specs.declared.format.TheConstants.{MOST_ROWS}
 use Rattle.oftp_partners.specs.Book.{BookData, partner_at}
 use Rattle.oftp_register.specs.declared.change.Cause.{Cause}

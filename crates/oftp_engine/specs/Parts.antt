@@ -22,7 +22,7 @@ use Rattle.oftp_session.specs.Settings.{Setting}
 use Rattle.oftp_session.specs.Phases.{Phase, ListenerIdle, Receiving, is_over}
 use Rattle.oftp_session.specs.Listener.{offered_identity}
 use Rattle.oftp_session.specs.Calls.{Makes}
-use Rattle.oftp_engine.specs.declared.limits.TheConstants.{LONGEST_FRAME}
+use Rattle.oftp_codec.specs.declared.limits.TheConstants.{LONGEST_FRAME}
 use Rattle.oftp_engine.specs.declared.operating.Operator.{Operator}
 use Rattle.oftp_engine.specs.Runs.{Course, came_in, is_stopped, run, settled, started}
 use Rattle.oftp_engine.specs.Operating.{Deed, IsDeed}

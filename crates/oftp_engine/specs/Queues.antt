@@ -12,7 +12,7 @@ use Rattle.oftp_register.specs.Register.{Register}
 use Rattle.oftp_session.specs.Settings.{Setting}
 use Rattle.oftp_session.specs.Phases.{esid_of, frame_of, is_over}
 use Rattle.oftp_session.specs.Steps.{came}
-use Rattle.oftp_engine.specs.declared.limits.TheConstants.{FRAME_HEADER, LONGEST_FRAME}
+use Rattle.oftp_codec.specs.declared.limits.TheConstants.{FRAME_HEADER, LONGEST_FRAME}
 use Rattle.oftp_engine.specs.Ranges.{StartsInRange}
 use Rattle.oftp_engine.specs.Runs.{Course, Output, advance, is_stopped, octets_of, run, settled, started}
 use Rattle.oftp_engine.specs.Serving.{last_frame}

@@ -2,7 +2,7 @@
 use Rattle.std.specs.Prelude.{◌≡◌, ℕ, ◌<◌, ◌≤◌, ⊤, List, length, take, All, IfSome, Option, Ok}
 use Rattle.std.specs.Str.{IsUtf8}
 use Rattle.oftp_wire.specs.Octets.{IsDigits, IsName}
-use Rattle.oftp_vfile.specs.declared.format.Limits.{Limits}
+use Rattle.oftp_vfile.specs.declared.limits.Limits.{Limits}
 use Rattle.oftp_partners.specs.Book.{BookData, IsBook, IsPartner}
 use Rattle.oftp_register.specs.declared.entry.Identity.{Identity}
 use Rattle.oftp_register.specs.Register.{Register, Incoming, Issued, Outgoing, empty}

@@ -1,6 +1,6 @@
 -- ESID 08, resources not available, reports an error of the office: no run has it.
 use Rattle.std.specs.Prelude.{◌≢◌, ℕ, All, List, Option, Err}
-use Rattle.oftp_vfile.specs.declared.format.TakeFault.TheVariants.{Memory}
+use Rattle.oftp_vfile.specs.declared.fault.TakeFault.TheVariants.{Memory}
 use Rattle.oftp_vfile.specs.Reading.{taken}
 use Rattle.oftp_vfile.specs.Taking.{Taking}
 use Rattle.oftp_register.specs.Register.{Register}

@@ -15,7 +15,7 @@ use Rattle.oftp_session.specs.Phases.{Phase, Step, ending_of, fails, frame_of, i
 use Rattle.oftp_session.specs.Steps.{has_turn, turned, turns_due, came, opening}
 use Rattle.oftp_session.specs.declared.session.Ending.{Ending}
 use Rattle.oftp_session.specs.declared.session.Ending.TheVariants as ended
-use Rattle.oftp_engine.specs.declared.limits.TheConstants.{LONGEST_FRAME}
+use Rattle.oftp_codec.specs.declared.limits.TheConstants.{LONGEST_FRAME}
 use Rattle.oftp_engine.specs.declared.serving.End.{End}
 use Rattle.oftp_engine.specs.declared.serving.End.TheVariants.{Own, Partner, Input}
 

@@ -12,9 +12,8 @@ ghost use Rattle.oftp_engine.specs.Openings.{IsGreeted, Judges, of_caller};
 ghost use Rattle.oftp_engine.specs.Served.{WriterTold, setting_of};
 ghost use Rattle.oftp_engine.specs.Serving.{FailsOnlyBy, WasClean, scene};
 
-use crate::limits::LONGEST_FRAME;
 use crate::serving::{Admission, Going, Pace, Role, RunFault, drive, greet, judge, opened};
-use oftp_codec::Deframer;
+use oftp_codec::{Deframer, LONGEST_FRAME};
 use oftp_io::Port;
 use oftp_partners::Book;
 use oftp_register::{Name, Office};

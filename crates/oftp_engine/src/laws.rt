@@ -3,7 +3,7 @@
 ghost use Rattle.std.specs.Prelude.{◌≡◌, ◌<◌, ℕ, [], All, List, Option, Ok};
 ghost use Rattle.oftp_codec.specs.declared.frame_fault.FrameFault.{FrameFault};
 ghost use Rattle.oftp_codec.specs.Stream.{Reads};
-ghost use Rattle.oftp_engine.specs.declared.limits.TheConstants.{LONGEST_FRAME};
+ghost use Rattle.oftp_codec.specs.declared.limits.TheConstants.{LONGEST_FRAME};
 ghost use Rattle.oftp_engine.specs.Conversation.{Dialogue, HasHeard, HearsOn, IsFresh, StillListens};
 ghost use Rattle.oftp_engine.specs.Openings.{IsAccepted, TakesOver, admission_of};
 ghost use Rattle.oftp_engine.specs.Events.{DeedsAreOrders, SessionsAreDealings, StopsLeavePrefixes};

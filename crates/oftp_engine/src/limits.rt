@@ -1,11 +1,5 @@
 //! Sizes that functions and definitions cite.
 
-/// The length of the longest frame in octets, with its header (RFC 5024, section 8).
-pub(crate) const LONGEST_FRAME: usize = 100_003;
-
-/// The length of the header of a frame in octets (RFC 5024, section 8).
-pub(crate) const FRAME_HEADER: usize = 4;
-
 /// The smallest exchange buffer in octets (RFC 5024, section 5.3.2).
 pub(crate) const SMALLEST_BUFFER: u32 = 128;
 

@@ -97,7 +97,7 @@ fn cut_records(
     let Some(end) = records.end_behind(octets.as_slice()) else {
         return Ok(octets);
     };
-    if !about.is_file() || records.go_on(file)? {
+    if !about.is_file() || records.read_on(file)? {
         octets.truncate(end);
     } else {
         octets.truncate(end.saturating_add(1));
@@ -147,7 +147,7 @@ impl Records {
     }
 
     /// Parses the rest of a file, up to its first fault. Returns whether all octets are whole records.
-    fn go_on(&mut self, file: &File) -> Result<bool, Fault> {
+    fn read_on(&mut self, file: &File) -> Result<bool, Fault> {
         let mut file = file;
         let mut piece = [0; PIECE];
         for _ in 0..u64::MAX {

@@ -1,13 +1,7 @@
 //! Prints a stream of octets: a line for each command, up to the first octets that aren't one.
 
-use oftp_codec::{Deframer, parse};
+use oftp_codec::{Deframer, FRAME_HEADER, LONGEST_FRAME, parse};
 use std::alloc::{AllocError, Global};
-
-/// The greatest length of a frame in octets, with its header (RFC 5024, section 8).
-const LONGEST_FRAME: usize = 100_003;
-
-/// The length of a frame's header in octets.
-const HEADER: u64 = 4;
 
 /// A stream that is printed as it arrives.
 #[derive(Drop)]
@@ -88,7 +82,9 @@ impl Transcript {
                 return Ok(false);
             }
         };
-        self.offset = at.saturating_add(HEADER).saturating_add(frame.len() as u64);
+        self.offset = at
+            .saturating_add(FRAME_HEADER as u64)
+            .saturating_add(frame.len() as u64);
         match parse(frame) {
             Ok(command) => {
                 let told = format!(in self.alloc; "{command}")?;

@@ -1,7 +1,7 @@
 -- The register with no file and no response.
 use Rattle.std.proofs.Common.{◌≤◌}
 use Rattle.std.proofs.lemmas.List.Elements.{All-nil}
-use Rattle.oftp_vfile.specs.declared.format.Limits.{Limits}
+use Rattle.oftp_vfile.specs.declared.limits.Limits.{Limits}
 use Rattle.oftp_register.specs.Register.{empty}
 use Rattle.oftp_register.specs.declared.fit.TheConstants.{MOST_FILES, MOST_OCTETS}
 use Rattle.oftp_register.specs.Soundness.{IsSound, IsSoundIncoming, IsSoundOutgoing, IsSoundReceived}

@@ -1,12 +1,12 @@
 //! The register of a station: incoming and outgoing files and the responses to both, the changes of a register, and the offices that keep
-//! one.
+//! one. The module [`laws`] has the theorems, which no program calls.
 #![tactic(auto)]
 
 mod change;
 mod entries;
 mod entry;
 mod fit;
-mod laws;
+pub mod laws;
 mod name;
 mod note;
 mod office;
@@ -23,7 +23,6 @@ pub use entry::{Dispatch, Identity, IncomingState, OutgoingState, ResponseKind};
 pub use fit::{
     MOST_FILES, MOST_OCTETS, MOST_UNITS, are_full_rows, are_limits, are_rows, is_file, is_response,
 };
-pub use laws::{accepted_starts, changes_keep, changes_stay, starts_are_found, units_are_told};
 pub use name::{DigitString, Name};
 pub use note::Note;
 pub use office::{Office, OfficeFault};

@@ -2,7 +2,7 @@
 
 use crate::asking::Backend;
 use crate::ended::GONE;
-use oftp_channel::{Ending, HearFault, ListedFile, Request, read_request};
+use oftp_channel::{Ending, ListedFile, ReadFault, Request, read_request};
 use oftp_engine::Port;
 use oftp_outcomes::Fault;
 use std::alloc::Global;
@@ -75,9 +75,9 @@ impl FileEntry {
 }
 
 /// The error for a file that can't be read.
-fn fault_of(fault: HearFault) -> Fault {
+fn fault_of(fault: ReadFault) -> Fault {
     match fault {
-        HearFault::Memory => Fault::MEMORY,
-        HearFault::Input | HearFault::Form => GONE,
+        ReadFault::Memory => Fault::MEMORY,
+        ReadFault::Input | ReadFault::Form => GONE,
     }
 }

@@ -22,7 +22,7 @@ impl Shell<'_> {
     /// Attends to the connection at a place.
     fn attend(&mut self, place: usize) -> Result<(), Fault> {
         let alloc = self.rt.alloc();
-        let site = self.bench.site;
+        let site = self.config.site;
         let Some(peer) = self.peers.get_mut(place) else {
             return Ok(());
         };

@@ -26,7 +26,7 @@ impl<'a> Shell<'a> {
     ) -> Result<(), Fault> {
         let opened = home.open(self.rt, keeper);
         self.settle_opening(opened)?;
-        for place in 0..self.bench.codes.len() {
+        for place in 0..self.config.codes.len() {
             if let Home::Idle(life) = home
                 && self.review_at(place, life)?.is_none()
             {
@@ -39,7 +39,7 @@ impl<'a> Shell<'a> {
 
     /// Tells each partner of the list, whatever waits.
     pub(crate) fn call_all(&mut self) -> Result<(), Fault> {
-        for place in 0..self.bench.codes.len() {
+        for place in 0..self.config.codes.len() {
             self.call_at(place)?;
         }
         Ok(())
@@ -53,7 +53,7 @@ impl<'a> Shell<'a> {
             longest,
             ..
         } = self.station;
-        if let Some(code) = self.bench.codes.get(place)
+        if let Some(code) = self.config.codes.get(place)
             && let Ok(number) = u32::try_from(place)
             && let Some(partner) = book.partner(code.as_bytes())
         {
@@ -65,7 +65,7 @@ impl<'a> Shell<'a> {
 
     /// Tells the partner at a place of the list, if something waits for it. Returns `None` if the office failed.
     fn review_at<O: Office>(&mut self, place: usize, office: &mut O) -> Result<Option<()>, Fault> {
-        let Some(code) = self.bench.codes.get(place) else {
+        let Some(code) = self.config.codes.get(place) else {
             return Ok(Some(()));
         };
         let Ok(is_due) = is_due(self.station.book, code.as_str(), office) else {
@@ -118,7 +118,7 @@ impl<'a> Shell<'a> {
 
     /// A call by the clock of a partner of the list.
     fn wanted_by_clock(&self, called: schedule::Partner) -> Option<Wanted> {
-        let code = self.bench.codes.get(called.number as usize)?;
+        let code = self.config.codes.get(called.number as usize)?;
         let partner = self.station.book.partner(code.as_bytes())?;
         Wanted::of(self.rt.alloc(), called, code, partner, Tracing::None).ok()
     }

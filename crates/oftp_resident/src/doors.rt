@@ -2,7 +2,7 @@
 
 use crate::calls::shared_trace;
 use crate::peer::{Peer, Reading, Task};
-use crate::service::{Bench, Shell};
+use crate::service::{ServiceConfig, Shell};
 use crate::stream::Stream;
 use crate::watch::Source;
 use oftp_channel::READY;
@@ -20,7 +20,7 @@ const MOST_GONE: u32 = 128;
 
 const LAST_TRY: u32 = MOST_GONE - 1;
 
-impl Bench<'_> {
+impl ServiceConfig<'_> {
     /// The listener of a door to the internet, if there is one.
     fn internet(&self, door: Door) -> Option<&TcpListener> {
         match door {
@@ -71,7 +71,7 @@ impl<'a> Shell<'a> {
     /// What comes of accepting a connection, and its socket if somebody is there.
     fn next_at(&self, door: Door) -> (Arrival, Option<Stream>) {
         for tried in 0..MOST_GONE {
-            let accepted = self.bench.accepted(door);
+            let accepted = self.config.accepted(door);
             let left = LAST_TRY.saturating_sub(tried);
             if let Some(arrival) = arrival_of(attempt_of(&accepted), left) {
                 return (arrival, accepted.ok());

@@ -16,5 +16,5 @@ mod stream;
 mod watch;
 
 pub use kept::Kept;
-pub use service::{Bench, Start, serve};
+pub use service::{ServiceConfig, Start, serve};
 pub use session_lines::SessionLines;

@@ -36,7 +36,7 @@ pub enum Start {
 
 /// The listeners and settings of a service. [`serve`] makes its listeners non-blocking.
 #[derive(Clone, Copy)]
-pub struct Bench<'a> {
+pub struct ServiceConfig<'a> {
     /// The listener for partners, if there is one.
     pub partners: Option<&'a TcpListener>,
     /// The listener for commands, if there is one.
@@ -87,7 +87,7 @@ impl<'b> Books<'b> {
 pub(crate) struct Shell<'a> {
     pub(crate) rt: &'a HostRuntime,
     pub(crate) station: Station<'a>,
-    pub(crate) bench: Bench<'a>,
+    pub(crate) config: ServiceConfig<'a>,
     pub(crate) schedule: Schedule,
     pub(crate) peers: Vec<Peer<'a>>,
     pub(crate) watch: Watch,
@@ -112,21 +112,21 @@ enum Pause {
 /// The jobs that were done stay done.
 pub fn serve<O: Office + Drop>(
     rt: &HostRuntime,
-    bench: &Bench<'_>,
+    config: &ServiceConfig<'_>,
     station: &Station<'_>,
     keeper: &mut impl Keeper<Life<O>>,
     reporter: &mut impl Reporter,
 ) -> Result<(), Fault> {
-    let watch = watch_over(rt, bench).map_err(|error| socket_fault(&error))?;
+    let watch = watch_over(rt, config).map_err(|error| socket_fault(&error))?;
     let alloc = rt.alloc();
-    let limits = limits_of(bench, station);
+    let limits = limits_of(config, station);
     let began = Instant::now(rt).map_err(|_| Fault::Socket)?;
     let schedule = Schedule::new(alloc, limits)?;
     let peers = Vec::with_capacity(alloc, MOST_PLACES)?;
     let mut shell = Shell {
         rt,
         station: *station,
-        bench: *bench,
+        config: *config,
         schedule,
         peers,
         watch,
@@ -138,10 +138,10 @@ pub fn serve<O: Office + Drop>(
 }
 
 /// Watches the listeners.
-fn watch_over(rt: &HostRuntime, bench: &Bench<'_>) -> io::Result<Watch> {
+fn watch_over(rt: &HostRuntime, config: &ServiceConfig<'_>) -> io::Result<Watch> {
     let watch = Watch::new(rt)?;
     for (place, door) in DOORS.iter().enumerate() {
-        if let Some(descriptor) = bench.opened(*door)? {
+        if let Some(descriptor) = config.opened(*door)? {
             watch.add(Source::Door(place), descriptor)?;
         }
     }
@@ -166,17 +166,17 @@ fn lent_for(id: u64, book: &Option<Book>) -> Option<(u64, &Book)> {
 }
 
 /// The limits of the schedule.
-fn limits_of(bench: &Bench<'_>, station: &Station<'_>) -> Limits {
-    let most = u32::try_from(bench.places).unwrap_or(u32::MAX);
+fn limits_of(config: &ServiceConfig<'_>, station: &Station<'_>) -> Limits {
+    let most = u32::try_from(config.places).unwrap_or(u32::MAX);
     Limits {
         partners: most.min(SIZES.partners),
-        admission: millis(bench.admission),
+        admission: millis(config.admission),
         patience: wait_of(station.patience),
         longest: millis(station.longest),
-        dialing: millis(bench.dialing),
-        interval: millis(bench.interval),
-        counted: bench.counted,
-        jobs: bench.jobs,
+        dialing: millis(config.dialing),
+        interval: millis(config.interval),
+        counted: config.counted,
+        jobs: config.jobs,
         ..SIZES
     }
 }
@@ -193,7 +193,7 @@ impl<'a> Shell<'a> {
         keeper: &mut impl Keeper<Life<O>>,
         reporter: &mut impl Reporter,
     ) -> Result<(), Fault> {
-        if self.bench.start == Start::Calling {
+        if self.config.start == Start::Calling {
             self.call_all()?;
         }
         let mut call = None;

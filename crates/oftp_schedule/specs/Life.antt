@@ -1,5 +1,5 @@
 -- The life of one connection, as one sees it who knows only what the shell told and what the schedule ordered.
-use Rattle.std.specs.Prelude.{ℕ, zero, ◌==◌, Bool, true, false, nat_lt, List, Option, Some, None, if◌then◌else◌, count_by}
+use Rattle.std.specs.Prelude.{ℕ, zero, ◌==◌, ◌≡◌, ◌≤◌, ◌+◌, ◌++◌, ◌∷◌, Bool, true, false, nat_lt, List, Option, Some, None, if◌then◌else◌, count_by}
 use Rattle.oftp_schedule.specs.declared.connection.Door.{Door}
 use Rattle.oftp_schedule.specs.declared.connection.Door.TheVariants.{Partners}
 use Rattle.oftp_schedule.specs.declared.connection.Request.{Request}
@@ -18,7 +18,7 @@ use Rattle.oftp_schedule.specs.declared.connection.Action.TheVariants.{Accept, P
 use Rattle.oftp_schedule.specs.declared.connection.Connection.{Connection}
 use Rattle.oftp_schedule.specs.Rules.{connection_at}
 use Rattle.oftp_schedule.specs.Machine.{State}
-use Rattle.oftp_schedule.specs.History.{Note, Heard, Ordered}
+use Rattle.oftp_schedule.specs.History.{Note, Heard, Ordered, watch}
 
 pub data Stage : Type 0 where
   -- nobody has this number, or its call isn't begun
@@ -314,3 +314,9 @@ times_ordered t id ns = count_by (is_ordered t id) ns
 -- how often such a signal was told of it
 abbrev pub times_told : (Signal → Bool) → ℕ → List Note → ℕ
 times_told t id ns = count_by (is_told t id) ns
+
+-- between a request that is whole and the close of its connection it is answered or declined, or its client is lost
+abbrev pub AreAnswered : List Note → Type 0
+AreAnswered notes = (id : ℕ) (request : Request) (why : Reason) (before between after : List Note) → notes ≡ (before ++ between) ++ Ordered (Close id why) ∷ after
+    → watch (life id) Unbegun before ≡ Whole request
+    → 1 ≤ times_ordered answers id between + (times_ordered declines id between + times_told is_lost id between)

@@ -8,10 +8,9 @@ ghost use Rattle.oftp_schedule.specs.Doors.{evictions, leaver, number};
 ghost use Rattle.oftp_schedule.specs.Order.{IsFirst, IsTurn, IsRound};
 ghost use Rattle.oftp_schedule.specs.Ends.{BeginsNothing, Departs, IsOver};
 ghost use Rattle.oftp_schedule.specs.declared.connection.Request.{Request};
-ghost use Rattle.oftp_schedule.specs.declared.connection.Reason.{Reason};
-ghost use Rattle.oftp_schedule.specs.declared.connection.Action.TheVariants.{Answer, Close};
+ghost use Rattle.oftp_schedule.specs.declared.connection.Action.TheVariants.{Answer};
 ghost use Rattle.oftp_schedule.specs.History.{Note, Ordered, history, watch};
-ghost use Rattle.oftp_schedule.specs.Life.{Unbegun, Whole, Broken, life, stage_of, hands, answers, declines, refusals, prints, asks_for, wants_call, handing, is_lost, times_ordered, times_told};
+ghost use Rattle.oftp_schedule.specs.Life.{AreAnswered, Unbegun, Whole, Broken, life, stage_of, hands, answers, declines, refusals, prints, asks_for, wants_call, handing, times_ordered, times_told};
 ghost use Rattle.oftp_schedule.specs.declared.connection.Event.{Event};
 ghost use Rattle.oftp_schedule.specs.declared.connection.Phase.{Phase};
 ghost use Rattle.oftp_schedule.specs.declared.connection.Call.{Call};
@@ -86,9 +85,7 @@ pub fn at_most_once()
     ensures answer { (limits : Limits) (moves : List Move) (id : ℕ) (before after : List Note) →
         history (start limits) moves ≡ before ++ Ordered (Answer id) ∷ after →
         1 ≤ times_ordered hands id before + times_told wants_call id before }
-    ensures kept { (limits : Limits) (moves : List Move) (id : ℕ) (request : Request) (why : Reason) (before between after : List Note) →
-        history (start limits) moves ≡ (before ++ between) ++ Ordered (Close id why) ∷ after → watch (life id) Unbegun before ≡ Whole request →
-        1 ≤ times_ordered answers id between + (times_ordered declines id between + times_told is_lost id between) }
+    ensures kept { (limits : Limits) (moves : List Move) → AreAnswered (history (start limits) moves) }
 {}
 
 /// One thing at a time. The office has one job at most: a step of a session, a request, or the clock's look-up. There is one session, or one

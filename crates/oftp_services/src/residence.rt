@@ -9,7 +9,7 @@ use oftp_life::Life;
 use oftp_listing::Site;
 use oftp_outcomes::Fault;
 use oftp_requests::{bare_answer, codes_of};
-use oftp_resident::{Bench, Kept, SessionLines, Start, serve};
+use oftp_resident::{Kept, ServiceConfig, SessionLines, Start, serve};
 use oftp_schedule::connection::Counted;
 use oftp_sockets::{SocketPlace, Station, bound, socket_fault};
 use std::alloc::Global;
@@ -71,7 +71,7 @@ fn run_over(
     let commands = place.listen(rt).map_err(|error| socket_fault(&error))?;
     let requests = requests.as_ref();
     let host = text_of(&host);
-    let bench = Bench {
+    let config = ServiceConfig {
         partners: Some(&partners),
         commands: Some(&commands),
         requests,
@@ -87,7 +87,7 @@ fn run_over(
     };
     let ended = serve(
         rt,
-        &bench,
+        &config,
         station,
         &mut Kept::new(life),
         &mut SessionLines::new(out),

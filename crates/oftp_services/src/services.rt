@@ -7,7 +7,7 @@ use oftp_files::{Trace, book_of, open_trace, read_book};
 use oftp_listing::Site;
 use oftp_outcomes::{Fault, Outcome, Trouble, Way, write_line};
 use oftp_partners::Book;
-use oftp_resident::{Bench, Start, serve};
+use oftp_resident::{ServiceConfig, Start, serve};
 use oftp_schedule::connection::Counted;
 use oftp_sockets::{Reporter, Station, bound};
 use std::io::Write;
@@ -44,8 +44,8 @@ pub(crate) fn station_of<'a>(
 }
 
 /// A service without doors, codes or a clock.
-fn idle_bench<'a>(jobs: u64) -> Bench<'a> {
-    Bench {
+fn idle_config<'a>(jobs: u64) -> ServiceConfig<'a> {
+    ServiceConfig {
         partners: None,
         commands: None,
         requests: None,
@@ -86,14 +86,14 @@ pub fn listen(
     database::make(rt, line.files.database)?;
     let trace = trace_of(rt, &line.files, &line.terms)?;
     let listener = bound(rt, line.entrance.address, line.entrance.port)?;
-    let bench = Bench {
+    let config = ServiceConfig {
         partners: Some(&listener),
         places: line.sessions,
         admission: admission_of(&line.entrance, &line.terms),
-        ..idle_bench(line.sessions)
+        ..idle_config(line.sessions)
     };
     let station = station_of(&book, &line.terms, trace.as_ref());
-    serve_each(rt, &bench, &station, line.files.database, out, err)
+    serve_each(rt, &config, &station, line.files.database, out, err)
 }
 
 /// Calls a partner of the book for one session, over a database that isn't locked.
@@ -104,15 +104,15 @@ pub fn call(rt: &HostRuntime, line: &Call<'_>, book: &Book) -> Result<Outcome, F
     let trace = trace_of(rt, &line.files, &line.terms)?;
     let station = station_of(book, &line.terms, trace.as_ref());
     let code = String::from_str(rt.alloc(), line.partner)?;
-    let bench = Bench {
+    let config = ServiceConfig {
         dialing: station.longest,
         codes: &[code],
         start: Start::Calling,
-        ..idle_bench(1)
+        ..idle_config(1)
     };
     let mut keeper = Opened::new(rt, line.files.database);
     let mut ended = LastEnd { ended: None };
-    serve(rt, &bench, &station, &mut keeper, &mut ended)?;
+    serve(rt, &config, &station, &mut keeper, &mut ended)?;
     match ended.ended {
         Some(ended) => ended.map(Outcome::Ended),
         None => Err(Fault::Socket),
@@ -134,26 +134,26 @@ pub fn http(
 ) -> Result<(), Fault> {
     database::make(rt, line.database)?;
     let listener = bound(rt, line.address, line.port)?;
-    let bench = Bench {
+    let config = ServiceConfig {
         requests: Some(&listener),
         counted: Counted::Connections,
-        ..idle_bench(line.requests)
+        ..idle_config(line.requests)
     };
     let book = book_of(rt.alloc(), NOBODY)?;
-    serve_each(rt, &bench, &bare_station(&book), line.database, out, err)
+    serve_each(rt, &config, &bare_station(&book), line.database, out, err)
 }
 
 /// Serves whoever comes, with a life over the database for each job.
 fn serve_each(
     rt: &HostRuntime,
-    bench: &Bench<'_>,
+    config: &ServiceConfig<'_>,
     station: &Station<'_>,
     database: &str,
     out: &mut impl Write,
     err: &mut impl Write,
 ) -> Result<(), Fault> {
     let mut keeper = Opened::new(rt, database);
-    serve(rt, bench, station, &mut keeper, &mut EndLines { out, err })
+    serve(rt, config, station, &mut keeper, &mut EndLines { out, err })
 }
 
 /// Writes the end of each session to one output, and the error of each session or request to the other. That the error can't be written

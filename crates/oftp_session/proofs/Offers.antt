@@ -2,7 +2,7 @@
 use Rattle.std.proofs.Common.{◌≡◌, ℕ, ◌-◌, ◌%◌, max, [], length, Bool, Option, None, Some, Result, Ok, Err, IfErr, List, is_ok, refl, sym, ap, ◌∙◌, subst, arith}
 use Rattle.oftp_wire.specs.declared.command.Sfid.{Sfid}
 use Rattle.oftp_vfile.specs.declared.format.Format.{Format}
-use Rattle.oftp_vfile.specs.declared.format.Limits.{Limits}
+use Rattle.oftp_vfile.specs.declared.limits.Limits.{Limits}
 use Rattle.oftp_vfile.specs.VirtualFile.{units_in}
 use Rattle.oftp_vfile.specs.Taking.{new_taking}
 use Rattle.oftp_vfile.specs.Reading.{shed}

@@ -10,8 +10,8 @@ use Rattle.oftp_wire.specs.declared.command.Ssid.{Ssid}
 use Rattle.oftp_wire.specs.declared.reason.SessionReason.{SessionReason}
 use Rattle.oftp_wire.specs.declared.reason.SessionReason.TheVariants.{Normal, ProtocolViolation, InvalidData, BufferSizeError, ResourcesNotAvailable}
 use Rattle.oftp_vfile.specs.declared.format.Format.{Format}
-use Rattle.oftp_vfile.specs.declared.format.TakeFault.{TakeFault}
-use Rattle.oftp_vfile.specs.declared.format.TakeFault.TheVariants.{Cut, Compressed, RecordSize, AfterEnd, TooBig, Memory}
+use Rattle.oftp_vfile.specs.declared.fault.TakeFault.{TakeFault}
+use Rattle.oftp_vfile.specs.declared.fault.TakeFault.TheVariants.{Cut, Compressed, RecordSize, AfterEnd, TooBig, Memory}
 use Rattle.oftp_vfile.specs.Carries.{is_open}
 use Rattle.oftp_vfile.specs.Reading.{taken}
 use Rattle.oftp_vfile.specs.Taking.{Taking, counts_of}

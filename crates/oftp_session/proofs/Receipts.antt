@@ -5,7 +5,7 @@ use Rattle.std.proofs.lemmas.List.Elements.{All-drop}
 use Rattle.std.specs.Result.{result_unwrap_or}
 use Rattle.oftp_vfile.specs.declared.format.Format.{Format}
 use Rattle.oftp_vfile.specs.declared.format.Format.TheVariants.{Fixed, Variable, Unstructured, Text}
-use Rattle.oftp_vfile.specs.declared.format.TakeFault.{TakeFault}
+use Rattle.oftp_vfile.specs.declared.fault.TakeFault.{TakeFault}
 use Rattle.oftp_vfile.specs.declared.format.TheConstants.{BLOCK}
 use Rattle.oftp_vfile.specs.VirtualFile.{units_in}
 use Rattle.oftp_vfile.specs.Subrecord.{Subrecord, count_in}

@@ -6,8 +6,8 @@ use Rattle.oftp_wire.specs.declared.command.Command.{Command}
 use Rattle.oftp_wire.specs.declared.command.Command.TheVariants as command
 use Rattle.oftp_wire.specs.declared.reason.SessionReason.{SessionReason}
 use Rattle.oftp_wire.specs.declared.reason.SessionReason.TheVariants.{Normal, CommandNotRecognised, ProtocolViolation, UserCodeNotKnown, InvalidPassword, InvalidData, BufferSizeError, ResourcesNotAvailable, ModeIncompatible, AuthenticationIncompatible}
-use Rattle.oftp_vfile.specs.declared.format.TakeFault.{TakeFault}
-use Rattle.oftp_vfile.specs.declared.format.TakeFault.TheVariants.{Memory}
+use Rattle.oftp_vfile.specs.declared.fault.TakeFault.{TakeFault}
+use Rattle.oftp_vfile.specs.declared.fault.TakeFault.TheVariants.{Memory}
 use Rattle.oftp_vfile.specs.Reading.{fault_before, subrecord_in, take_subrecords, taken, then_go_on, unless_fault}
 use Rattle.oftp_vfile.specs.Subrecord.{count_in, has_compression, has_end}
 use Rattle.oftp_vfile.specs.Taking.{Taking, added, fault_at, is_ended, is_too_big, is_wrong_size}

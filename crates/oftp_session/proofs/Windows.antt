@@ -4,8 +4,8 @@ use Rattle.std.proofs.Math.Dec.{eqb-suc-zero}
 use Rattle.std.proofs.lemmas.List.{length-append, length-drop}
 use Rattle.oftp_wire.specs.declared.command.Command.TheVariants as command
 use Rattle.oftp_wire.specs.declared.reason.SessionReason.TheVariants.{BufferSizeError, ProtocolViolation}
-use Rattle.oftp_vfile.specs.declared.format.TakeFault.{TakeFault}
-use Rattle.oftp_vfile.specs.declared.format.TakeFault.TheVariants as take
+use Rattle.oftp_vfile.specs.declared.fault.TakeFault.{TakeFault}
+use Rattle.oftp_vfile.specs.declared.fault.TakeFault.TheVariants as take
 use Rattle.oftp_vfile.specs.Taking.{Taking}
 use Rattle.oftp_vfile.specs.Reading.{shed, taken}
 use Rattle.oftp_vfile.proofs.ShedLemmas.{shed_all, shed_err, shed_ok}

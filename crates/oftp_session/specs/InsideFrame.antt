@@ -1,8 +1,8 @@
 -- The frame of the code, and the buffer in which DATA frames are written. Only private functions cite this.
 use Rattle.std.specs.Prelude.{◌≡◌, ◌+◌, ◌≤◌, ℕ, Bool, List, [], ◌∷◌, ◌++◌, length, take, Result, Ok, Err}
 use Rattle.oftp_wire.specs.declared.command.Command.TheVariants as command
-use Rattle.oftp_vfile.specs.declared.format.Filled.{Filled}
-use Rattle.oftp_vfile.specs.declared.format.Filled.TheVariants.{Buffer, Done, More}
+use Rattle.oftp_vfile.specs.declared.filling.Filled.{Filled}
+use Rattle.oftp_vfile.specs.declared.filling.Filled.TheVariants.{Buffer, Done, More}
 use Rattle.oftp_vfile.specs.Fill.{payloads_of}
 use Rattle.oftp_vfile.specs.Filling.{Filling, AreLent, AsksForMore, Moves, Sent}
 use Rattle.oftp_session.specs.declared.frame.TheConstants.{COMMAND_ROOM, DATA_HEAD}

@@ -2,7 +2,7 @@
 use Rattle.std.specs.Prelude.{◌≡◌, ◌==◌, ◌+◌, ◌-◌, ◌≤◌, ℕ, Bool, true, false, List, [], length, take, drop, slice_get, Option, None, Some, Result, Ok, Err}
 use Rattle.oftp_wire.specs.declared.command.Command.TheVariants as command
 use Rattle.oftp_vfile.specs.declared.format.TheConstants.{MOST_ROWS}
-use Rattle.oftp_vfile.specs.declared.format.Filled.{Filled}
+use Rattle.oftp_vfile.specs.declared.filling.Filled.{Filled}
 use Rattle.oftp_vfile.specs.Filling.{IsInRows, Sent}
 use Rattle.oftp_vfile.specs.VirtualFile.{AreRows}
 use Rattle.oftp_register.specs.declared.entries.Side.TheVariants as side

@@ -1,7 +1,7 @@
 -- What the private functions promise that receive a file.
 use Rattle.std.specs.Prelude.{◌≡◌, ℕ, ◌-◌, ◌%◌, ◌<◌, Bool, false, List, length, max, Option, None, Some, Result, Ok, Err}
 use Rattle.oftp_wire.specs.declared.reason.SessionReason.{SessionReason}
-use Rattle.oftp_vfile.specs.declared.format.TakeFault.{TakeFault}
+use Rattle.oftp_vfile.specs.declared.fault.TakeFault.{TakeFault}
 use Rattle.oftp_vfile.specs.Carries.{is_open}
 use Rattle.oftp_vfile.specs.Reading.{shed}
 use Rattle.oftp_register.specs.declared.verdicts.EndVerdict.TheVariants as «end»

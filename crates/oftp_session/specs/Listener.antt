@@ -9,7 +9,7 @@ use Rattle.oftp_wire.specs.declared.reason.StartReason.{StartReason}
 use Rattle.oftp_wire.specs.Reasons.{start_number}
 use Rattle.oftp_wire.specs.declared.command.Eerp.{Eerp}
 use Rattle.oftp_wire.specs.declared.command.Nerp.{Nerp}
-use Rattle.oftp_vfile.specs.declared.format.Limits.{Limits}
+use Rattle.oftp_vfile.specs.declared.limits.Limits.{Limits}
 use Rattle.oftp_vfile.specs.VirtualFile.{units_in}
 use Rattle.oftp_register.specs.declared.change.Change.{Change}
 use Rattle.oftp_register.specs.declared.change.Change.TheVariants.{Start, File}

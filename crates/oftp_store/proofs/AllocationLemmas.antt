@@ -1,6 +1,6 @@
 -- Whether there is a file of an identity, and else the number of a new one.
 use Rattle.std.proofs.Common.{◌≡◌, ◌+◌, ℕ, Bool, true, false, cond, nat_le, is_some, Option, Some, None, refl, sym, ap, ◌∙◌}
-use Rattle.oftp_vfile.specs.declared.format.Limits.{Limits}
+use Rattle.oftp_vfile.specs.declared.limits.Limits.{Limits}
 use Rattle.oftp_register.specs.declared.entry.Identity.{Identity}
 use Rattle.oftp_register.specs.declared.entries.OutgoingEntry.{OutgoingEntry}
 use Rattle.oftp_register.specs.declared.entries.Side.{Side}

@@ -9,7 +9,7 @@ use Rattle.sqlite.specs.State.{State, HasCleanDisk, IsUnchanged, Shows}
 use Rattle.sqlite_trees.specs.declared.store.Store.{Ghosts}
 use Rattle.sqlite_catalog.specs.Listing.{IsSound as IsSoundStore}
 use Rattle.sqlite.proofs.Callers.{unchanged_then}
-use Rattle.oftp_vfile.specs.declared.format.Limits.{Limits}
+use Rattle.oftp_vfile.specs.declared.limits.Limits.{Limits}
 use Rattle.oftp_register.specs.declared.change.Change.{Change}
 use Rattle.oftp_register.specs.declared.change.Cause.{Cause}
 use Rattle.oftp_register.specs.declared.change.Cause.TheVariants.{Unknown, State as Unfit}

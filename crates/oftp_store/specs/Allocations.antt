@@ -1,6 +1,6 @@
 -- Whether there is a file of an identity, and else the number of a new one.
 use Rattle.std.specs.Prelude.{◌≡◌, ◌+◌, ◌<◌, ◌^◌, ⊤, ℕ, Bool, nat_le, false, if◌then◌else◌, Option, Some, None}
-use Rattle.oftp_vfile.specs.declared.format.Limits.{Limits}
+use Rattle.oftp_vfile.specs.declared.limits.Limits.{Limits}
 use Rattle.oftp_register.specs.declared.entry.Identity.{Identity}
 use Rattle.oftp_register.specs.declared.entry.IncomingState.{IncomingState}
 use Rattle.oftp_register.specs.declared.entry.IncomingState.TheVariants.{Open, Whole}

@@ -9,7 +9,7 @@ use Rattle.sqlite.specs.View.{doubt}
 use Rattle.sqlite.specs.Effect.{Database, IsDatabase}
 use Rattle.sqlite.specs.State.{State, HasCleanDisk, IsUnchanged}
 use Rattle.sqlite_catalog.specs.Listing.{IsSound as IsSoundStore}
-use Rattle.oftp_vfile.specs.declared.format.Limits.{Limits}
+use Rattle.oftp_vfile.specs.declared.limits.Limits.{Limits}
 use Rattle.oftp_register.specs.Register.{Register, empty}
 use Rattle.oftp_register.specs.Soundness.{IsSound}
 use Rattle.oftp_tables.specs.declared.fault.StoreFault.{StoreFault}

@@ -7,7 +7,7 @@ use Rattle.sqlite.specs.Held.{Held, state}
 use Rattle.sqlite.specs.State.{State, FailsToQuery, HasCleanDisk}
 use Rattle.sqlite_trees.specs.declared.store.Store.{Ghosts}
 use Rattle.sqlite_catalog.specs.Listing.{IsSound as IsSoundStore}
-use Rattle.oftp_vfile.specs.declared.format.Limits.{Limits}
+use Rattle.oftp_vfile.specs.declared.limits.Limits.{Limits}
 use Rattle.oftp_register.specs.Register.{Register, empty}
 use Rattle.oftp_register.specs.Soundness.{IsSound}
 use Rattle.oftp_tables.specs.declared.fault.StoreFault.{StoreFault}

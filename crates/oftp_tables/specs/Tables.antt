@@ -12,7 +12,7 @@ use Rattle.sqlite_trees.specs.Tree.{IsAscending}
 use Rattle.sqlite.specs.Edit.{id_in}
 use Rattle.oftp_vfile.specs.declared.format.Format.{Format}
 use Rattle.oftp_vfile.specs.declared.format.Format.TheVariants as format
-use Rattle.oftp_vfile.specs.declared.format.Limits.{Limits}
+use Rattle.oftp_vfile.specs.declared.limits.Limits.{Limits}
 use Rattle.oftp_wire.specs.Octets.{IsDigits, IsName, decimal, number}
 use Rattle.oftp_register.specs.declared.entry.Identity.{Identity}
 use Rattle.oftp_register.specs.declared.entry.ResponseKind.{ResponseKind}

@@ -6,7 +6,7 @@ ghost use Rattle.sqlite.specs.Tree.{Trees};
 ghost use Rattle.sqlite.specs.View.{doubt};
 ghost use Rattle.sqlite.specs.Effect.{Database};
 ghost use Rattle.sqlite.specs.State.{HasCleanDisk, IsUnchanged};
-ghost use Rattle.oftp_vfile.specs.declared.format.Limits.{Limits};
+ghost use Rattle.oftp_vfile.specs.declared.limits.Limits.{Limits};
 ghost use Rattle.oftp_tables.specs.Schema.{first_schema, office_schema};
 ghost use Rattle.oftp_tables.specs.Transactions.{IsCommitted, IsSpared, MayLeave, Runs, Transacts};
 ghost use Rattle.oftp_tables.specs.Making.{HasFirst, HasOffice, IsAsBefore, about_rows, about_told};

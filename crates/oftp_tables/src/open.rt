@@ -3,7 +3,7 @@
 ghost use Rattle.std.specs.Prelude.{◌≡◌, ◌≢◌, Err, false, IfErr, MatchResult, OnOk, IsTrue};
 ghost use Rattle.sqlite.specs.Held.{state};
 ghost use Rattle.sqlite.specs.State.{HasCleanDisk, IsUnchanged};
-ghost use Rattle.oftp_vfile.specs.declared.format.Limits.{Limits};
+ghost use Rattle.oftp_vfile.specs.declared.limits.Limits.{Limits};
 ghost use Rattle.oftp_tables.specs.Schema.{office_schema};
 ghost use Rattle.oftp_tables.specs.Transactions.{IsCommitted};
 ghost use Rattle.oftp_tables.specs.Making.{HasOffice, IsEmpty, IsNew};

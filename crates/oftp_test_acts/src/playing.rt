@@ -9,7 +9,6 @@ use sqlite::{Alter, Connection, Error, FileStore, Files, Options, Unknown};
 use sqlite_disk::{Crash, Disk, Fuse, Memory};
 use std::alloc::{AllocError, Global};
 use std::io;
-use std::process::Abort;
 use std::test::Fail;
 
 /// Limits with few files in a table.
@@ -330,25 +329,31 @@ pub fn is_at(lines: &[String], at: usize, wanted: &str) -> bool {
     }
 }
 
-/// Asserts that the lines are these.
-pub fn same(rt: &impl Abort, found: &[String], wanted: &[String]) {
+/// Compares lines.
+///
+/// # Errors
+/// A line differs, or there are more of them than wanted.
+pub fn same(alloc: Global, found: &[String], wanted: &[String]) -> Result<(), Fail> {
     for (at, line) in wanted.iter().enumerate() {
         let line = line.as_str();
-        assert!(rt; is_at(found, at, line), "line {at} isn't {line}");
+        if !is_at(found, at, line) {
+            return Err(format!(in alloc; "line {at} isn't {line}")?.into());
+        }
     }
-    assert_eq!(rt; found.len(), wanted.len());
+    if found.len() != wanted.len() {
+        return Err("there are more lines than wanted".into());
+    }
+    Ok(())
 }
 
-/// Runs steps with an office in memory and with one over an empty database, and asserts that the lines are the same.
-pub fn play_both(
-    alloc: Global,
-    rt: &impl Abort,
-    limits: Limits,
-    steps: &[Step<'_>],
-) -> Result<Vec<String>, Fail> {
+/// Runs steps with an office in memory and with one over an empty database, and returns the lines.
+///
+/// # Errors
+/// The lines of the two differ.
+pub fn play_both(alloc: Global, limits: Limits, steps: &[Step<'_>]) -> Result<Vec<String>, Fail> {
     let wanted = play_plain(alloc, limits, steps);
     let played = play(alloc, limits, steps, &Image::empty(alloc), NO_STOP)?;
-    same(rt, played.said.as_slice(), wanted.as_slice());
+    same(alloc, played.said.as_slice(), wanted.as_slice())?;
     Ok(wanted)
 }
 
@@ -368,13 +373,12 @@ fn openings_of<'a>(
 /// The same for look-ups. The office over the database is opened again after each part of them.
 pub fn play_in_parts(
     alloc: Global,
-    rt: &impl Abort,
     limits: Limits,
     asks: &[Ask],
     part: usize,
 ) -> Result<Vec<String>, Fail> {
     let steps = openings_of(alloc, asks, part)?;
-    play_both(alloc, rt, limits, steps.as_slice())
+    play_both(alloc, limits, steps.as_slice())
 }
 
 // Does look-ups with an office, and drops it.

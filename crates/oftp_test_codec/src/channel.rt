@@ -3,7 +3,7 @@
 use crate::line::Line;
 use crate::octets::{print_line, print_whole};
 use oftp_channel::{
-    AnswerPart, Ending, HearFault, Outlet, PieceWriter, Word, lacking, read_part, read_ready,
+    AnswerPart, Ending, Outlet, PieceWriter, ReadFault, Word, lacking, read_part, read_ready,
     read_request, words_fit, write_end, write_ready, write_words,
 };
 use oftp_io::Port;
@@ -23,7 +23,7 @@ fn port_of(octets: &[u8]) -> Port<&[u8]> {
 }
 
 /// The error of reading these octets, if there is one.
-fn fault_of(rt: &HostRuntime, heard: Heard, octets: &[u8]) -> Option<HearFault> {
+fn fault_of(rt: &HostRuntime, heard: Heard, octets: &[u8]) -> Option<ReadFault> {
     let mut port = port_of(octets);
     let alloc = rt.alloc();
     match heard {
@@ -34,7 +34,7 @@ fn fault_of(rt: &HostRuntime, heard: Heard, octets: &[u8]) -> Option<HearFault> 
 }
 
 /// Prints the result of reading for a number of lengths in a row.
-fn print_lengths(rt: &HostRuntime, count: u32, fault: Option<HearFault>) -> io::Result<()> {
+fn print_lengths(rt: &HostRuntime, count: u32, fault: Option<ReadFault>) -> io::Result<()> {
     match fault {
         Some(fault) => print!(rt; " {count}*{fault:?}"),
         None => print!(rt; " {count}*read"),
@@ -134,7 +134,7 @@ fn print_ending(rt: &HostRuntime, ending: Ending) -> io::Result<()> {
 }
 
 /// Prints a part of an answer. Returns whether more may follow.
-fn print_part(rt: &HostRuntime, part: Result<AnswerPart, HearFault>) -> io::Result<bool> {
+fn print_part(rt: &HostRuntime, part: Result<AnswerPart, ReadFault>) -> io::Result<bool> {
     match part {
         Ok(AnswerPart::Piece(outlet, octets)) => {
             print!(rt; "  {outlet:?}")?;

@@ -7,8 +7,8 @@ use Rattle.std.proofs.lemmas.List.Concat.{flat_map-append}
 use Rattle.oftp_vfile.specs.declared.format.TheConstants.{BLOCK}
 use Rattle.oftp_vfile.specs.declared.format.Format.{Format}
 use Rattle.oftp_vfile.specs.declared.format.Format.TheVariants.{Fixed, Variable, Unstructured, Text}
-use Rattle.oftp_vfile.specs.declared.format.Stage.{Stage}
-use Rattle.oftp_vfile.specs.declared.format.Stage.TheVariants.{Open, Ended}
+use Rattle.oftp_vfile.specs.declared.taking.Stage.{Stage}
+use Rattle.oftp_vfile.specs.declared.taking.Stage.TheVariants.{Open, Ended}
 use Rattle.oftp_vfile.specs.VirtualFile.{is_stream, octets_in, units_in, records_in, closed, AreBlocks, AreRows}
 use Rattle.oftp_vfile.specs.Subrecord.{Subrecord, octets_of}
 use Rattle.oftp_vfile.specs.Carries.{Carries, Carried, InBlocks, pieces, onto, stage_of, is_open}

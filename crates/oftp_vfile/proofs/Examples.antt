@@ -2,8 +2,8 @@
 use Rattle.std.proofs.Common.{◌≡◌, ℕ, Bool, true, false, List, [], ◌∷◌, ◌++◌, replicate, refl, Some}
 use Rattle.oftp_vfile.specs.declared.format.Format.{Format}
 use Rattle.oftp_vfile.specs.declared.format.Format.TheVariants.{Fixed, Variable, Unstructured, Text}
-use Rattle.oftp_vfile.specs.declared.format.Stage.TheVariants.{Open, Ended}
-use Rattle.oftp_vfile.specs.declared.format.TakeFault.TheVariants.{Cut, Compressed, RecordSize, AfterEnd}
+use Rattle.oftp_vfile.specs.declared.taking.Stage.TheVariants.{Open, Ended}
+use Rattle.oftp_vfile.specs.declared.fault.TakeFault.TheVariants.{Cut, Compressed, RecordSize, AfterEnd}
 use Rattle.oftp_vfile.specs.Subrecord.{Subrecord}
 use Rattle.oftp_vfile.specs.Carries.{pieces}
 use Rattle.oftp_vfile.specs.Taking.{Taking, new_taking, added_all, fault_in, counts_of}

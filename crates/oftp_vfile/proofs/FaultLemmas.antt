@@ -1,7 +1,7 @@
 -- A payload has only one first error.
 use Rattle.std.proofs.Common.{◌≡◌, ℕ, ◌%◌, Bool, Some, None, List, [], ◌∷◌, ◌++◌, length, nat_le, sym, ap, ◌∙◌, subst, arith, append_assoc}
 use Rattle.std.proofs.lemmas.List.{length-append}
-use Rattle.oftp_vfile.specs.declared.format.TakeFault.{TakeFault}
+use Rattle.oftp_vfile.specs.declared.fault.TakeFault.{TakeFault}
 use Rattle.oftp_vfile.specs.Subrecord.{Subrecord, header, spelled, payload_of}
 use Rattle.oftp_vfile.specs.Taking.{Taking, added, added_all, fault_at, fault_in, IsAllowed, AreAllowed, FirstFault}
 use Rattle.oftp_vfile.proofs.TakingLemmas.{NoFault, no_fault, fault_none}

@@ -6,8 +6,8 @@ use Rattle.std.proofs.lemmas.List.{append-nil, length-append, map-append, length
 use Rattle.oftp_vfile.specs.declared.format.TheConstants.{BLOCK}
 use Rattle.oftp_vfile.specs.declared.format.Format.{Format}
 use Rattle.oftp_vfile.specs.declared.format.Format.TheVariants.{Fixed, Variable, Unstructured, Text}
-use Rattle.oftp_vfile.specs.declared.format.Stage.{Stage}
-use Rattle.oftp_vfile.specs.declared.format.Stage.TheVariants.{Fresh, Open, Ended}
+use Rattle.oftp_vfile.specs.declared.taking.Stage.{Stage}
+use Rattle.oftp_vfile.specs.declared.taking.Stage.TheVariants.{Fresh, Open, Ended}
 use Rattle.oftp_vfile.specs.Subrecord.{Subrecord, payload_of, octets_of, AreShort}
 use Rattle.oftp_vfile.specs.Taking.{Taking, Took}
 use Rattle.oftp_vfile.specs.VirtualFile.{octets_in, AreBlocks, AreRows, closed}

@@ -7,8 +7,8 @@ use Rattle.oftp_vfile.specs.Subrecord.{Subrecord, payload_of}
 use Rattle.oftp_vfile.specs.Filling.{Filling, left_of, IfBuffer, IsFirstPayload}
 use Rattle.oftp_vfile.specs.Fill.{needs, next_length, next_subrecord, behind, Packs, Fills, packed, fill_from, weight, fill}
 use Rattle.oftp_vfile.specs.Packing.{PacksNext}
-use Rattle.oftp_vfile.specs.declared.format.Filled.{Filled}
-use Rattle.oftp_vfile.specs.declared.format.Filled.TheVariants.{Buffer, Done, More}
+use Rattle.oftp_vfile.specs.declared.filling.Filled.{Filled}
+use Rattle.oftp_vfile.specs.declared.filling.Filled.TheVariants.{Buffer, Done, More}
 use Rattle.oftp_vfile.proofs.PackingLemmas.{needs_most, needs_some}
 use Rattle.oftp_vfile.proofs.FillerLemmas.{packs_nothing, packs_one}
 

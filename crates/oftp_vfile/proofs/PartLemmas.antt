@@ -5,7 +5,7 @@ use Rattle.std.proofs.lemmas.List.Concat.{flat_map-append}
 use Rattle.oftp_vfile.specs.declared.format.TheConstants.{BLOCK}
 use Rattle.oftp_vfile.specs.declared.format.Format.{Format}
 use Rattle.oftp_vfile.specs.declared.format.Format.TheVariants.{Fixed, Variable, Unstructured, Text}
-use Rattle.oftp_vfile.specs.declared.format.Stage.{Stage}
+use Rattle.oftp_vfile.specs.declared.taking.Stage.{Stage}
 use Rattle.oftp_vfile.specs.VirtualFile.{octets_in, units_in, records_in, closed, BeginsWith, AreRows}
 use Rattle.oftp_vfile.specs.Subrecord.{Subrecord, payload_of, octets_of, AreShort}
 use Rattle.oftp_vfile.specs.Carries.{pieces, InBlocks, Carries, CarriesWhole, is_open, stage_of}

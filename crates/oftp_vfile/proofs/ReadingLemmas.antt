@@ -5,8 +5,8 @@ use Rattle.std.proofs.lemmas.Bool.{leb-false, leb-true, lt-leb}
 use Rattle.std.proofs.lemmas.List.{append-nil, length-append, length-drop, length-take-le, take-append-drop}
 use Rattle.std.proofs.Math.Seq.{take-append_seam, drop-append_seam}
 use Rattle.oftp_vfile.specs.declared.format.TheConstants.{BLOCK}
-use Rattle.oftp_vfile.specs.declared.format.TakeFault.{TakeFault}
-use Rattle.oftp_vfile.specs.declared.format.TakeFault.TheVariants.{Cut}
+use Rattle.oftp_vfile.specs.declared.fault.TakeFault.{TakeFault}
+use Rattle.oftp_vfile.specs.declared.fault.TakeFault.TheVariants.{Cut}
 use Rattle.oftp_vfile.specs.VirtualFile.{is_stream}
 use Rattle.oftp_vfile.specs.Subrecord.{Subrecord, header, header_octet, payload_of, count_in, AreShort}
 use Rattle.oftp_vfile.specs.Taking.{Taking, Walked, FirstFault, added, added_all, fault_at, fault_in, AreAllowed, Took}

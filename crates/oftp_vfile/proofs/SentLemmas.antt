@@ -9,9 +9,9 @@ use Rattle.std.proofs.lemmas.List.Concat.{flat_map-append}
 use Rattle.oftp_vfile.specs.declared.format.TheConstants.{BLOCK}
 use Rattle.oftp_vfile.specs.declared.format.Format.{Format}
 use Rattle.oftp_vfile.specs.declared.format.Format.TheVariants.{Fixed, Variable, Unstructured, Text}
-use Rattle.oftp_vfile.specs.declared.format.Stage.{Stage}
-use Rattle.oftp_vfile.specs.declared.format.Filled.{Filled}
-use Rattle.oftp_vfile.specs.declared.format.Filled.TheVariants.{Buffer, Done, More}
+use Rattle.oftp_vfile.specs.declared.taking.Stage.{Stage}
+use Rattle.oftp_vfile.specs.declared.filling.Filled.{Filled}
+use Rattle.oftp_vfile.specs.declared.filling.Filled.TheVariants.{Buffer, Done, More}
 use Rattle.oftp_vfile.specs.VirtualFile.{is_stream, octets_in, whole_count, AreBlocks, AreRows}
 use Rattle.oftp_vfile.specs.Subrecord.{Subrecord, payload_of, octets_of, AreShort}
 use Rattle.oftp_vfile.specs.Carries.{Carries, Carried, pieces, onto}

@@ -1,9 +1,9 @@
 -- The texts of errors.
 use Rattle.std.specs.Prelude.{ℕ, List, codes}
-use Rattle.oftp_vfile.specs.declared.format.LocalFault.{LocalFault}
-use Rattle.oftp_vfile.specs.declared.format.LocalFault.TheVariants as local
-use Rattle.oftp_vfile.specs.declared.format.TakeFault.{TakeFault}
-use Rattle.oftp_vfile.specs.declared.format.TakeFault.TheVariants.{Cut, Compressed, RecordSize, AfterEnd, TooBig, Memory}
+use Rattle.oftp_vfile.specs.declared.fault.LocalFault.{LocalFault}
+use Rattle.oftp_vfile.specs.declared.fault.LocalFault.TheVariants as local
+use Rattle.oftp_vfile.specs.declared.fault.TakeFault.{TakeFault}
+use Rattle.oftp_vfile.specs.declared.fault.TakeFault.TheVariants.{Cut, Compressed, RecordSize, AfterEnd, TooBig, Memory}
 
 -- the text of an error of a taker
 abbrev pub take_text : TakeFault → List ℕ

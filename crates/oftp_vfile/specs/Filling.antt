@@ -2,8 +2,8 @@
 use Rattle.std.specs.Prelude.{◌≡◌, ℕ, Bool, true, false, List, [], ◌∷◌, ◌++◌, ◌+◌, ◌-◌, ◌<◌, ◌≤◌, ◌==◌, ◌&&◌, length, take, drop, slice_index_or, if◌then◌else◌}
 use Rattle.oftp_vfile.specs.declared.format.Format.{Format}
 use Rattle.oftp_vfile.specs.declared.format.Format.TheVariants.{Fixed, Variable, Unstructured, Text}
-use Rattle.oftp_vfile.specs.declared.format.Filled.{Filled}
-use Rattle.oftp_vfile.specs.declared.format.Filled.TheVariants.{Buffer, Done, More}
+use Rattle.oftp_vfile.specs.declared.filling.Filled.{Filled}
+use Rattle.oftp_vfile.specs.declared.filling.Filled.TheVariants.{Buffer, Done, More}
 use Rattle.oftp_vfile.specs.VirtualFile.{is_stream, octets_in, whole_count}
 use Rattle.oftp_vfile.specs.Subrecord.{Subrecord}
 use Rattle.oftp_vfile.specs.Fill.{Packs, fill, payloads_of}

@@ -1,8 +1,8 @@
 -- Theorems about these definitions.
 use Rattle.std.specs.Prelude.{◌≡◌, ℕ, false, List, ◌++◌, ◌+◌, ◌<◌, ◌≤◌, length, map, take, All, Bool, true, drop, ◌-◌}
 use Rattle.oftp_vfile.specs.declared.format.Format.{Format}
-use Rattle.oftp_vfile.specs.declared.format.Stage.{Stage}
-use Rattle.oftp_vfile.specs.declared.format.TakeFault.{TakeFault}
+use Rattle.oftp_vfile.specs.declared.taking.Stage.{Stage}
+use Rattle.oftp_vfile.specs.declared.fault.TakeFault.{TakeFault}
 use Rattle.oftp_vfile.specs.VirtualFile.{is_stream, AreRows, IsLongest, closed, records_in, units_in, BeginsWith}
 use Rattle.oftp_vfile.specs.Subrecord.{Subrecord, payload_of}
 use Rattle.oftp_vfile.specs.Carries.{Carries, CarriesWhole, is_open}

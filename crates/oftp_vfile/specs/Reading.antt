@@ -2,8 +2,8 @@
 use Rattle.std.specs.Prelude.{ℕ, zero, suc, List, [], ◌∷◌, ◌+◌, length, take, drop, fold, nat_le, if◌then◌else◌, Option, None, Some, Result, Ok, Err}
 use Rattle.std.specs.Option.{option_or}
 use Rattle.std.specs.Result.{result_unwrap_or}
-use Rattle.oftp_vfile.specs.declared.format.TakeFault.{TakeFault}
-use Rattle.oftp_vfile.specs.declared.format.TakeFault.TheVariants.{Cut}
+use Rattle.oftp_vfile.specs.declared.fault.TakeFault.{TakeFault}
+use Rattle.oftp_vfile.specs.declared.fault.TakeFault.TheVariants.{Cut}
 use Rattle.oftp_vfile.specs.Subrecord.{Subrecord, has_end, count_in}
 use Rattle.oftp_vfile.specs.Taking.{Taking, added, fault_at}
 

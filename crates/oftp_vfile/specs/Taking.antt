@@ -4,10 +4,10 @@ use Rattle.std.specs.List.{flat_map}
 use Rattle.oftp_vfile.specs.declared.format.TheConstants.{BLOCK, MOST_ROWS}
 use Rattle.oftp_vfile.specs.declared.format.Format.{Format}
 use Rattle.oftp_vfile.specs.declared.format.Format.TheVariants.{Fixed, Variable, Unstructured, Text}
-use Rattle.oftp_vfile.specs.declared.format.Stage.{Stage}
-use Rattle.oftp_vfile.specs.declared.format.Stage.TheVariants.{Fresh, Open, Ended}
-use Rattle.oftp_vfile.specs.declared.format.TakeFault.{TakeFault}
-use Rattle.oftp_vfile.specs.declared.format.TakeFault.TheVariants.{Cut, Compressed, RecordSize, AfterEnd, TooBig}
+use Rattle.oftp_vfile.specs.declared.taking.Stage.{Stage}
+use Rattle.oftp_vfile.specs.declared.taking.Stage.TheVariants.{Fresh, Open, Ended}
+use Rattle.oftp_vfile.specs.declared.fault.TakeFault.{TakeFault}
+use Rattle.oftp_vfile.specs.declared.fault.TakeFault.TheVariants.{Cut, Compressed, RecordSize, AfterEnd, TooBig}
 use Rattle.oftp_vfile.specs.VirtualFile.{is_stream, octets_in}
 use Rattle.oftp_vfile.specs.Growth.{stream_rows, stream_tail}
 use Rattle.oftp_vfile.specs.Subrecord.{Subrecord, header, payload_of, octets_of, has_end, has_compression, count_in, AreShort}

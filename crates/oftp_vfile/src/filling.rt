@@ -7,9 +7,20 @@ ghost use Rattle.oftp_vfile.specs.Filling.{Filling, AreLent, FillsNext, IfBuffer
 ghost use Rattle.oftp_vfile.specs.Packing.{PacksNext};
 
 use crate::content::Row;
-use crate::format::{BLOCK, Filled, Format};
+use crate::format::{BLOCK, Format};
 use crate::packing::{End, Place, pack_records, pack_stream};
 use std::marker::Model;
+
+/// The result of filling a buffer.
+#[derive(Clone, Copy, Debug, PartialEq, Eq, Hash)]
+pub enum Filled {
+    /// This number of octets of the buffer is the next payload.
+    Buffer(usize),
+    /// Nothing is left to send.
+    Done,
+    /// The payload isn't full at the end of the given rows, and further rows follow: the caller has to give more of them.
+    More,
+}
 
 /// Makes payloads from rows, by the buffer filling rules (RFC 5024, section 7.3). It holds no row and allocates nothing: each call borrows
 /// rows and writes from them into the buffer.

@@ -4,7 +4,8 @@ ghost use Rattle.oftp_vfile.specs.VirtualFile.{octets_in, AreBlocks, AreRows, Is
 ghost use Rattle.oftp_vfile.specs.LocalForm.{IsFirstRecord, IsLocal, digit_of, digits_of, local_of};
 
 use crate::content::{Row, Rows};
-use crate::format::{BLOCK, Format, LocalFault};
+use crate::fault::LocalFault;
+use crate::format::{BLOCK, Format};
 use std::alloc::{AllocError, Global};
 
 // The number of digits of the length of a record in V.

@@ -7,12 +7,25 @@ ghost use Rattle.oftp_vfile.specs.Reading.{taken};
 ghost use Rattle.oftp_vfile.specs.Taking.{Taking, CarriesWithin, FirstFault, IsSameFile, Took, Walked, added, counts_of, fault_at, fault_in, is_ended, is_too_big, is_wrong_size, new_taking};
 
 use crate::content::{Row, Rows};
-use crate::format::{BLOCK, Format, Limits, MOST_ROWS, Stage, TakeFault};
+use crate::fault::TakeFault;
+use crate::format::{BLOCK, Format, MOST_ROWS};
 use crate::growth::{add_to_record, add_to_stream, back_to};
 use crate::header::{count_in, has_compression, has_end};
+use crate::limits::Limits;
 use std::alloc::{AllocError, Global};
 use std::marker::Model;
 use std::mem;
+
+/// How far a record, or a stream, was received.
+#[derive(Clone, Copy, Debug, PartialEq, Eq, Hash)]
+pub enum Stage {
+    /// No subrecord was received.
+    Fresh,
+    /// The last subrecord doesn't have the end flag.
+    Open,
+    /// The last subrecord has the end flag.
+    Ended,
+}
 
 /// Takes payloads, and makes rows from their subrecords (RFC 5024, section 7.2).
 ///

@@ -146,7 +146,7 @@ impl IncomingFile {
     }
 
     // An open file goes on after its first `count` rows.
-    pub(crate) fn go_on(&mut self, header: Header, count: u64) -> Result<(), OfficeFault>
+    pub(crate) fn restart(&mut self, header: Header, count: u64) -> Result<(), OfficeFault>
         ensures { let file = incoming_of self.old in
             CarriesOut incoming_of (gone_on (beginning_of header) count file file.state) self.old self.new result }
     {

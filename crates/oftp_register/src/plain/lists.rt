@@ -154,7 +154,7 @@ impl Lists {
         ensures { CarriesOut register_in (started (register_in self.old) (beginning_of header) count) self.old self.new result }
     {
         match place_in(&self.incoming, &header.identity) {
-            Some(place) => self.incoming[place].go_on(header, count),
+            Some(place) => self.incoming[place].restart(header, count),
             None => self.begin(header, count),
         }
     }

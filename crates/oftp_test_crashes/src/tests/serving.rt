@@ -109,7 +109,7 @@ fn is_joined_at(
 fn octets_pass_the_limit(rt: HostRuntime) -> Result<(), Fail> {
     let alloc = rt.alloc();
     let asks = [Ask::Serve(TOO_MUCH), Ask::Kept];
-    let lines = play_both(alloc, &rt, SHORT, &[Step::Open(&asks)])?;
+    let lines = play_both(alloc, SHORT, &[Step::Open(&asks)])?;
     let lines = lines.as_slice();
     assert_eq!(rt; lines.len(), 3);
     assert!(rt; is_joined_at(alloc, lines, 1, &REFUSED)?);

@@ -126,7 +126,7 @@ fn compare(rt: &impl Abort, rows: &[(Ask, &str)], lines: &[String]) {
 
 // The look-ups in memory. Returns their lines, after that of the opening.
 fn look_up(alloc: Global, rt: &impl Abort, asks: &[Ask]) -> Result<Vec<String>, Fail> {
-    let said = play_both(alloc, rt, FEW, &[Step::Open(asks)])?;
+    let said = play_both(alloc, FEW, &[Step::Open(asks)])?;
     assert_eq!(rt; said.len().saturating_sub(ANSWERS.len()), 2);
     if let [_, lines @ ..] = said.as_slice() {
         compare(rt, ANSWERS, lines);
@@ -134,19 +134,13 @@ fn look_up(alloc: Global, rt: &impl Abort, asks: &[Ask]) -> Result<Vec<String>, 
     Ok(said)
 }
 
-// The same over new files, with the same lines. `rt` is the test's own runtime again, since a borrowed one may not end a test.
-fn look_up_in_files(
-    host: &HostRuntime,
-    rt: &impl Abort,
-    asks: &[Ask],
-    said: &[String],
-) -> Result<(), Fail> {
-    let in_files = play_at(host, FILES[0], false, asks)?;
-    same(rt, in_files.as_slice(), said);
-    Ok(())
+// The same over new files, with the same lines.
+fn look_up_in_files(rt: &HostRuntime, asks: &[Ask], said: &[String]) -> Result<(), Fail> {
+    let in_files = play_at(rt, FILES[0], false, asks)?;
+    same(rt.alloc(), in_files.as_slice(), said)
 }
 
-// All look-ups over the files that are opened again.
+// All look-ups over the files that are opened again. `rt` is the test's own runtime again, since a borrowed one may not end a test.
 fn look_up_again(
     host: &HostRuntime,
     rt: &impl Abort,
@@ -165,7 +159,7 @@ fn look_ups_answer(rt: HostRuntime) -> Result<(), Fail> {
     let asks = asks(&rt)?;
     let said = look_up(rt.alloc(), &rt, asks.as_slice())?;
     remove_files(&rt);
-    look_up_in_files(&rt, &rt, asks.as_slice(), said.as_slice())?;
+    look_up_in_files(&rt, asks.as_slice(), said.as_slice())?;
     for is_migrated in [false, true] {
         look_up_again(&rt, &rt, is_migrated, last(said.as_slice()))?;
     }

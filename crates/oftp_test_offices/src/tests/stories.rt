@@ -320,7 +320,7 @@ fn compare(rt: &impl Abort, said: &[String], story: &[Row]) {
 // The office over a database is opened again after each change.
 fn tell(alloc: Global, rt: &impl Abort, story: &[Row]) -> Result<(), Fail> {
     let asks = asks_of(alloc, story)?;
-    let said = play_in_parts(alloc, rt, FEW, asks.as_slice(), 3)?;
+    let said = play_in_parts(alloc, FEW, asks.as_slice(), 3)?;
     compare(rt, said.as_slice(), story);
     Ok(())
 }

@@ -210,7 +210,7 @@ fn two_thousand_changes(rt: HostRuntime) -> Result<(), Fail> {
     let mut asks = Vec::new(alloc);
     let mut kinds = Vec::new(alloc);
     draw_asks(&mut asks, &mut kinds)?;
-    let said = play_in_parts(alloc, &rt, MANY, asks.as_slice(), 401)?;
+    let said = play_in_parts(alloc, MANY, asks.as_slice(), 401)?;
     compare(&rt, kinds.as_slice(), said.as_slice());
     Ok(())
 }

@@ -19,7 +19,7 @@ pub struct Feed<'a> {
     /// The book's file.
     pub book: &'a str,
     /// The side of the session that the station has.
-    pub role: Side,
+    pub role: FeedRole,
     /// The code of the partner that an initiator calls. A responder may have none.
     pub partner: Option<&'a str>,
     /// The file to which the commands of the session are appended as text, if there is one.
@@ -32,7 +32,7 @@ pub struct Feed<'a> {
 
 /// A side of a session (RFC 5024, section 4.2.1).
 #[derive(Clone, Copy)]
-pub enum Side {
+pub enum FeedRole {
     /// The side that accepted the connection.
     Responder,
     /// The side that made the connection.
@@ -40,9 +40,9 @@ pub enum Side {
 }
 
 /// The sides, by their names for `feed`.
-const SIDES: &[(&str, Side)] = &[
-    ("responder", Side::Responder),
-    ("initiator", Side::Initiator),
+const FEED_ROLES: &[(&str, FeedRole)] = &[
+    ("responder", FeedRole::Responder),
+    ("initiator", FeedRole::Initiator),
 ];
 
 /// Reads the values of the options and words of `feed`.
@@ -51,7 +51,7 @@ pub(super) fn feed_read<'a>(alloc: Global, matches: &ArgMatches<'a>) -> Result<F
     ensures ok { IfOk result (λ f. feed_in (values_in matches.now) ≡ Some (feed_said f)) }
     ensures bad { IfErr result (λ e. is_bad e ≡ true → feed_in (values_in matches.now) ≡ None) }
 {
-    let role = choice(alloc, matches, "role", "--role <ROLE>", SIDES)?;
+    let role = choice(alloc, matches, "role", "--role <ROLE>", FEED_ROLES)?;
     Ok(Feed {
         database: value_of(matches, "db"),
         book: given(matches, "book"),

@@ -1,5 +1,5 @@
 use Rattle.std.proofs.Common.{◌≡◌, ap, subst, sym}
-use Rattle.oftp_vfile.specs.declared.format.Limits.{Limits}
+use Rattle.oftp_vfile.specs.declared.limits.Limits.{Limits}
 use Rattle.oftp_register.specs.Register.{Register}
 use Rattle.oftp_store.specs.Opens.{Has}
 use Rattle.oftp_store.specs.Shown.{database_of}

@@ -1,6 +1,6 @@
 use Rattle.std.proofs.Common.{◌∙◌, inl, subst, sym, take}
 use Rattle.sqlite.specs.Files.{over_files}
-use Rattle.oftp_vfile.specs.declared.format.Limits.{Limits}
+use Rattle.oftp_vfile.specs.declared.limits.Limits.{Limits}
 use Rattle.oftp_register.specs.Register.{empty}
 use Rattle.oftp_store.specs.Opens.{Has}
 use Rattle.oftp_store.specs.Shown.{database_of}

@@ -1,5 +1,5 @@
 use Rattle.std.proofs.Common.{◌∙◌, ap, sym, refl, inr, codes}
-use Rattle.oftp_vfile.specs.declared.format.Limits.{Limits}
+use Rattle.oftp_vfile.specs.declared.limits.Limits.{Limits}
 use Rattle.oftp_engine.specs.declared.operating.Refusal.TheVariants as refusal
 use Rattle.oftp_engine.specs.Operating.{Submits, is_too_big}
 use Rattle.oftp_engine.specs.InsideSubmitting.{IsOffer}

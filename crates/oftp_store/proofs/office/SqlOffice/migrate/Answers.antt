@@ -1,6 +1,6 @@
 use Rattle.std.proofs.Common.{Ok, subst}
 use Rattle.sqlite.specs.Held.{state}
-use Rattle.oftp_vfile.specs.declared.format.Limits.{Limits}
+use Rattle.oftp_vfile.specs.declared.limits.Limits.{Limits}
 use Rattle.oftp_store.specs.Opens.{Has}
 use Rattle.oftp_tables.proofs.OpeningLemmas.{has_found}
 use Rattle.oftp_store.proofs.office.SqlOffice.migrate.Goals as goal
