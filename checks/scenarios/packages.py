@@ -268,7 +268,9 @@ def pleases_lintian(package):
     if not shutil.which("lintian"):
         raise NotTried("lintian: what it says of the package")
     words = ["lintian", "--no-cfg", "--tag-display-limit", "0", "--fail-on", "error,warning", "--allow-root", package.path]
-    done = subprocess.run(words, capture_output=True, text=True, timeout=600, check=False)
+    # It leaves files in the folder of temporary ones.
+    environment = {**os.environ, "TMPDIR": str(package.room)}
+    done = subprocess.run(words, env=environment, capture_output=True, text=True, timeout=600, check=False)
     expect((done.returncode, done.stdout + done.stderr), (0, ""), "what lintian says")
 
 
