@@ -38,8 +38,8 @@ class Browser:
         self.errors = open(room / "browser", "wb")
         # Only in containers does the browser run as root, and its sandbox doesn't.
         words = [chromium(), *WORDS, f"--user-data-dir={room / 'profile'}", *(["--no-sandbox"] if os.geteuid() == 0 else [])]
-        # It reads its descriptor 3 and writes descriptor 4.
-        shell = ["sh", "-c", f'exec "$@" 3<&{given} 4>&{told}', "sh", *words]
+        # It reads its descriptor 3 and writes descriptor 4. Only bash copies a descriptor of more than one digit.
+        shell = ["bash", "-c", f'exec "$@" 3<&{given} 4>&{told}', "bash", *words]
         how = {"stdin": subprocess.DEVNULL, "stdout": self.errors, "stderr": self.errors, "start_new_session": True}
         environment = {**os.environ, **({"TZ": zone} if zone else {})}
         self.process = subprocess.Popen(shell, pass_fds=(given, told), env=environment, **how)

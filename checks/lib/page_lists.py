@@ -330,7 +330,7 @@ STATES = {
         "returned": ("Returned (NERP)", "bad"),
         "returned_again": ("Returned, name used again", "rest"),
     },
-    "received": {"eerp": ("Delivered (EERP)", "good"), "nerp": ("Returned (NERP)", "bad")},
+    "received": {"eerp": ("Delivered (EERP)", "good"), "nerp": ("Returned (NERP)", "rest")},
     "issued": {
         "eerp_due": ("EERP not yet sent", "wait"),
         "eerp_sent": ("EERP sent", "good"),
@@ -564,7 +564,7 @@ def outgoing_detail(file, state, age, last, reason):
 
 def received_item(response, zone):
     reason = reason_of(response["reason"], NEGATIVE_REASONS) if response["kind"] == "NERP" else ""
-    answers = f"Outgoing file {response['file']}" if response["file"] else "No file that is here"
+    answers = f"File {response['file']}" if response["file"] else "None here"
     state = response["kind"].lower()
     row = shown_as("received", response, response["from"], state, zone, reason, answers)
     return Item(row, "received", state, response, response["from"], None, reason, response)

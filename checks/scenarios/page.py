@@ -133,7 +133,8 @@ READ_ROWS = """
   return [text(".number"), text("td.partner"), text(".name .few"), text(".about"), text("td.when"), part("td.when [title]")?.title,
     text("td.size, td.file"), part("td.size [title]")?.title ?? null, text(".words"), text(".detail"), body.className.split(" ")[0], text(".duty")];
 })"""
-# How far any visible element extends beyond the window, cells with more than their width, and names and partners that are cut off.
+# How far any visible element extends beyond the window, cells with more than their width, parts with more than their height, which lies over
+# others then, and names and partners that are cut off.
 READ_OVERFLOW = """
 (() => {
   const root = document.scrollingElement;
@@ -142,7 +143,8 @@ READ_OVERFLOW = """
   const isSeen = (it) => { for (; it; it = it.parentElement) { if (hides(it)) return false; } return true; };
   const seen = [...document.body.querySelectorAll("*")].filter((it) => it.getClientRects().length && isSeen(it));
   const out = seen.filter((it) => it.getBoundingClientRect().right > root.clientWidth + 1 || it.getBoundingClientRect().left < -1);
-  const full = seen.filter((it) => it.matches("td, th") && it.scrollWidth > it.clientWidth + 1);
+  const full = seen.filter((it) => it.matches("td, th") && it.scrollWidth > it.clientWidth + 1
+    || it.matches("header, form, form > div, nav, ul, p, details, .line, dl, tbody") && it.scrollHeight > it.clientHeight + 2);
   const cut = seen.filter((it) => it.matches(".few") && it.scrollHeight > it.clientHeight + 1);
   return [Math.max(0, root.scrollWidth - root.clientWidth), out.map(told), full.map(told), cut.map(told)];
 })()"""
@@ -309,13 +311,14 @@ def every_state(browser, picture):
 
 
 def one_line_a_file(browser, _picture):
-    """In a wide window a file about which nobody has to do anything takes one line, and only the others have a sentence."""
+    """In a wide window a file about which nobody has to do anything takes one line, unless its partner has a very long code, and only the others
+    have a sentence."""
     now = utc_now()
     with Server(page_lists.in_every_state(30, now)) as server, opened(browser, server, WIDE[0]) as tab:
         for view in ("in", "out"):
             choose(tab, view)
-            heights = tab.value("""[...document.querySelectorAll("#list tbody")].filter((it) => !it.querySelector(".duty"))
-              .map((it) => it.offsetHeight)""")
+            heights = tab.value("""[...document.querySelectorAll("#list tbody")]
+              .filter((it) => !it.querySelector(".duty") && it.querySelector(".partner").textContent.length <= 20).map((it) => it.offsetHeight)""")
             expect(len(heights) > 10 and max(heights) <= LINE_HEIGHT, True, f"{view}: heights of rows without a sentence, {heights}")
             said = tab.value('[...document.querySelectorAll("#list tbody .state")].map((it) => it.textContent)')
             expect([it for it in said if "." in it], [], f"{view}: sentences beside a state")
@@ -597,7 +600,7 @@ def chosen_by_text(tab):
     """Filtering by such a text, typed or in the address, finds the files that have it."""
     for text in [it for it in HOSTILE if it.isprintable() and 2 < len(it) < 100]:
         choose(tab, "in")
-        tab.value('document.querySelector("#name").closest("form").classList.add("open")')
+        tab.value('document.querySelector("#name").closest("form").classList.add("unfolded")')
         tab.value('document.querySelector("#name").focus(), document.querySelector("#name").select()')
         tab.type(text)
         wanted = [page_lists.plain(it) for it in HOSTILE if text.lower() in it.lower()][::-1]
@@ -1037,9 +1040,9 @@ def after_a_restore(browser, picture):
 
 def renewed(tab):
     """Makes the page renew itself, and waits until it has."""
-    tab.value("window.before = renewedAt")
+    tab.value("window.before = updatedAt")
     tab.value(f"void ({RENEW})")
-    tab.until("renewedAt !== window.before")
+    tab.until("updatedAt !== window.before")
 
 
 def closing_for_long(browser, _picture):

@@ -6,7 +6,7 @@ pub const PAGE: &str = r###"<!doctype html>
 <head>
 <meta charset="utf-8">
 <meta http-equiv="Content-Security-Policy" content="default-src 'none'; connect-src 'self'; img-src data:;
-  script-src 'sha256-F/T7bXS0AjHqLA9bVePs9H7Ewf1TLG1aVRFdOU4FW5A='; style-src 'sha256-VoCpU4UY45ImQe0Y5++Ko/WQdU1omeTI+Jlme8rDols=';
+  script-src 'sha256-Vz13qG2Ndcn9mNvXNFrQmwPUQqM5GNeW5QRtNcA/rCQ='; style-src 'sha256-O8+gAOTZHPTMl4rNdZludEQsA1D0u5KulhgydGi1zgY=';
   base-uri 'none'; form-action 'none'; require-trusted-types-for 'script'; trusted-types 'none'">
 <meta name="viewport" content="width=device-width, initial-scale=1">
 <meta name="color-scheme" content="light dark">
@@ -39,7 +39,7 @@ a, summary { color: var(--link); }
 [hidden] { display: none !important; }
 .unseen, .skip:not(:focus) { position: absolute; width: 1px; height: 1px; overflow: hidden; clip-path: inset(50%); white-space: nowrap; }
 .skip { position: absolute; z-index: 2; padding: .4rem .85rem; background: var(--sheet); }
-:focus-visible { outline: 2px solid var(--link); outline-offset: 2px; border-radius: 3px; }
+:focus-visible, input:focus-within { outline: 2px solid var(--link); outline-offset: 2px; border-radius: 3px; }
 
 header { display: flex; flex-wrap: wrap; align-items: baseline; justify-content: space-between; gap: .2rem 1.5rem; }
 h1 { font-size: 1.35rem; font-weight: 600; letter-spacing: -.01em; }
@@ -89,7 +89,7 @@ thead button:hover { color: var(--ink); text-decoration: underline; }
 .partner { width: 17%; }
 .when { width: 11.4rem; font-variant-numeric: tabular-nums; white-space: nowrap; }
 .size { width: 5.8rem; text-align: right; font-variant-numeric: tabular-nums; white-space: nowrap; }
-.file { width: 11rem; }
+.file { width: 6.8rem; }
 .state { width: 29%; }
 tbody .when, tbody .file { color: var(--soft); }
 .when bdi, .cut { overflow: hidden; text-overflow: ellipsis; white-space: nowrap; }
@@ -129,7 +129,7 @@ dt { color: var(--soft); }
   #todo, #views { display: grid; grid-template-columns: repeat(auto-fit, minmax(8.5rem, 1fr)); }
   #fold { display: block; width: 100%; margin-top: .7rem; }
   form { display: none; grid-template-columns: repeat(auto-fit, minmax(10rem, 1fr)); }
-  form.open { display: grid; }
+  form.unfolded { display: grid; }
   form > .sort { display: block; }
   #clear:disabled { display: none; }
   table, tbody { display: block; }
@@ -322,7 +322,7 @@ const STATES = {
   },
   received: {
     eerp: { words: "Delivered (EERP)", look: "good" },
-    nerp: { words: "Returned (NERP)", look: "bad" },
+    nerp: { words: "Returned (NERP)", look: "rest" },
   },
   issued: {
     eerp_due: { words: "EERP not yet sent", look: "wait" },
@@ -377,14 +377,15 @@ const events = {
 
 // A stamp read as UTC. It is null if it is no valid date and time: a partner may send any digits.
 function momentOf({ date, time }) {
-  const digits = date + time.slice(0, 6);
-  const parts = /^(\d{4})(\d\d)(\d\d)(\d\d)(\d\d)(\d\d)$/.exec(digits);
-  if (!parts) {
+  if (!/^\d{8}$/.test(date) || !/^\d{10}$/.test(time)) {
     return null;
   }
-  const [year, month, ...rest] = parts.slice(1).map(Number);
-  const moment = Date.UTC(year, month - 1, ...rest);
-  return new Date(moment).toISOString().replace(/\D/g, "").startsWith(digits) ? moment : null;
+  const [year, month, day] = [+date.slice(0, 4), +date.slice(4, 6), +date.slice(6)];
+  const [hours, minutes, seconds] = [+time.slice(0, 2), +time.slice(2, 4), +time.slice(4, 6)];
+  const moment = Date.UTC(year, month - 1, day, hours, minutes, seconds);
+  const at = new Date(moment);
+  const isDay = at.getUTCFullYear() === year && at.getUTCMonth() === month - 1 && at.getUTCDate() === day;
+  return isDay && hours < 24 && minutes < 60 && seconds < 60 ? moment : null;
 }
 
 function two(number) {
@@ -436,7 +437,7 @@ function spanOf(time) {
 // ---- the items of the lists, each of which becomes a row
 
 // Each item has its view, number, partner and state, the object with the file's name, date and time, the response if there is one, the stamp
-// as a moment and as a day, the file's age, the later file of its name, and the text that the name filter searches.
+// as a moment, the file's age, and the number of the later file of its name.
 const lists = { in: [], out: [], received: [], issued: [] };
 let partners = [];
 // When the page first saw each outgoing file as closing, by the file's number.
@@ -444,15 +445,14 @@ const closingSince = new Map();
 
 function itemOf(view, no, partner, file, response) {
   const moment = momentOf(file);
-  const day = moment === null ? "" : stampText(view, file, moment).slice(0, 10);
-  const sought = `${file.dataset}\n${file.description ?? ""}`.toLowerCase();
-  return { view, no, partner, file, response, moment, day, sought, age: ageOf(view, no, moment) };
+  return { view, no, partner, file, response, moment, age: ageOf(view, no, moment), later: null, state: "" };
 }
 
 // How long a file has been in its state, in milliseconds, or null if nobody knows: by the station's events, and without them by its stamp.
 function ageOf(view, no, moment) {
   const since = events.changesOf(view, no)?.at(-1)?.at ?? moment;
-  return since === null || since > Date.now() + AHEAD ? null : Date.now() - since;
+  const now = Date.now();
+  return since === null || since > now + AHEAD ? null : now - since;
 }
 
 function lateOrNot(state, age) {
@@ -465,7 +465,8 @@ function incomingItem(file, response) {
   if (state === "whole") {
     state = file.response === "none" ? "release" : responseState(file.response, response?.sent);
   }
-  return { ...item, state: lateOrNot(state, item.age) };
+  item.state = lateOrNot(state, item.age);
+  return item;
 }
 
 function responseState(kind, isSent) {
@@ -474,11 +475,12 @@ function responseState(kind, isSent) {
 
 function outgoingItem(file, response, newest) {
   const item = itemOf("out", file.no, file.destination, file, response);
-  const later = newest > file.no ? newest : null;
-  return { ...item, later, state: outgoingState(item, later) };
+  item.later = newest > file.no ? newest : null;
+  item.state = outgoingState(item);
+  return item;
 }
 
-function outgoingState({ file, response, age }, later) {
+function outgoingState({ file, response, age, later }) {
   let state = file.state;
   if (state === "refused") {
     state = response ? ANSWERED[response.kind] : file.reason === DUPLICATE ? "duplicate" : "refused";
@@ -497,13 +499,16 @@ function isSeenForLong(file) {
 }
 
 function receivedItem(response) {
-  return { ...itemOf("received", response.no, response.from, response, response), state: response.kind.toLowerCase() };
+  const item = itemOf("received", response.no, response.from, response, response);
+  item.state = response.kind.toLowerCase();
+  return item;
 }
 
 function issuedItem(response, file) {
   const named = file ?? { dataset: "", date: "", time: "", originator: "" };
   const item = itemOf("issued", response.no, named.originator, named, response);
-  return { ...item, state: responseState(response.kind, response.sent) };
+  item.state = responseState(response.kind, response.sent);
+  return item;
 }
 
 // The responses to outgoing files, by the number of the file. Of two to one file the first counts, as for the station. But a refused file that
@@ -519,8 +524,14 @@ function responsesTo(received) {
   return ({ state, no }) => (Object.hasOwn(of, state) ? of[state](no) : first.get(no));
 }
 
-function nameOf(file) {
-  return JSON.stringify([file.destination, file.dataset]);
+// The number of the newest file of each name, for each partner.
+function newestOf(outgoing) {
+  const newest = new Map();
+  for (const { no, destination, dataset } of outgoing) {
+    const names = newest.get(destination) ?? new Map();
+    newest.set(destination, names.set(dataset, Math.max(no, names.get(dataset) ?? 0)));
+  }
+  return newest;
 }
 
 // Makes the items of the station's replies, newest first.
@@ -528,17 +539,14 @@ function takeLists(incoming, outgoing, responses) {
   const files = new Map(incoming.map((file) => [file.no, file]));
   const issued = new Map(responses.issued.map((response) => [response.no, response]));
   const responseTo = responsesTo(responses.received);
-  const newest = new Map();
-  for (const file of outgoing) {
-    newest.set(nameOf(file), Math.max(file.no, newest.get(nameOf(file)) ?? 0));
-  }
+  const newest = newestOf(outgoing);
   const closing = new Set(outgoing.filter((file) => file.state === "closing").map((file) => file.no));
   for (const no of [...closingSince.keys()].filter((it) => !closing.has(it))) {
     closingSince.delete(no);
   }
   Object.assign(lists, {
     in: newestFirst(incoming.map((file) => incomingItem(file, issued.get(file.no)))),
-    out: newestFirst(outgoing.map((file) => outgoingItem(file, responseTo(file), newest.get(nameOf(file))))),
+    out: newestFirst(outgoing.map((file) => outgoingItem(file, responseTo(file), newest.get(file.destination).get(file.dataset)))),
     received: newestFirst(responses.received.map(receivedItem)),
     issued: newestFirst(responses.issued.map((response) => issuedItem(response, files.get(response.no)))),
   });
@@ -607,9 +615,29 @@ function choose(changes) {
 function isChosen() {
   const { partner, since, until } = choice;
   const name = choice.name.trim().toLowerCase();
-  const isOfDay = ({ day }) => (!since && !until) || (day !== "" && day >= since && (!until || day <= until));
-  const isNamed = (item) => !name || item.sought.includes(name) || String(item.no) === name;
-  return (item) => (!partner || item.partner === partner) && isOfDay(item) && isNamed(item);
+  const isOfDay = (day) => day !== "" && day >= since && (!until || day <= until);
+  const isNamed = ({ file, no }) => soughtIn(file).includes(name) || String(no) === name;
+  return (item) => (!partner || item.partner === partner) && ((!since && !until) || isOfDay(dayOf(item))) && (!name || isNamed(item));
+}
+
+// The text that the name filter searches, by the file. It is made once, since a list may have many long ones.
+const sought = new WeakMap();
+
+function soughtIn(file) {
+  if (!sought.has(file)) {
+    sought.set(file, `${file.dataset}\n${file.description ?? ""}`.toLowerCase());
+  }
+  return sought.get(file);
+}
+
+// The day of an item's stamp as it is shown, which is empty if it is no date.
+function dayOf({ view, file, moment }) {
+  return moment === null ? "" : stampText(view, file, moment).slice(0, 10);
+}
+
+// The items in a state.
+function inState(view, state) {
+  return lists[view].filter((item) => item.state === state);
 }
 
 // What items are sorted by, for each column. States have the order of their table, in which a file passes through them.
@@ -808,7 +836,7 @@ const CELLS = {
   name: ({ file }) => [make("div", "", textOf(file.dataset, "few"), file.description ? textOf(file.description, "about cut") : null)],
   when: (item) => [titled(textOf(stampText(item.view, item.file, item.moment), ""), plain(stampFact(item)))],
   size: ({ file }) => [titled(make("span", "", sizeText(file.units)), exactSize(file))],
-  file: ({ response }) => [response.file ? `Outgoing file ${response.file}` : "No file that is here"],
+  file: ({ response }) => [response.file ? `File ${response.file}` : "None here"],
   state: (item) => {
     const detail = detailOf(item);
     return [make("div", "", make("span", "words", plain(stateOf(item).words)), detail ? make("span", "detail cut", detail) : null)];
@@ -931,7 +959,7 @@ function drawTodo() {
   let all = 0;
   for (const view of ["in", "out"]) {
     for (const state of Object.keys(STATES[view]).filter((it) => STATES[view][it].sums)) {
-      const found = lists[view].filter((item) => item.state === state);
+      const found = inState(view, state);
       all += found.length;
       if (found.length) {
         tiles.push(make("li", "", tileOf(view, state, found)));
@@ -988,7 +1016,7 @@ function drawUnlooked() {
     parts.push("Not looked at, since the stamp tells no age: ", ...links.slice(0, -1), `${rest}. `);
   }
   const again = [...new Set(Object.values(AGAIN))].flatMap((state) => {
-    const count = lists.out.filter((item) => item.state === state).length;
+    const count = inState("out", state).length;
     return count ? [linkOf({ view: "out", state }, `${numbers.format(count)} ${state.replace("_again", "")}`), ", "] : [];
   });
   if (again.length) {
@@ -1192,7 +1220,7 @@ byId("filter").addEventListener("reset", (event) => {
   byId("name").focus();
 });
 byId("fold").addEventListener("click", () => {
-  const isOpen = byId("filter").classList.toggle("open");
+  const isOpen = byId("filter").classList.toggle("unfolded");
   byId("fold").setAttribute("aria-expanded", isOpen);
 });
 byId("skip").addEventListener("click", (event) => {
