@@ -30,19 +30,19 @@ def chromium():
 
 
 class Browser:
-    """A process of the browser, with its profile in a folder."""
+    """A process of the browser, with its profile in a folder, and in a time zone or that of this machine."""
 
-    def __init__(self, room):
+    def __init__(self, room, zone=None):
         given, self.output = os.pipe()
         self.input, told = os.pipe()
         self.errors = open(room / "browser", "wb")
         # Only in containers does the browser run as root, and its sandbox doesn't.
         words = [chromium(), *WORDS, f"--user-data-dir={room / 'profile'}", *(["--no-sandbox"] if os.geteuid() == 0 else [])]
-        # It reads its descriptor 3 and writes descriptor 4.
-        shell = ["sh", "-c", f'exec "$@" 3<&{given} 4>&{told}', "sh", *words]
-        self.process = subprocess.Popen(
-            shell, pass_fds=(given, told), stdin=subprocess.DEVNULL, stdout=self.errors, stderr=self.errors, start_new_session=True
-        )
+        # It reads its descriptor 3 and writes descriptor 4. Only bash copies a descriptor of more than one digit.
+        shell = ["bash", "-c", f'exec "$@" 3<&{given} 4>&{told}', "bash", *words]
+        how = {"stdin": subprocess.DEVNULL, "stdout": self.errors, "stderr": self.errors, "start_new_session": True}
+        environment = {**os.environ, **({"TZ": zone} if zone else {})}
+        self.process = subprocess.Popen(shell, pass_fds=(given, told), env=environment, **how)
         os.close(given)
         os.close(told)
         self.came = b""
@@ -92,9 +92,9 @@ class Browser:
 
 
 class Tab:
-    """A page of the browser in a window of this width, in a light or a dark scheme, and in a time zone or that of this machine."""
+    """A page of the browser in a window of this width, in a light or a dark scheme."""
 
-    def __init__(self, browser, width, height, scheme="light", zone=None):
+    def __init__(self, browser, width, height, scheme="light"):
         self.browser = browser
         self.target = browser.call("Target.createTarget", url="about:blank")["targetId"]
         self.session = browser.call("Target.attachToTarget", targetId=self.target, flatten=True)["sessionId"]
@@ -102,8 +102,6 @@ class Tab:
             self.call(f"{part}.enable")
         self.call("Emulation.setDeviceMetricsOverride", width=width, height=height, deviceScaleFactor=1, mobile=False)
         self.call("Emulation.setEmulatedMedia", features=[{"name": "prefers-color-scheme", "value": scheme}])
-        if zone:
-            self.call("Emulation.setTimezoneOverride", timezoneId=zone)
 
     def __enter__(self):
         return self
@@ -145,9 +143,10 @@ class Tab:
         return time.monotonic() - begin
 
     def key(self, name):
-        """Presses a key."""
-        for kind in ("keyDown", "keyUp"):
-            self.call("Input.dispatchKeyEvent", type=kind, key=name, code=name, windowsVirtualKeyCode={"Tab": 9, "Enter": 13}[name])
+        """Presses a key: Tab, Enter, or that of a digit."""
+        number, text = {"Tab": (9, ""), "Enter": (13, "\r")}.get(name) or (ord(name), name)
+        for kind, typed in (("keyDown", text), ("keyUp", "")):
+            self.call("Input.dispatchKeyEvent", type=kind, key=name, code=name, windowsVirtualKeyCode=number, text=typed)
 
     def type(self, text):
         """Types a text where the focus is."""

@@ -1,6 +1,6 @@
 """Lists for the page like those of `/in`, `/out` and `/responses`, made by hand, and what the page has to show for any lists.
 
-What it has to show is computed here independently of the page's script.
+What it has to show is computed here independently of the page's script, at a moment (`now`, in UTC) and in a time zone of ZONES.
 """
 
 import itertools
@@ -8,10 +8,11 @@ import json
 import re
 import unicodedata
 from datetime import datetime, timedelta, timezone
-from typing import NamedTuple, Optional
+from decimal import ROUND_HALF_UP, Decimal
+from typing import Any, NamedTuple, Optional
 
 US = "O0013SUPPLIER"
-PARTNERS = ["O0177CARMAKER", "O0013VAN", "OGEARS", "O0942STEELWORKS.LINZ"]
+PARTNERS = ["O0177CARMAKER", "O0013VAN", "OGEARS", "O0942STEELWORKS.LINZ-WEST"]
 FORMATS = "UTFV"
 VIEWS = ["in", "out", "received", "issued"]
 # Why a partner refuses a file (RFC 5024, section 5.3.5), and why a file is returned (section 5.3.14).
@@ -90,6 +91,22 @@ class Lists:
         values = {"/in": self.incoming, "/out": self.outgoing, "/responses": {"issued": self.issued, "received": self.received}}
         return json.dumps(values[path], ensure_ascii=False, separators=(",", ":")) if path in values else None
 
+    def came(self, state="whole", kind="none", sent=None, reason="", age=timedelta(), now=None, **more):
+        """One more incoming file of this age, with its response."""
+        no = len(self.incoming) + 1
+        self.incoming.append(incoming(no, (now or utc_now()) - age, state, kind, **more))
+        if kind != "none":
+            self.issued.append(issued(no, kind, sent, reason))
+
+    def went(self, state="waiting", kind=None, age=timedelta(), now=None, mark=0, reason="", response=None, **more):
+        """One more outgoing file of this age, and the response to it if its kind is given."""
+        no = len(self.outgoing) + 1
+        file = outgoing(no, (now or utc_now()) - age, state, mark, reason, **more)
+        self.outgoing.append(file)
+        if kind:
+            self.received.append(received(len(self.received) + 1, file, kind, **(response or {})))
+        return file
+
 
 def read_lists(answer):
     """The lists of a server, which is asked by a function of the path."""
@@ -97,40 +114,85 @@ def read_lists(answer):
     return Lists(json.loads(answer("/in")), json.loads(answer("/out")), responses["issued"], responses["received"])
 
 
+# The states that files of a full list are in by turns, each with an age at which it is in time or late.
+EARLY = timedelta(hours=5, minutes=30)
+LATE = timedelta(days=3, hours=12)
+CAME = [
+    *(("open", "none", None, EARLY), ("whole", "none", None, EARLY), ("whole", "none", None, LATE), ("open", "none", None, LATE)),
+    *(("whole", "EERP", False, EARLY), ("whole", "EERP", True, LATE), ("whole", "NERP", False, LATE), ("whole", "NERP", True, EARLY)),
+]
+WENT = [
+    *(("waiting", EARLY), ("waiting", LATE), ("partly", EARLY), ("partly", LATE), ("closing", timedelta(minutes=2)), ("closing", EARLY)),
+    *(("handed", EARLY), ("handed", LATE), ("delivered", LATE), ("refused", EARLY), ("duplicate", LATE), ("returned", EARLY)),
+    # The next two have the name of the one behind them.
+    *(("refused", LATE), ("returned", LATE)),
+]
+
+
 def in_every_state(count, now):
     """This many files each way, in all states by turns; some have a description, of the greatest length or short."""
     lists = Lists()
     for no in range(1, count + 1):
-        moment = now - timedelta(hours=5, minutes=7 * (count - no))
         about = {"description": {1: "Delivery schedule, week 5", 2: "Straße, 部品, \U0001f697", 3: "drawing " * 120}.get(no % 7, "")}
-        add_incoming(lists, no, moment, about)
-        add_outgoing(lists, no, moment, about, now)
+        # As long as a name may be.
+        about |= {"dataset": f"DELFOR-0177-WERK6-{no:08}"} if no % 7 == 4 else {}
+        state, kind, sent, age = CAME[no % len(CAME)]
+        reason = RETURNED_FOR[no % len(RETURNED_FOR)] if kind == "NERP" else ""
+        lists.came(state, kind, sent, reason, age - timedelta(seconds=no % 600), now, **about)
+        add_outgoing(lists, no, about, now)
     gone = outgoing(0, now - timedelta(days=30), dataset="INV.7", destination=PARTNERS[1])
     lists.received.append(received(len(lists.received) + 1, gone, "NERP", "09", creator=PARTNERS[0], note="NO PLANT"))
     return lists
 
 
-def add_incoming(lists, no, moment, about):
-    state = no % 6
-    kind, sent = [("none", None), ("none", None), ("EERP", False), ("EERP", True), ("NERP", False), ("NERP", True)][state]
-    lists.incoming.append(incoming(no, moment, "open" if state == 0 else "whole", kind, **about))
-    if kind != "none":
-        lists.issued.append(issued(no, kind, sent, RETURNED_FOR[no % len(RETURNED_FOR)] if kind == "NERP" else ""))
-
-
-def add_outgoing(lists, no, moment, about, now):
-    state = ["waiting", "waiting", "closing", "closing", "handed", "delivered", "refused", "returned"][no % 8]
-    moment = now - timedelta(minutes=2) if no % 8 == 2 else moment
-    mark = no % 5 + 1 if no % 8 == 1 else 0
-    reason = REFUSED_FOR[no // 8 % len(REFUSED_FOR)] if state == "refused" else ""
-    file = outgoing(no, moment, state, mark, reason, **about)
-    lists.outgoing.append(file)
-    if state == "delivered":
-        lists.received.append(received(len(lists.received) + 1, file))
+def add_outgoing(lists, no, about, now):
+    turn = no % len(WENT)
+    state, age = WENT[turn]
+    more = {**about, "age": age - timedelta(seconds=no % 60), "now": now}
+    if turn in (0, 12, 13):
+        more |= {"dataset": f"AGAIN.{(no + 2) // len(WENT)}", "destination": PARTNERS[1]}
+    if state == "partly":
+        lists.went("waiting", mark=no % 5 + 1, **{**more, "rows": no + 9})
+    elif state == "delivered":
+        lists.went(state, "EERP", **more)
     elif state == "returned":
         reason = RETURNED_FOR[no // 8 % len(RETURNED_FOR)]
-        more = {"creator": PARTNERS[no % 3], "note": "Part number 4711 isn't ours" if no % 16 == 7 else "NO PLANT " * 110}
-        lists.received.append(received(len(lists.received) + 1, file, "NERP", reason, **more))
+        note = "Part number 4711 isn't ours" if no % 4 == 3 else "NO PLANT " * 110
+        lists.went(state, "NERP", response={"reason": reason, "creator": PARTNERS[no % 3], "note": note}, **more)
+    elif state in ("refused", "duplicate"):
+        lists.went("refused", reason="13" if state == "duplicate" else REFUSED_FOR[no // 8 % len(REFUSED_FOR)], **more)
+    else:
+        lists.went(state, **more)
+
+
+def of_a_day(now):
+    """What a supplier may have on its page at one moment: few files, with names as they are used."""
+    carmaker, press, tier2 = "O0177CARMAKER", "O0331PRESSWERK", "O0942TIER2"
+    lists = Lists()
+
+    def came(name, partner, about, units, hours, *how):
+        at = {"age": timedelta(hours=hours, minutes=7), "now": now}
+        lists.came(*how, **at, dataset=name, originator=partner, description=about, units=units, rows=units // 1024 + 1, format="U")
+
+    def went(name, partner, about, units, hours, *how, **more):
+        at = {"age": timedelta(hours=hours, minutes=3 * len(lists.outgoing) + 4), "now": now}
+        lists.went(*how, **at, dataset=name, destination=partner, description=about, units=units, rows=units // 1024 + 1, format="U", **more)
+
+    came("DELFOR.0871", carmaker, "Delivery schedule, week 48", 51_200, 3, "whole", "EERP", True)
+    came("DELJIT.2204", carmaker, "Call-off, line 3", 18_417, 2)
+    came("DELJIT.2205", carmaker, "Call-off, line 4", 19_038, 1)
+    came("CAD.FLANGE", press, "Drawing 4711, revision C", 41_503_711, 0, "open")
+    went("DESADV.004", carmaker, "Dispatch note 800474", 29_002, 30, "delivered", "EERP")
+    went("DESADV.005", carmaker, "Dispatch note 800475", 27_114, 29, "delivered", "EERP")
+    went("INVOIC.4712", carmaker, "Invoice 4712", 532, 5, "handed")
+    went("ORDERS.1", tier2, "Call-off week 47", 29_370, 98, "handed")
+    went("ORDERS.2", tier2, "Call-off week 48", 29_002, 4, "handed")
+    went("DESADV.006", carmaker, "Dispatch note 800476", 18_142, 3, "refused", reason="03")
+    went("DESADV.007", press, "Dispatch note 800477", 18_209, 2, "refused", reason="05")
+    went("CAD.ASSEMBLY", carmaker, "Drawing 4712, revision A", 60_000_000, 1, mark=13_500)
+    went("DESADV.007", press, "Dispatch note 800477", 18_209, 1, "handed")
+    went("ORDERS.5", press, "", 6, 0, "closing")
+    return lists
 
 
 # Texts that a page would run, load or display differently if it took them for anything but text.
@@ -178,57 +240,139 @@ def hostile(now):
     return lists
 
 
+# ---- zones
+
+
+def last_sunday(year, month):
+    """The last Sunday of a month of 31 days, at 01:00 UTC."""
+    last = datetime(year, month, 31, 1)
+    return last - timedelta(days=(last.weekday() + 1) % 7)
+
+
+def in_berlin(moment):
+    return 2 if last_sunday(moment.year, 3) <= moment < last_sunday(moment.year, 10) else 1
+
+
+# How many hours the clock of a zone is ahead of UTC at a moment, which is given in UTC.
+ZONES = {"UTC": lambda _moment: 0, "Europe/Berlin": in_berlin, "America/Mexico_City": lambda _moment: -6}
+
+
+def zone_text(zone, moment):
+    """How the page names a zone."""
+    ahead = ZONES[zone](moment)
+    return f"UTC{'+' if ahead > 0 else '−'}{abs(ahead)}" if ahead else "UTC"
+
+
 # ---- what the page has to show
 
 
 class Shown(NamedTuple):
-    """A row of a list: the number, the partner, the file's name, its date and time, its size or the file that a response answers, the words
-    for the state, its style, and further words, if any."""
+    """A row of a list: the number, the partner, the file's name and description, its stamp and what that says, its size in a few digits or the
+    file that a response answers, its exact size, the words for the state, a few more, the row's style, and what to do if somebody must."""
 
     no: str
     partner: str
     name: str
+    about: Optional[str]
     when: str
+    stamp: str
     size: Optional[str]
+    exact: Optional[str]
     words: str
+    detail: Optional[str]
     look: str
-    reason: Optional[str] = None
-    note: Optional[str] = None
-    about: Optional[str] = None
+    duty: Optional[str] = None
+
+
+class Item(NamedTuple):
+    """A row of a list, and what it is sorted, counted and filtered by."""
+
+    shown: Shown
+    view: str
+    state: str
+    file: Any
+    partner: str
+    age: Optional[timedelta] = None
+    reason: str = ""
+    response: Any = None
+
+    @property
+    def day(self):
+        return self.shown.when[:10] if moment_of(self.file) else ""
 
 
 TO_DO = ("act", "bad")
-INCOMING = {
-    ("EERP", False): ("Released, EERP not yet sent", "wait"),
-    ("EERP", True): ("Released, EERP sent", "good"),
-    ("NERP", False): ("Refused here, NERP not yet sent", "wait"),
-    ("NERP", True): ("Refused here, NERP sent", "rest"),
+# The states of each list, in the order of the page: the words and the style.
+STATES = {
+    "in": {
+        "open": ("Incomplete", "wait"),
+        "open_late": ("Incomplete, late", "act"),
+        "release": ("To be released", "act"),
+        "release_late": ("To be released, late", "act"),
+        "eerp_due": ("Released, EERP not yet sent", "wait"),
+        "eerp_sent": ("Released, EERP sent", "good"),
+        "nerp_due": ("Refused here, NERP not yet sent", "wait"),
+        "nerp_sent": ("Refused here, NERP sent", "rest"),
+    },
+    "out": {
+        "waiting": ("Waiting to be sent", "wait"),
+        "waiting_late": ("Waiting to be sent, late", "act"),
+        "partly": ("Partly sent", "wait"),
+        "partly_late": ("Partly sent, late", "act"),
+        "closing": ("Sent, not yet confirmed", "wait"),
+        "closing_late": ("Sent, not confirmed, late", "act"),
+        "handed": ("Handed over", "wait"),
+        "handed_late": ("EERP overdue", "act"),
+        "delivered": ("Delivered", "good"),
+        "refused": ("Refused by the partner", "bad"),
+        "duplicate": ("Refused as a duplicate", "act"),
+        "refused_again": ("Refused, name used again", "rest"),
+        "returned": ("Returned (NERP)", "bad"),
+        "returned_again": ("Returned, name used again", "rest"),
+    },
+    "received": {"eerp": ("Delivered (EERP)", "good"), "nerp": ("Returned (NERP)", "rest")},
+    "issued": {
+        "eerp_due": ("EERP not yet sent", "wait"),
+        "eerp_sent": ("EERP sent", "good"),
+        "nerp_due": ("NERP not yet sent", "wait"),
+        "nerp_sent": ("NERP sent", "rest"),
+    },
 }
-OUTGOING = {
-    "waiting": ("Waiting to be sent", "wait"),
-    "partly": ("Partly sent", "wait"),
-    "closing": ("Sent, not yet confirmed", "wait"),
-    "stuck": ("Not confirmed for long", "act"),
-    "handed": ("Handed over", "wait"),
-    "delivered": ("Delivered", "good"),
-    "refused": ("Refused by the partner", "bad"),
-    "duplicate": ("Refused as a duplicate", "act"),
-    "returned": ("Returned (NERP)", "bad"),
+# From how many hours on a file is late in a state.
+LATE_FROM = {"open": 24, "release": 24, "waiting": 24, "partly": 24, "closing": 1, "handed": 24}
+RULES = (
+    "Late, by a file's stamp read as UTC: sent but not confirmed after 1 hour (or 10 minutes seen here); incomplete, to be released, "
+    "waiting to be sent, partly sent, without EERP after 24 hours."
+)
+UNLOOKED = "Not looked at: whether partners are reached, and for how long responses wait to be sent. The journal has how each session ended. "
+IDLE = "No file needs anybody, by its state and its age."
+# What is to be done about the files of a state, and how the summary speaks of one, and of several where that differs.
+DUTIES = {
+    "open_late": "The rest hasn't come. Ask the partner to send the file again: its transfer goes on where it broke.",
+    "release": "Take it, then release it or refuse it:",
+    "release_late": "Its sender waits for the EERP. Take it, then release it or refuse it:",
+    "waiting_late": "No session has taken it. Call the partner, and look at how the session ends.",
+    "partly_late": "The rest hasn't gone. Call the partner, and look at how the session ends.",
+    "closing_late": "All of it was sent, and the partner hasn't said that it has it. Call the partner: the next session settles it.",
+    "handed_late": "The partner has it, and hasn't said what became of it. Ask the partner.",
+    "refused": "Correct what the reason names, and submit it with another date or time.",
+    "duplicate": "The partner has it: don't send it again before asking.",
+    "returned": "Ask the partner, and submit it with another date or time.",
 }
-RECEIVED = {"EERP": ("Delivered (EERP)", "good"), "NERP": ("Returned (NERP)", "bad")}
-ISSUED = {
-    ("EERP", False): ("EERP not yet sent", "wait"),
-    ("EERP", True): ("EERP sent", "good"),
-    ("NERP", False): ("NERP not yet sent", "wait"),
-    ("NERP", True): ("NERP sent", "rest"),
+SUMS = {
+    "open_late": ("incomplete, late", None),
+    "release": ("to be released", None),
+    "release_late": ("to be released, late", None),
+    "waiting_late": ("waiting to be sent, late", None),
+    "partly_late": ("partly sent, late", None),
+    "closing_late": ("not confirmed, late", None),
+    "handed_late": ("EERP overdue", "EERPs overdue"),
+    "refused": ("refused by a partner", None),
+    "duplicate": ("refused as a duplicate", "refused as duplicates"),
+    "returned": ("returned by a partner", None),
 }
-# The words for all states of each list.
-WORDS = {
-    "in": ["Incomplete", "To be released", *(words for words, _ in INCOMING.values())],
-    "out": [words for words, _ in OUTGOING.values()],
-    "received": [words for words, _ in RECEIVED.values()],
-    "issued": [words for words, _ in ISSUED.values()],
-}
+# The words that an installation by docs/OPERATING.md has in a command.
+PATHS = {"program": "sudo -u oftp oftp_station", "database": "/var/lib/oftp/station.db", "book": "/etc/oftp/book.toml"}
 TURNS = "\u061c\u200e\u200f\u202a\u202b\u202c\u202d\u202e\u2066\u2067\u2068\u2069"
 
 
@@ -249,94 +393,242 @@ def counted(count, one):
     return f"{count:,} {one}{'' if count == 1 else 's'}"
 
 
-def size_of(file):
+def span_of(time):
+    """A span of time in the greatest unit of which there are enough."""
+    minutes = time // timedelta(minutes=1)
+    if minutes < 60:
+        return counted(minutes, "minute")
+    return counted(minutes // 60, "hour") if minutes < 48 * 60 else counted(minutes // (24 * 60), "day")
+
+
+def size_of(units):
+    """A number of octets in a few digits."""
+    if units < 1000:
+        return f"{units} B"
+    divided, unit = (units / 1000, "KB") if units < 999_500 else (units / 1_000_000, "MB")
+    step = Decimal("0.1") if unit == "MB" or units < 9_950 else Decimal("1")
+    return f"{Decimal(divided).quantize(step, ROUND_HALF_UP)} {unit}"
+
+
+def exact_size(file):
     """A file's size and format, and its number of records if it has any."""
     form = {"F": "fixed", "V": "variable", "U": "unstructured", "T": "text"}.get(file["format"], plain(file["format"]))
-    return counted(file["units"], "byte") + (f"{counted(file['rows'], 'record')}, {form}" if file["format"] in ("F", "V") else form)
+    rows = f"{counted(file['rows'], 'record')}, " if file["format"] in ("F", "V") else ""
+    return f"{counted(file['units'], 'byte')}, {rows}{form}"
 
 
 def moment_of(file):
-    """The moment of a file's date and time, or None if they aren't valid."""
+    """The moment of a file's date and time read as UTC, or None if they aren't valid."""
     if not re.fullmatch(r"[0-9]{8}/[0-9]{10}", f"{file['date']}/{file['time']}"):
         return None
     try:
-        return datetime.strptime(file["date"] + file["time"][:6], "%Y%m%d%H%M%S")
+        moment = datetime.strptime(file["date"] + file["time"][:6], "%Y%m%d%H%M%S")
     except ValueError:
         return None
+    return moment if moment.year > 99 else None
 
 
-def about_file(file, partner):
-    """The number, the partner, the name, and the date and time of a file."""
+def age_of(file, now):
+    """How old a file is by its stamp, or None if that is no date and time, or is further ahead than any clock."""
     moment = moment_of(file)
-    when = f"{moment:%Y-%m-%d%H:%M:%S}.{file['time'][6:]}" if moment else plain(file["date"]) + plain(file["time"])
-    return str(file["no"]), plain(partner), plain(file["dataset"]), when
+    return None if moment is None or moment > now + timedelta(hours=14) else now - moment
 
 
-def shown(lists, now):
-    """The rows of each view, newest first."""
+def late_or_not(state, age):
+    return f"{state}_late" if age is not None and state in LATE_FROM and age >= timedelta(hours=LATE_FROM[state]) else state
+
+
+def stamps_of(file, is_ours, zone):
+    """A file's stamp as the page shows it, and what it says."""
+    moment = moment_of(file)
+    if not moment:
+        digits = " ".join(it for it in (file["date"], file["time"]) if it)
+        return plain(digits), plain(f"{digits}, which is no date and time" if digits else "")
+    local = f"{moment + timedelta(hours=ZONES[zone](moment)):%Y-%m-%d %H:%M:%S}"
+    whole = f"{moment:%Y-%m-%d %H:%M:%S}.{file['time'][6:]}"
+    return (local, f"{whole} UTC") if is_ours else (f"{moment:%Y-%m-%d %H:%M:%S}", f"{whole}, without a zone; read as UTC it is {local} here")
+
+
+def command_for(no, paths=None):
+    """The command that takes a file and releases it."""
+    program, database, book = (paths or PATHS).values()
+    return f"{program} fetch --db {database} {no} /tmp/oftp_file_{no} && {program} release --db {database} --book {book} {no}"
+
+
+def duty_of(state, no, partner, response):
+    """What somebody has to do about a file, with the text of its response, and who has created that if it isn't the partner."""
+    if state not in DUTIES:
+        return None
+    note = plain(response["note"]) if response and response.get("note") else ""
+    note = note if len(note) <= 120 else f"{note[:100]}…"
+    creator = response.get("creator") if response else None
+    return "".join([
+        f"“{note}” " if note else "",
+        f"Created by {plain(creator)}. " if creator and creator != partner else "",
+        DUTIES[state],
+        f" {command_for(no)} Copy" if state.startswith("release") else "",
+    ])
+
+
+def items(lists, now, zone="UTC"):
+    """The items of each view, newest first."""
     issues = {it["no"]: it for it in lists.issued}
-    responses = {it["file"]: it for it in lists.received}
     files = {it["no"]: it for it in lists.incoming}
+    newest = {(it["destination"], it["dataset"]): it["no"] for it in lists.outgoing}
+    responses = {}
+    for response in lists.received:
+        responses.setdefault(response["file"], []).append(response)
     views = {
-        "in": [shown_incoming(it, issues.get(it["no"])) for it in lists.incoming],
-        "out": [shown_outgoing(it, responses.get(it["no"]), now) for it in lists.outgoing],
-        "received": [shown_received(it) for it in lists.received],
-        "issued": [shown_issued(it, files[it["no"]]) for it in lists.issued],
+        "in": [incoming_item(it, issues.get(it["no"]), now, zone) for it in lists.incoming],
+        "out": [outgoing_item(it, responses.get(it["no"], []), newest, now, zone) for it in lists.outgoing],
+        "received": [received_item(it, zone) for it in lists.received],
+        "issued": [issued_item(it, files[it["no"]], zone) for it in lists.issued],
     }
     return {view: rows[::-1] for view, rows in views.items()}
 
 
-def shown_incoming(file, response):
-    if file["state"] != "whole":
-        words = {"open": ("Incomplete", "wait")}.get(file["state"], (plain(file["state"]), "rest"))
-    elif file["response"] == "none":
-        words = ("To be released", "act")
-    else:
-        words = INCOMING[file["response"], response["sent"]]
-    reason = reason_of(response["reason"], NEGATIVE_REASONS) if response and response["kind"] == "NERP" else None
-    about = plain(file["description"]) or None
-    return Shown(*about_file(file, file["originator"]), size_of(file), *words, reason, None, about)
+def shown(lists, now, zone="UTC"):
+    """The rows of each view, newest first."""
+    return {view: [it.shown for it in found] for view, found in items(lists, now, zone).items()}
 
 
-def shown_outgoing(file, response, now):
+def shown_as(view, file, partner, state, zone, detail="", size=None, exact=None, duty=None):
+    words, look = STATES[view].get(state, (plain(state), "rest"))
+    named = str(file["no"]), plain(partner), plain(file["dataset"]), plain(file.get("description", "")) or None
+    return Shown(*named, *stamps_of(file, view in ("out", "received"), zone), size, exact, words, detail or None, look, duty)
+
+
+def incoming_item(file, response, now, zone):
+    age, state = age_of(file, now), file["state"]
+    if state == "whole":
+        state = "release" if file["response"] == "none" else due_or_sent(response)
+    state = late_or_not(state, age)
+    reason = reason_of(response["reason"], NEGATIVE_REASONS) if response and response["kind"] == "NERP" else ""
+    detail = f"{span_of(age)} old" if state.endswith("_late") else reason
+    duty = duty_of(state, file["no"], file["originator"], None)
+    row = shown_as("in", file, file["originator"], state, zone, detail, size_of(file["units"]), exact_size(file), duty)
+    return Item(row, "in", state, file, file["originator"], age, reason, response)
+
+
+def due_or_sent(response):
+    return f"{response['kind'].lower()}_{'sent' if response['sent'] else 'due'}"
+
+
+def response_for(file, responses):
+    """The response that says what became of a file: that by which the station came to its state, and for a refused file an EERP before a NERP."""
+    kinds = {"refused": ["EERP", "NERP"], "returned": ["NERP"]}.get(file["state"])
+    found = [it for kind in kinds for it in responses if it["kind"] == kind] if kinds else responses
+    return found[0] if found else None
+
+
+def outgoing_state(file, response, later, age):
     state = file["state"]
-    if state == "waiting" and file["mark"]:
+    if state == "refused" and response:
+        state = {"EERP": "delivered", "NERP": "returned"}[response["kind"]]
+    elif state == "refused" and file["reason"] == "13":
+        state = "duplicate"
+    elif state == "waiting" and file["mark"]:
         state = "partly"
-    if state == "closing" and (moment_of(file) or now) < now - timedelta(hours=1):
-        state = "stuck"
-    if state == "refused" and file["reason"] == "13":
-        state = {"EERP": "delivered", "NERP": "returned"}[response["kind"]] if response else "duplicate"
-    reason = note = None
-    if state in ("refused", "duplicate"):
+    if later and state in ("refused", "duplicate", "returned"):
+        return "returned_again" if state == "returned" else "refused_again"
+    return late_or_not(state, age)
+
+
+def outgoing_item(file, responses, newest, now, zone):
+    age, response = age_of(file, now), response_for(file, responses)
+    last = newest[file["destination"], file["dataset"]]
+    state = outgoing_state(file, response, last if last > file["no"] else None, age)
+    reason = ""
+    if response and response["kind"] == "NERP":
+        reason = reason_of(response["reason"], NEGATIVE_REASONS)
+    elif file["state"] == "refused":
         reason = reason_of(file["reason"], START_REASONS)
-    elif state == "returned" and response:
-        reason, note = reason_of(response["reason"], NEGATIVE_REASONS), plain(response["note"]) or None
-    about = plain(file["description"]) or None
-    return Shown(*about_file(file, file["destination"]), size_of(file), *OUTGOING[state], reason, note, about)
+    detail = outgoing_detail(file, state, age, last, reason)
+    duty = duty_of(state, file["no"], file["destination"], response)
+    row = shown_as("out", file, file["destination"], state, zone, detail, size_of(file["units"]), exact_size(file), duty)
+    return Item(row, "out", state, file, file["destination"], age, reason, response)
 
 
-def shown_received(response):
-    is_negative = response["kind"] == "NERP"
-    reason = reason_of(response["reason"], NEGATIVE_REASONS) if is_negative else None
-    note = plain(response["note"]) or None
-    answers = f"Outgoing file {response['file']}" if response["file"] else "No file that is here"
-    return Shown(*about_file(response, response["from"]), answers, *RECEIVED[response["kind"]], reason, note)
+def outgoing_detail(file, state, age, last, reason):
+    """The few words beside the state of an outgoing file."""
+    if state.endswith("_again"):
+        return f"by {last}"
+    if state == "handed_late":
+        return f"by {span_of(age - timedelta(days=1))}"
+    if state == "delivered" and file["state"] == "refused":
+        return f"EERP came, after {reason}"
+    part = [f"{100 * file['mark'] // file['rows']} %"] if state.startswith("partly") else []
+    old = [f"{span_of(age)} old"] if state.endswith("_late") else []
+    return ", ".join(part + old) or reason
 
 
-def shown_issued(response, file):
-    reason = reason_of(response["reason"], NEGATIVE_REASONS) if response["kind"] == "NERP" else None
-    about = plain(file["description"]) or None
-    return Shown(*about_file(file, file["originator"]), None, *ISSUED[response["kind"], response["sent"]], reason, None, about)
+def received_item(response, zone):
+    reason = reason_of(response["reason"], NEGATIVE_REASONS) if response["kind"] == "NERP" else ""
+    answers = f"File {response['file']}" if response["file"] else "None here"
+    state = response["kind"].lower()
+    row = shown_as("received", response, response["from"], state, zone, reason, answers)
+    return Item(row, "received", state, response, response["from"], None, reason, response)
+
+
+def issued_item(response, file, zone):
+    reason = reason_of(response["reason"], NEGATIVE_REASONS) if response["kind"] == "NERP" else ""
+    state = due_or_sent(response)
+    row = shown_as("issued", file, file["originator"], state, zone, reason)
+    return Item(row, "issued", state, file, file["originator"], None, reason, response)
 
 
 def to_do(views):
     """The summary: how many files need somebody, and why."""
-    sums = {
-        ("in", "To be released"): "to be released",
-        ("out", "Not confirmed for long"): "not confirmed for long",
-        ("out", "Refused by the partner"): "refused by a partner",
-        ("out", "Refused as a duplicate"): "refused as a duplicate",
-        ("out", "Returned (NERP)"): "returned by a partner",
+    told = []
+    for view, states in (("in", STATES["in"]), ("out", STATES["out"])):
+        for state in [it for it in states if it in SUMS]:
+            found = [it for it in views[view] if it.state == state]
+            if found:
+                told.append(tile_of(state, found))
+    return told
+
+
+def tile_of(state, found):
+    """How the summary speaks of the files in a state: the oldest if they are late, and the reason if all have the same."""
+    one, many = SUMS[state]
+    reasons = {it.reason for it in found}
+    oldest = max(it.age or timedelta() for it in found)
+    more = ""
+    if state.endswith("_late") and oldest > timedelta():
+        more = f", oldest {span_of(oldest)}"
+    elif len(reasons) == 1 and reasons != {""}:
+        more = f", {reasons.pop()}"
+    return f"{len(found):,} {(many if len(found) > 1 else None) or one}{more}"
+
+
+def unlooked(views):
+    """What the page says that it hasn't looked at or doesn't count."""
+    told = UNLOOKED
+    titles = {"in": "incoming", "out": "outgoing"}
+    undated = [f"{titles[view]} {it.file['no']}" for view in titles for it in views[view] if it.state in LATE_FROM and it.age is None]
+    if undated:
+        rest = f" and {len(undated) - 5:,} more" if len(undated) > 5 else ""
+        told += f"Not looked at, since the stamp tells no age: {', '.join(undated[:5])}{rest}. "
+    counts = {state: sum(it.state == f"{state}_again" for it in views["out"]) for state in ("refused", "returned")}
+    again = [f"{count:,} {state}" for state, count in counts.items() if count]
+    return told + (f"Not counted, since a later file to the partner has their name: {', '.join(again)}." if again else "")
+
+
+def in_order(found, column, is_down):
+    """Items, which are newest first, sorted by a column; of two that are equal the newer one comes first."""
+    keys = {
+        "no": lambda it: it.file["no"],
+        "partner": lambda it: in_utf_16(it.partner),
+        "name": lambda it: in_utf_16(it.file["dataset"]),
+        "when": lambda it: in_utf_16(it.file["date"] + it.file["time"]),
+        "size": lambda it: it.file["units"],
+        "file": lambda it: it.response["file"],
+        "state": lambda it: list(STATES[it.view]).index(it.state),
     }
-    counts = {key: sum(row.words == key[1] for row in views[key[0]]) for key in sums}
-    return [f"{count:,} {sums[key]}" for key, count in counts.items() if count]
+    # With `reverse`, too, equal ones keep their order.
+    return sorted(found, key=keys[column], reverse=is_down)
+
+
+def in_utf_16(text):
+    """A text as JavaScript compares it with others."""
+    return text.encode("utf-16-be", "surrogatepass")

@@ -6,7 +6,7 @@
 
 The copy is crates/oftp_page/src/page.rt. The page's policy allows only the script and the style with these hashes, and no text to
 become markup. Nothing in the page is loaded from elsewhere. It knows each state that the listing names (oftp_listing/specs/Names.antt), and
-has the words of oftp_wire/specs/Reasons.antt for the reasons there.
+has the words of oftp_wire/specs/Reasons.antt for the reasons there. Each state in which a file may be late has a bound, which the page tells.
 """
 
 import base64
@@ -32,6 +32,7 @@ POLICY = [
 FORBIDDEN = [
     *("innerHTML", "outerHTML", "insertAdjacentHTML", "document.write", "createContextualFragment", "DOMParser", "setHTML", "srcdoc"),
     *("eval(", "Function(", "import(", "://", "@import", "url(", " src=", "XMLHttpRequest", "WebSocket", "EventSource", "sendBeacon"),
+    *("execCommand", "window.open", "location.href", "location.assign", "postMessage"),
 ]
 MARKS = '"###'
 
@@ -86,6 +87,12 @@ def states_shown(text):
     return {name: set(re.findall(r"^    (\w+): \{", body, re.M)) | more.get(name, set()) for name, body in lists}
 
 
+def keys_of(text, name):
+    """The keys of this table of the page."""
+    found = re.search(rf"const {name} = \{{(.*?)\}};", text, re.S)
+    return set(re.findall(r"(\w+): ", found.group(1))) if found else set()
+
+
 def judged(text):
     """The demands on the page, and whether each is met."""
     policy = policy_of(text)
@@ -101,6 +108,8 @@ def judged(text):
         yield f"{name} has no other reason", set(shown) == set(told.items())
     for side, name in states_told():
         yield f"it knows the {side} state {name}", name in states_shown(text).get({"incoming": "in", "outgoing": "out"}[side], ())
+    late = {it.removesuffix("_late") for states in states_shown(text).values() for it in states if it.endswith("_late")}
+    yield "it has a bound, and the words for it, for each state in which a file may be late", late == keys_of(text, "LATE_AFTER") == keys_of(text, "LATE_IF")
     yield "it has a browser ask for no icon", '<link rel="icon" href="data:,">' in text
     yield "no line of it is longer than 180 characters", all(len(line) <= 180 for line in text.splitlines())
     yield "it can stand in a text of the program", MARKS not in text

@@ -3,14 +3,17 @@
 
     checks/scenarios/page.py [--pictures FOLDER] [--page FILE] [NAME ..]     cases below by their names; all if none is named
     checks/scenarios/page.py [--pictures FOLDER] --base URL                  the page and the lists of another server
+    checks/scenarios/page.py --screenshot FILE                               writes a picture of a supplier's day, and tries nothing
 
 The page is crates/oftp_page/src/page.html, or FILE. Most lists are made (`checks/lib/page_lists.py`): a server in this script returns
 both, and counts the requests. In three cases the built program answers, in two of them from databases of rows/listing: `http` returns the
-lists, and `run` also the page. The browser resolves no address but this machine's. `--pictures` writes screenshots. Without a browser
-nothing is tried. The last line is `N passed, M failed`; before it comes the time for 10,000 files.
+lists, and `run` also the page. The browser resolves no address but this machine's. `--pictures` writes screenshots. The picture of
+docs/OPERATING.md is `--screenshot docs/page.png`, and nothing compares it. Without a browser nothing is tried. The last line is
+`N passed, M failed`; before it comes the time for 10,000 files.
 """
 
 import argparse
+import json
 import subprocess
 import sys
 import tempfile
@@ -26,14 +29,18 @@ sys.path.insert(0, str(Path(__file__).resolve().parents[1] / "lib"))
 import page_lists
 from browser import Browser, Failed, Tab, chromium
 from listing_files import Listing, Request
-from page_lists import HOSTILE, VIEWS, Lists, Shown, utc_now
+from page_lists import HOSTILE, LATE_FROM, VIEWS, Lists, Shown, utc_now
 from program import PROGRAM, ROOT
 from row_files import ROWS, Bad
 from services import BOOK, CARMAKER, Resident, Service, Wrong, expect, free_port
 
 PAGE = ROOT / "crates/oftp_page/src/page.html"
-WIDTHS = (1024, 400)
+WIDTHS = (1280, 1024, 400, 320)
+# The widths at which the files are a table, and those at which they are cards.
+WIDE, NARROW = (1280, 1024), (400, 320)
 HEIGHT = 800
+# The height in pixels of a file's line, where nobody has to act.
+LINE_HEIGHT = 40
 # The requests that a page may make to its station.
 ASKED = {"/", "/in", "/out", "/responses"}
 # How many rows the page draws at once.
@@ -120,45 +127,67 @@ class Elsewhere:
 
 # The rows of the table, as Shown has them.
 READ_ROWS = """
-[...document.querySelectorAll("#list tbody tr")].map((row) => {
-  const text = (name) => {
-    const part = row.querySelector(name);
-    return part && (part.localName === "details" ? part.lastElementChild : part).textContent;
-  };
-  return [text(".no"), text(".partner > :first-child"), text(".name > :first-child"), text(".when"), text(".size, .file"), text(".words"),
-    row.className, text(".reason"), text(".note"), text(".about"), row.querySelector(".pill") !== null];
+[...document.querySelectorAll("#list tbody")].map((body) => {
+  const part = (name) => body.querySelector(name);
+  const text = (name) => part(name)?.textContent ?? null;
+  return [text(".number"), text("td.partner"), text(".name .few"), text(".about"), text("td.when"), part("td.when [title]")?.title,
+    text("td.size, td.file"), part("td.size [title]")?.title ?? null, text(".words"), text(".detail"), body.className.split(" ")[0], text(".duty")];
 })"""
-# How far any visible element extends beyond the window, and texts that are cut off.
+# How far any visible element extends beyond the window, cells with more than their width, parts with more than their height, which lies over
+# others then, and names and partners that are cut off.
 READ_OVERFLOW = """
 (() => {
   const root = document.scrollingElement;
   const told = (it) => [it.scrollWidth, it.clientWidth, it.outerHTML.slice(0, 80)];
-  const seen = [...document.body.querySelectorAll("*")].filter((it) => !it.closest(".unseen, thead") && it.getClientRects().length);
+  const hides = (it) => it.matches(".unseen, .skip:not(:focus)") || getComputedStyle(it).clipPath !== "none";
+  const isSeen = (it) => { for (; it; it = it.parentElement) { if (hides(it)) return false; } return true; };
+  const seen = [...document.body.querySelectorAll("*")].filter((it) => it.getClientRects().length && isSeen(it));
   const out = seen.filter((it) => it.getBoundingClientRect().right > root.clientWidth + 1 || it.getBoundingClientRect().left < -1);
-  const cut = seen.filter((it) => it.matches(".text") && it.scrollWidth > it.clientWidth + 1);
-  return [Math.max(0, root.scrollWidth - root.clientWidth), out.map(told), cut.map(told)];
+  const full = seen.filter((it) => it.matches("td, th") && it.scrollWidth > it.clientWidth + 1
+    || it.matches("header, form, form > div, nav, ul, p, details, .line, dl, tbody") && it.scrollHeight > it.clientHeight + 2);
+  const cut = seen.filter((it) => it.matches(".few") && it.scrollHeight > it.clientHeight + 1);
+  return [Math.max(0, root.scrollWidth - root.clientWidth), out.map(told), full.map(told), cut.map(told)];
 })()"""
-# The texts whose contrast with their background is too low (WCAG 2.1, 1.4.3).
-READ_CONTRAST = """
-(() => {
+# What the two scripts below measure contrasts with (WCAG 2.1): the ratio of two colours, and the background of an element.
+CONTRAST = """
   const parts = (colour) => colour.match(/[\\d.]+/g).map(Number);
   const light = (colour) => parts(colour).slice(0, 3).map((it) => it / 255)
     .map((it) => it <= 0.03928 ? it / 12.92 : ((it + 0.055) / 1.055) ** 2.4)
     .reduce((sum, it, at) => sum + it * [0.2126, 0.7152, 0.0722][at], 0);
+  const ratio = (colour, ground) => {
+    const [one, other] = [light(colour), light(ground)].sort((a, b) => b - a);
+    return (one + 0.05) / (other + 0.05);
+  };
   const behind = (it) => {
     const colour = getComputedStyle(it).backgroundColor;
     return (parts(colour)[3] ?? 1) > 0 || !it.parentElement ? colour : behind(it.parentElement);
   };
+"""
+# The texts whose contrast with their background is too low (1.4.3).
+READ_FAINT_TEXTS = f"""
+(() => {{{CONTRAST}
   const faint = [];
-  for (const it of document.body.querySelectorAll("*")) {
-    const says = [...it.childNodes].some((part) => part.nodeType === Node.TEXT_NODE && part.data.trim());
-    if (says && it.getClientRects().length && !it.matches("script, :disabled, .unseen")) {
-      const [one, other] = [light(getComputedStyle(it).color), light(behind(it))].sort((a, b) => b - a);
-      if ((one + 0.05) / (other + 0.05) < 4.5) faint.push([it.outerHTML.slice(0, 80), (one + 0.05) / (other + 0.05)]);
-    }
-  }
+  for (const it of document.body.querySelectorAll("*")) {{
+    const says = it.matches("input") || [...it.childNodes].some((part) => part.nodeType === Node.TEXT_NODE && part.data.trim());
+    const found = ratio(getComputedStyle(it).color, behind(it));
+    if (says && it.getClientRects().length && !it.matches("script, :disabled, .unseen") && found < 4.5) faint.push([it.outerHTML.slice(0, 80), found]);
+  }}
   return faint;
-})()"""
+}})()"""
+# The controls that have no border, or one whose contrast with what is on either side of it is too low (1.4.11).
+READ_FAINT_BORDERS = f"""
+(() => {{{CONTRAST}
+  const faint = [];
+  for (const it of document.querySelectorAll("select, input, #clear, #fold, #next, .copy, #todo a")) {{
+    const style = getComputedStyle(it);
+    for (const side of it.getClientRects().length && style.visibility === "visible" ? ["Top", "Right", "Bottom", "Left"] : []) {{
+      const found = Math.min(...[behind(it), behind(it.parentElement)].map((ground) => ratio(style[`border${{side}}Color`], ground)));
+      const isThere = style[`border${{side}}Style`] !== "none" && parseFloat(style[`border${{side}}Width`]) >= 1;
+      if (!isThere || found < 3) faint.push([it.outerHTML.slice(0, 80), side, isThere, found]);
+    }}
+  }}
+  return faint;
+}})()"""
 # Makes the page renew itself now, as it does when somebody comes back to it.
 RENEW = 'document.dispatchEvent(new Event("visibilitychange"))'
 IS_DRAWN = 'document.querySelector("#main")?.hidden === false'
@@ -173,36 +202,68 @@ def opened(browser, server, width, **how):
     return tab
 
 
-def choose(tab, view):
-    tab.value(f'void (location.hash = "view={view}")')
-    tab.until(f"{CHOSEN} === '{view}'")
+def choose(tab, view, **chosen):
+    more = "".join(f"&{key}={value}" for key, value in chosen.items())
+    tab.value(f'location.hash = "view={view}{more}", new Promise((done) => setTimeout(done, 5))')
+    tab.until(f"{CHOSEN} === '{view}' && location.hash === '#view={view}{more}'")
 
 
 def rows_of(tab):
-    """The rows that are drawn, and whether each says that it needs somebody."""
-    told = tab.value(READ_ROWS)
-    return [Shown(*row[:-1]) for row in told], [row[-1] for row in told]
+    """The rows that are drawn."""
+    return [Shown(*row) for row in tab.value(READ_ROWS)]
 
 
-def expect_shown(tab, lists, now):
-    """Each list is shown as the model says, all of it or as far as it is drawn; so is the summary, and all of it fits the window."""
-    wanted = page_lists.shown(lists, now)
+def numbers_of(tab):
+    return [int(row.no) for row in rows_of(tab)]
+
+
+def text_of(tab, name):
+    return tab.value(f"document.querySelector('{name}').textContent")
+
+
+def tiles_of(tab):
+    """What is to be done, as the page sums it up."""
+    return tab.value('[...document.querySelectorAll("#todo a")].map((it) => it.textContent)')
+
+
+def expect_shown(tab, lists, now, zone="UTC", is_cut=False):
+    """Each list is shown as the model says, all of it or as far as it is drawn; so is the summary, and all of it fits the window, and can be
+    told from what surrounds it. Only a name that no protocol allows may be cut off."""
+    found = page_lists.items(lists, now, zone)
+    wanted = page_lists.shown(lists, now, zone)
     for view in VIEWS:
         choose(tab, view)
-        rows, pills = rows_of(tab)
-        for found, row in zip(rows, wanted[view]):
-            expect(found, row, f"{view}: a row")
+        rows = rows_of(tab)
+        for row, model in zip(rows, wanted[view]):
+            expect(row, model, f"{view}: a row")
         expect(len(rows), min(len(wanted[view]), ROWS_DRAWN), f"{view}: rows")
-        waits = [view in ("in", "out") and row.look in page_lists.TO_DO for row in rows]
-        expect(pills, waits, f"{view}: rows that wait for somebody")
+        expect([row.duty is not None for row in rows], [row.look in page_lists.TO_DO for row in rows], f"{view}: rows with a sentence")
         expect(tab.value('document.querySelector("#none").hidden'), bool(rows), f"{view}: whether it says that there is nothing")
-        expect(tab.value(READ_OVERFLOW), [0, [], []], f"{view}: what doesn't fit the window")
-        expect(tab.value(READ_CONTRAST), [], f"{view}: texts that are faint")
+        expect(text_of(tab, "#stamps"), stamps_told(view, zone, now), f"{view}: what it says of the stamps")
+        expect_fits(tab, view, is_cut)
     counts = tab.value('[...document.querySelectorAll("#views .count")].map((it) => it.textContent)')
     expect(counts, [f"{len(wanted[view]):,}" for view in VIEWS], "how many each list has")
-    todo = tab.value('[...document.querySelectorAll("#todo a")].map((it) => it.textContent)')
-    expect(todo, page_lists.to_do(wanted), "what waits for somebody")
-    expect(tab.value('document.querySelector("#idle").hidden'), bool(todo), "whether it says that nothing waits")
+    expect(tiles_of(tab), page_lists.to_do(found), "what is to be done")
+    idle = tab.value('[document.querySelector("#idle").hidden, document.querySelector("#idle").textContent]')
+    expect(idle, [bool(tiles_of(tab)), page_lists.IDLE], "whether it says that nothing needs anybody")
+    expect(text_of(tab, "#rules"), page_lists.RULES, "from when on a file is late")
+    expect(text_of(tab, "#unlooked"), page_lists.unlooked(found), "what isn't looked at")
+
+
+def stamps_told(view, zone, now):
+    """What the page says of the stamps of a list."""
+    if view in ("in", "issued"):
+        return "Stamps are shown as the sender wrote them. They tell no zone."
+    return f"Stamps are read as UTC, and shown in your zone, {page_lists.zone_text(zone, now)}."
+
+
+def expect_fits(tab, what, is_cut=False):
+    """All fits the window, and can be told from what surrounds it."""
+    *fits, cut = tab.value(READ_OVERFLOW)
+    expect(fits, [0, [], []], f"{what}: what doesn't fit the window")
+    expect([] if is_cut else cut, [], f"{what}: names that are cut off")
+    expect(tab.value(READ_FAINT_TEXTS), [], f"{what}: texts that are faint")
+    expect(tab.value(READ_FAINT_BORDERS), [], f"{what}: borders that are faint")
 
 
 def expect_quiet(tab, server):
@@ -228,11 +289,11 @@ def no_file(browser, picture):
 
 
 def every_state(browser, picture):
-    """30 files each way in all states, with all responses, in a light and in a dark scheme."""
+    """30 files each way in all states, with all responses, in a light and in a dark scheme, with closed and with open details."""
     now = utc_now()
     lists = page_lists.in_every_state(30, now)
-    said = [{row.words for row in page_lists.shown(lists, now)[view]} for view in VIEWS]
-    expect(said, [set(words) for words in page_lists.WORDS.values()], "states that the files are in")
+    said = {view: {it.state for it in found} for view, found in page_lists.items(lists, now).items()}
+    expect(said, {view: set(states) for view, states in page_lists.STATES.items()}, "states that the files are in")
     with Server(lists) as server:
         for width in WIDTHS:
             for scheme in ("light", "dark"):
@@ -241,26 +302,296 @@ def every_state(browser, picture):
                     for view in VIEWS:
                         choose(tab, view)
                         picture(tab, f"every_state_{view}_{width}_{scheme}", is_whole=True)
+                        tab.value('document.querySelectorAll(".open").forEach((it) => it.click())')
+                        tab.value('document.querySelectorAll("#fold, #paths summary").forEach((it) => it.click())')
+                        expect_fits(tab, f"{view}, open")
+                        picture(tab, f"open_{view}_{width}_{scheme}", is_whole=True)
+                        tab.value('document.querySelectorAll("#fold, #paths summary").forEach((it) => it.click())')
                     expect_quiet(tab, server)
+
+
+def one_line_a_file(browser, _picture):
+    """In a wide window a file about which nobody has to do anything takes one line, unless its partner has a very long code, and only the others
+    have a sentence."""
+    now = utc_now()
+    with Server(page_lists.in_every_state(30, now)) as server, opened(browser, server, WIDE[0]) as tab:
+        for view in ("in", "out"):
+            choose(tab, view)
+            heights = tab.value("""[...document.querySelectorAll("#list tbody")]
+              .filter((it) => !it.querySelector(".duty") && it.querySelector(".partner").textContent.length <= 20).map((it) => it.offsetHeight)""")
+            expect(len(heights) > 10 and max(heights) <= LINE_HEIGHT, True, f"{view}: heights of rows without a sentence, {heights}")
+            said = tab.value('[...document.querySelectorAll("#list tbody .state")].map((it) => it.textContent)')
+            expect([it for it in said if "." in it], [], f"{view}: sentences beside a state")
+
+
+def sizes(browser, _picture):
+    """Sizes are in bytes, KB and MB, and have their exact number as title."""
+    wanted = {
+        **{0: "0 B", 6: "6 B", 999: "999 B", 1000: "1.0 KB", 1049: "1.0 KB", 9949: "9.9 KB", 9950: "10 KB", 18_142: "18 KB"},
+        **{999_499: "999 KB", 999_500: "1.0 MB", 60_000_000: "60.0 MB", 67_108_864: "67.1 MB"},
+    }
+    lists = Lists()
+    for units in wanted:
+        lists.came(units=units, rows=1, format="U")
+    with Server(lists) as server, opened(browser, server, WIDE[0]) as tab:
+        found = [(row.size, row.exact) for row in rows_of(tab)[::-1]]
+        expect(found, [(text, f"{units:,} bytes, unstructured") for units, text in wanted.items()], "sizes")
+
+
+def late_by_age(browser, picture):
+    """In each state that has a bound a file is late from that age on, and not before; the page tells the bound, and how old the oldest is."""
+    now = utc_now()
+    rules = {
+        "open": lambda lists, age: lists.came("open", age=age, now=now),
+        "release": lambda lists, age: lists.came(age=age, now=now),
+        "waiting": lambda lists, age: lists.went(age=age, now=now),
+        "partly": lambda lists, age: lists.went(mark=1, age=age, now=now),
+        "closing": lambda lists, age: lists.went("closing", age=age, now=now),
+        "handed": lambda lists, age: lists.went("handed", age=age, now=now),
+    }
+    expect(set(rules), set(LATE_FROM), "states with a bound")
+    with Server(Lists()) as server, opened(browser, server, WIDE[0]) as tab:
+        for state, add in rules.items():
+            view = "in" if state in ("open", "release") else "out"
+            bound = timedelta(hours=LATE_FROM[state])
+            for age, is_late in ((bound - timedelta(minutes=4), False), (bound + timedelta(minutes=4), True), (bound * 5 + timedelta(minutes=4), True)):
+                server.lists = Lists()
+                add(server.lists, age)
+                renewed(tab)
+                choose(tab, view)
+                expect([row.words for row in rows_of(tab)], [page_lists.STATES[view][f"{state}_late" if is_late else state][0]], f"{state}, {age} old")
+                tiles = [f"1 {page_lists.SUMS[f'{state}_late'][0]}, oldest {page_lists.span_of(age)}"] if is_late else []
+                expect(tiles_of(tab), tiles if state != "release" or is_late else ["1 to be released"], f"the summary for {state}, {age} old")
+                expect_shown(tab, server.lists, now)
+        for state, add in rules.items():
+            for days in (2, 4):
+                add(server.lists, timedelta(days=days, minutes=4))
+        renewed(tab)
+        expect_shown(tab, server.lists, now)
+        picture(tab, "late_by_age")
+        expect_quiet(tab, server)
+
+
+def of_unknown_age(browser, picture):
+    """A file whose stamp is no date, or is ahead of every clock, isn't late; the page says that its age wasn't looked at, and which file it is."""
+    now = utc_now()
+    lists = Lists()
+    for _ in range(4):
+        lists.went("handed", date="20240230", time="0600000001")
+    lists.came("open", date="99999999", time="9999999999")
+    lists.went("delivered", "EERP", date="20240230", time="0600000001")
+    lists.went("waiting", age=-timedelta(hours=14, minutes=5), now=now)
+    lists.went("waiting", age=-timedelta(hours=13, minutes=55), now=now)
+    with Server(lists) as server, opened(browser, server, WIDE[0]) as tab:
+        wanted = "Not looked at, since the stamp tells no age: incoming 1, outgoing 6, outgoing 4, outgoing 3, outgoing 2 and 1 more. "
+        expect(text_of(tab, "#unlooked"), page_lists.UNLOOKED + wanted, "which ages weren't looked at")
+        expect_shown(tab, lists, now)
+        picture(tab, "of_unknown_age")
+        tab.value('document.querySelectorAll("#unlooked a")[1].click()')
+        tab.until(f"{CHOSEN} === 'out'")
+        expect(numbers_of(tab), [6], "the file that the sentence leads to")
+        expect_quiet(tab, server)
+
+
+def never_nothing_to_do(browser, _picture):
+    """The page never says that there is nothing to do: it hasn't looked at whether partners are reached, and says so, whatever the files are."""
+    now = utc_now()
+    done = Lists()
+    done.came("whole", "EERP", True)
+    done.went("delivered", "EERP")
+    for lists in (Lists(), done, page_lists.in_every_state(30, now)):
+        with Server(lists) as server, opened(browser, server, NARROW[0]) as tab:
+            said = tab.value("document.body.innerText")
+            expect("Not looked at: whether partners are reached" in said, True, "whether it says what it hasn't looked at")
+            expect([it for it in ("nothing to do", "Nothing to do", "All is well", "Nothing:") if it in said], [], "what it promises")
+            expect(page_lists.IDLE in said, not page_lists.to_do(page_lists.items(lists, now)), "whether it says that no file needs anybody")
+
+
+def sent_again(browser, picture):
+    """A refused or returned file is no to-do any more once a later file to the same partner has its name: then that one counts. Another
+    partner's file, one of another name and an earlier one don't matter."""
+    now = utc_now()
+    partner, other = page_lists.PARTNERS[0], page_lists.PARTNERS[1]
+    ways = {
+        "refused": lambda lists: lists.went("refused", reason="03", dataset="A", destination=partner),
+        "duplicate": lambda lists: lists.went("refused", reason="13", dataset="A", destination=partner),
+        "returned": lambda lists: lists.went("returned", "NERP", response={"reason": "31"}, dataset="A", destination=partner),
+    }
+    with Server(Lists()) as server, opened(browser, server, WIDE[0]) as tab:
+        choose(tab, "out")
+        for state, add in ways.items():
+            for later in ("waiting", "handed", "refused"):
+                lists = server.lists = Lists()
+                lists.went("delivered", "EERP", dataset="A", destination=partner)
+                add(lists)
+                lists.went("handed", dataset="A", destination=other)
+                lists.went("handed", dataset="B", destination=partner)
+                renewed(tab)
+                expect(rows_of(tab)[2].words, page_lists.STATES["out"][state][0], f"{state}, without a later file of its name")
+                expect(len(tiles_of(tab)), 1, f"what is to be done about a file: {state}")
+                lists.went(later, reason="05" if later == "refused" else "", dataset="A", destination=partner)
+                renewed(tab)
+                row = rows_of(tab)[3]
+                again = "Returned, name used again" if state == "returned" else "Refused, name used again"
+                expect((row.words, row.detail, row.look, row.duty), (again, "by 5", "rest", None), f"{state}, then {later}")
+                refused = ["1 refused by a partner, 05 maximum record length not supported"] if later == "refused" else []
+                expect(tiles_of(tab), refused, f"what is to be done once it was sent again: {state}, then {later}")
+                counted = f"Not counted, since a later file to the partner has their name: 1 {'returned' if state == 'returned' else 'refused'}."
+                expect(text_of(tab, "#unlooked").endswith(counted), True, "whether it says that it doesn't count the file")
+                expect_shown(tab, lists, now)
+                choose(tab, "out")
+        tab.value('document.querySelector("#unlooked a").click()')
+        tab.until("document.querySelectorAll('#list tbody').length === 1")
+        expect([row.words for row in rows_of(tab)], ["Returned, name used again"], "the files that the sentence leads to")
+        picture(tab, "sent_again")
+        expect_quiet(tab, server)
+
+
+def command_to_copy(browser, picture):
+    """What is to be released has its command, which a button copies, or marks where there is no clipboard. It has the paths that somebody has
+    entered, also once the page is loaded again, and no text of a partner."""
+    lists = Lists()
+    for text in HOSTILE[:3]:
+        lists.came(dataset=text, originator=text, description=text)
+    lists.came("whole", "EERP", True)
+    with Server(lists) as server:
+        browser.call("Browser.grantPermissions", permissions=["clipboardReadWrite", "clipboardSanitizedWrite"], origin=server.url.rstrip("/"))
+        for width in (WIDE[0], NARROW[1]):
+            with opened(browser, server, width) as tab:
+                tab.call("Emulation.setFocusEmulationEnabled", enabled=True)
+                commands = tab.value('[...document.querySelectorAll("code")].map((it) => it.textContent)')
+                expect(commands, [page_lists.command_for(no) for no in (3, 2, 1)], "the commands")
+                expect(pressed_copy(tab), (page_lists.command_for(3), "Copied", "Copied."), "what is copied, and what is said")
+                tab.until('document.querySelector(".copy").textContent === "Copy"')
+                tab.value("void Object.defineProperty(navigator, 'clipboard', { value: undefined })")
+                tab.value('document.querySelector(".copy").click()')
+                tab.until('document.querySelector(".copy").textContent === "Press Ctrl+C"')
+                expect(tab.value("getSelection().toString()"), page_lists.command_for(3), "what is marked")
+                entered = {"program": "./oftp_station", "database": "/tmp/my supplier's.db", "book": "book.toml"}
+                tab.value('document.querySelector("#paths summary").click()')
+                for key, text in entered.items():
+                    set_value(tab, key, text)
+                expect_fits(tab, "the paths", is_cut=True)
+                picture(tab, f"command_to_copy_{width}", is_whole=True)
+                quoted = {**entered, "database": "'/tmp/my supplier'\\''s.db'"}
+                expect(text_of(tab, "code"), page_lists.command_for(3, quoted), "the command with these paths")
+                tab.value("void location.reload()")
+                time.sleep(0.5)
+                tab.until(IS_DRAWN)
+                expect(text_of(tab, "code"), page_lists.command_for(3, quoted), "the command once the page is loaded again")
+                for key in entered:
+                    set_value(tab, key, "")
+                expect(text_of(tab, "code"), page_lists.command_for(3), "the command without these paths")
+                expect_quiet(tab, server)
+
+
+def pressed_copy(tab):
+    """What the first button copies, what it says then, and what a screen reader is told."""
+    tab.value('document.querySelector(".copy").focus()')
+    tab.key("Enter")
+    tab.until('document.querySelector(".copy").textContent !== "Copy"')
+    return tab.value("navigator.clipboard.readText()"), text_of(tab, ".copy"), text_of(tab, "#said")
+
+
+def details(browser, picture):
+    """A click on a row, or its button, opens all that is known of a file, and closes it again; to mark a text in it doesn't."""
+    now = utc_now()
+    lists = page_lists.in_every_state(30, now)
+    gone = page_lists.items(lists, now)
+    with Server(lists) as server:
+        for width in (WIDE[0], NARROW[1]):
+            with opened(browser, server, width) as tab:
+                for view, no in (("in", 30), ("out", 25), ("out", 3), ("received", 1)):
+                    choose(tab, view)
+                    item = next(it for it in gone[view] if it.file["no"] == no)
+                    body = f'document.querySelector(\'#list tbody[data-no="{no}"]\')'
+                    tab.value(f"{body}.querySelector('.words').click()")
+                    expect(tab.value(f"{body}.querySelector('.open').getAttribute('aria-expanded')"), "true", "whether it is open")
+                    facts = dict(tab.value(f"""[...{body}.querySelectorAll("dt")].map((it) => [it.textContent, it.nextSibling.textContent])"""))
+                    expect(facts, facts_of(item), f"{view}: all about {no}")
+                    expect_fits(tab, f"{view}: open details")
+                    tab.value(f"{body}.querySelector('.open').focus()")
+                    tab.key("Enter")
+                    closed = tab.value(f"[{body}.querySelector('dl'), document.activeElement.getAttribute('aria-expanded')]")
+                    expect(closed, [None, "false"], "what is left of it, and where the keyboard is")
+                    tab.value(f"getSelection().selectAllChildren({body}.querySelector('.name')), {body}.querySelector('.name').click()")
+                    expect(tab.value(f"{body}.querySelector('dl')"), None, "what marking a text opens")
+                    tab.value("getSelection().removeAllRanges()")
+                picture(tab, f"details_{width}")
+                expect_quiet(tab, server)
+
+
+def facts_of(item):
+    """All that the page knows of an item."""
+    file, shown, response = item.file, item.shown, item.response or {}
+    facts = {
+        **{"Name": shown.name, "Description": shown.about, "From": file.get("originator", file.get("from")), "To": file.get("destination")},
+        **{"Stamp": shown.stamp, "Size": shown.exact, "Reason": item.reason, "Text": response.get("note"), "Created by": response.get("creator")},
+    }
+    if item.state.startswith("partly"):
+        rows = page_lists.counted(file["rows"], "record" if file["format"] in "FV" else "block")
+        facts["Acknowledged"] = f"{file['mark']:,} of {rows}"
+    return {key: page_lists.plain(text) for key, text in facts.items() if text}
+
+
+def sorting(browser, picture):
+    """Each column sorts its list both ways, by its head or by the field for narrow windows; the address keeps it."""
+    now = utc_now()
+    lists = page_lists.in_every_state(30, now)
+    found = page_lists.items(lists, now)
+    columns = {"in": "no partner name when size state", "out": "no partner name when size state"}
+    columns |= {"received": "no partner name when file state", "issued": "no partner name when state"}
+    with Server(lists) as server:
+        with opened(browser, server, WIDE[0]) as tab:
+            for view in VIEWS:
+                choose(tab, view)
+                expect(sorted_by(tab), [["no", "descending"]], f"{view}: how it is sorted at first")
+                for column in columns[view].split():
+                    first, second = ("descending", "ascending") if column in ("no", "when", "size", "file") else ("ascending", "descending")
+                    for way in ((second, first) if column == "no" else (first, second)):
+                        tab.value(f"document.querySelector('thead [data-column={column}]').click()")
+                        expect(sorted_by(tab), [[column, way]], f"{view}: how it is sorted")
+                        wanted = page_lists.in_order(found[view], column, way == "descending")
+                        expect(numbers_of(tab), [it.file["no"] for it in wanted], f"{view}, {way} by {column}")
+            tab.value("document.querySelector('thead [data-column=name]').focus()")
+            tab.key("Enter")
+            expect(tab.value("document.activeElement.dataset.column"), "name", "where the keyboard is once a head was pressed")
+            tab.value("void location.reload()")
+            time.sleep(0.5)
+            tab.until(IS_DRAWN)
+            expect(sorted_by(tab), [["name", "ascending"]], "how it is sorted once it is loaded again")
+            picture(tab, "sorting")
+            expect_quiet(tab, server)
+        with opened(browser, server, NARROW[0]) as tab:
+            tab.value('document.querySelector("#fold").click()')
+            for sort, way in (("size", False), ("-size", True), ("-no", True)):
+                set_value(tab, "sort", sort)
+                wanted = page_lists.in_order(found["in"], sort.strip("-"), way)
+                expect(numbers_of(tab), [it.file["no"] for it in wanted], f"sorted by the field: {sort}")
+
+
+def sorted_by(tab):
+    """The columns that say that the list is sorted by them, and in which way."""
+    return tab.value('[...document.querySelectorAll("thead [aria-sort]")].map((it) => [it.className, it.getAttribute("aria-sort")])')
 
 
 def hostile_texts(browser, picture):
     """Texts that would be executed, be loaded or change their surroundings are shown as texts, and a long one stays within its row."""
     now = utc_now()
-    kinds = {"tr", "th", "td", "bdi", "span", "time", "details", "summary"}
+    kinds = {"tr", "th", "td", "bdi", "span", "div", "button", "p", "code", "dl", "dt", "dd"}
     with Server(page_lists.hostile(now)) as server:
         for width in WIDTHS:
             with opened(browser, server, width) as tab:
-                expect_shown(tab, server.lists, now)
+                expect_shown(tab, server.lists, now, is_cut=True)
                 for view in VIEWS:
                     choose(tab, view)
+                    heights = tab.value('[...document.querySelectorAll("#list tbody")].map((it) => it.offsetHeight)')
+                    expect([it for it in heights if it > HEIGHT / 2], [], "heights of rows that leave no room for others")
+                    picture(tab, f"hostile_{view}_{width}", is_whole=True)
+                    tab.value('document.querySelectorAll(".open").forEach((it) => it.click())')
+                    expect_fits(tab, f"{view}, with all texts open", is_cut=True)
                     found = set(tab.value('[...document.querySelectorAll("#list tbody *")].map((it) => it.localName)'))
                     expect(found - kinds, set(), "elements of no kind that the page makes")
-                    heights = tab.value('[...document.querySelectorAll("#list tbody tr")].map((it) => it.offsetHeight)')
-                    expect([it for it in heights if it > HEIGHT], [], "heights of rows that no window has")
-                    picture(tab, f"hostile_{view}_{width}", is_whole=True)
-                    tab.value('document.querySelectorAll("details").forEach((it) => { it.open = true; })')
-                    expect(tab.value(READ_OVERFLOW), [0, [], []], "what doesn't fit the window once all texts are open")
                 chosen_by_text(tab)
                 expect_quiet(tab, server)
 
@@ -269,14 +600,15 @@ def chosen_by_text(tab):
     """Filtering by such a text, typed or in the address, finds the files that have it."""
     for text in [it for it in HOSTILE if it.isprintable() and 2 < len(it) < 100]:
         choose(tab, "in")
+        tab.value('document.querySelector("#name").closest("form").classList.add("unfolded")')
         tab.value('document.querySelector("#name").focus(), document.querySelector("#name").select()')
         tab.type(text)
         wanted = [page_lists.plain(it) for it in HOSTILE if text.lower() in it.lower()][::-1]
-        tab.until(f"document.querySelectorAll('#list tbody tr').length === {len(wanted)}")
-        expect([row.name for row in rows_of(tab)[0]], wanted, f"files of the name {text!r}")
+        tab.until(f"document.querySelectorAll('#list tbody').length === {len(wanted)}")
+        expect([row.name for row in rows_of(tab)], wanted, f"files of the name {text!r}")
         tab.value("void (location.hash = location.hash.replace('view=in', 'view=out'))")
         tab.until(f"{CHOSEN} === 'out'")
-        expect([row.name for row in rows_of(tab)[0]], wanted, f"outgoing files of the name {text!r}")
+        expect([row.name for row in rows_of(tab)], wanted, f"outgoing files of the name {text!r}")
 
 
 def many_files(browser, picture):
@@ -284,29 +616,30 @@ def many_files(browser, picture):
     now = utc_now()
     watch = """
     new MutationObserver((_, watch) => {
-      if (document.querySelector("#list tbody tr")) {
+      if (document.querySelector("#list tbody")) {
         watch.disconnect();
         window.drawn = performance.now() - performance.getEntriesByType("resource").at(-1).responseEnd;
       }
     }).observe(document, { childList: true, subtree: true });"""
     with Server(page_lists.in_every_state(MANY, now)) as server:
-        for width in WIDTHS:
+        for width in (WIDE[0], NARROW[0]):
             with Tab(browser, width, HEIGHT) as tab:
                 tab.first(watch)
                 tab.go(server.url)
                 tab.until("window.drawn !== undefined")
                 drawn = tab.value("window.drawn")
                 expect_shown(tab, server.lists, now)
-                filtered = typed_at_once(tab)
+                filtered, ordered = typed_at_once(tab, server.lists), sorted_at_once(tab, server.lists, now)
                 expect_quiet(tab, server)
-                print(f"{MANY} files each way, {width} pixels: drawn in {drawn:.0f} ms behind the last answer, filtered in {filtered:.0f} ms")
+                times = f"drawn in {drawn:.0f} ms behind the last answer, filtered in {filtered:.0f} ms, sorted in {ordered:.0f} ms"
+                print(f"{MANY} files each way, {width} pixels: {times}")
                 picture(tab, f"many_{width}")
                 expect(drawn < DRAWN_WITHIN, True, f"drawn within {DRAWN_WITHIN} ms")
-                expect(filtered < FILTERED_WITHIN, True, f"filtered within {FILTERED_WITHIN} ms")
+                expect(max(filtered, ordered) < FILTERED_WITHIN, True, f"filtered and sorted within {FILTERED_WITHIN} ms")
                 more_as_one_comes(tab)
 
 
-def typed_at_once(tab):
+def typed_at_once(tab, lists):
     """The milliseconds for filtering by a typed name."""
     choose(tab, "out")
     took = tab.value("""(() => {
@@ -317,10 +650,26 @@ def typed_at_once(tab):
       document.body.getBoundingClientRect();
       return performance.now() - begun;
     })()""")
-    wanted = sum(f"DISPATCH.{no}".startswith("DISPATCH.77") for no in range(1, MANY + 1))
-    expect(len(rows_of(tab)[0]), min(wanted, ROWS_DRAWN), "files of this name")
-    expect(tab.value('document.querySelector("#shown").textContent'), f"{wanted} of {MANY:,} files", "how many files are found")
+    wanted = sum("DISPATCH.77" in it["dataset"] for it in lists.outgoing)
+    expect(len(rows_of(tab)), min(wanted, ROWS_DRAWN), "files of this name")
+    expect(text_of(tab, "#shown"), f"{wanted} of {MANY:,} files", "how many files are found")
     tab.value('document.querySelector("#clear").click()')
+    return took
+
+
+def sorted_at_once(tab, lists, now):
+    """The milliseconds for sorting by the names."""
+    choose(tab, "out")
+    took = tab.value("""(() => {
+      const begun = performance.now();
+      const sort = document.querySelector("#sort");
+      sort.value = "name";
+      sort.dispatchEvent(new Event("input", { bubbles: true }));
+      document.body.getBoundingClientRect();
+      return performance.now() - begun;
+    })()""")
+    wanted = page_lists.in_order(page_lists.items(lists, now)["out"], "name", False)
+    expect(numbers_of(tab), [it.file["no"] for it in wanted[:ROWS_DRAWN]], "the first files by their names")
     return took
 
 
@@ -329,40 +678,66 @@ def more_as_one_comes(tab):
     choose(tab, "in")
     for hundreds in (2, 3):
         tab.value("scrollTo(0, document.body.scrollHeight)")
-        tab.until(f"document.querySelectorAll('#list tbody tr').length >= {hundreds * ROWS_DRAWN}")
-    expect(tab.value("document.querySelectorAll('#list tbody tr').length") <= 6 * ROWS_DRAWN, True, "no more than is looked at is drawn")
+        tab.until(f"document.querySelectorAll('#list tbody').length >= {hundreds * ROWS_DRAWN}")
+    expect(tab.value("document.querySelectorAll('#list tbody').length") <= 6 * ROWS_DRAWN, True, "no more than is looked at is drawn")
 
 
 def filter_is_kept(browser, _picture):
     """The filter finds what it says, in each list; the address keeps it, and so does a page that renews itself."""
     now = utc_now()
-    with Server(page_lists.in_every_state(30, now)) as server, opened(browser, server, 1024) as tab:
-        wanted = page_lists.shown(server.lists, now)
-        partner, words = page_lists.PARTNERS[1], "Refused by the partner"
+    with Server(page_lists.in_every_state(30, now)) as server, opened(browser, server, WIDE[0]) as tab:
+        found = page_lists.items(server.lists, now)
+        partner = page_lists.PARTNERS[1]
         choose(tab, "out")
         set_value(tab, "partner", partner)
-        expect([row.no for row in rows_of(tab)[0]], [row.no for row in wanted["out"] if row.partner == partner], "files of a partner")
+        expect(numbers_of(tab), [it.file["no"] for it in found["out"] if it.partner == partner], "files of a partner")
         set_value(tab, "name", "dispatch.1")
-        named = [row for row in wanted["out"] if row.partner == partner and row.name.startswith("DISPATCH.1")]
-        expect([row.no for row in rows_of(tab)[0]], [row.no for row in named], "files of a partner and a name")
+        named = [it.file["no"] for it in found["out"] if it.partner == partner and it.file["dataset"].startswith("DISPATCH.1")]
+        expect(numbers_of(tab), named, "files of a partner and a name")
         set_value(tab, "partner", "")
         set_value(tab, "name", "")
-        for key, (say, _look) in page_lists.OUTGOING.items():
-            set_value(tab, "state", key)
-            expect([row.no for row in rows_of(tab)[0]], [row.no for row in wanted["out"] if row.words == say], f"files: {say}")
+        for state in page_lists.STATES["out"]:
+            set_value(tab, "state", state)
+            expect(numbers_of(tab), [it.file["no"] for it in found["out"] if it.state == state], f"files: {state}")
         set_value(tab, "state", "refused")
-        set_value(tab, "name", "6")
-        kept = [row.no for row in wanted["out"] if row.words == words and "6" in row.name]
+        set_value(tab, "name", "3")
+        kept = [it.file["no"] for it in found["out"] if it.state == "refused" and ("3" in it.file["dataset"] or it.file["no"] == 3)]
         for again in (RENEW, "location.reload()"):
             tab.value(f"void ({again})")
             time.sleep(0.5)
             tab.until(IS_DRAWN)
-            expect([row.no for row in rows_of(tab)[0]], kept, f"what is filtered after {again}")
+            expect(numbers_of(tab), kept, f"what is filtered after {again}")
             chosen = tab.value('[...document.querySelectorAll("#filter select, #filter input")].map((it) => it.value)')
-            expect(chosen, ["", "refused", "6"], f"the filter after {again}")
+            expect(chosen, ["", "refused", "", "", "3", "-no"], f"the filter after {again}")
         tab.value('document.querySelector("#todo a").click()')
-        tab.until(f"{CHOSEN} === 'in'")
-        expect({row.words for row in rows_of(tab)[0]}, {"To be released"}, "what the summary leads to")
+        tab.until("document.querySelectorAll('#list tbody .words').length && location.hash === '#view=in&state=open_late'")
+        expect({row.words for row in rows_of(tab)}, {"Incomplete, late"}, "what the summary leads to")
+        expect_quiet(tab, server)
+
+
+def filtered_by_day(browser, _picture):
+    """From a day to a day finds the files with such a stamp, as it is shown; a file without a date is of no day."""
+    lists = Lists()
+    for date in ("20260714", "20260715", "20260715", "20260716", "20260230"):
+        lists.came(date=date, time="2330000001")
+        lists.went(date=date, time="2330000001")
+    wanted = {
+        **{("", ""): [5, 4, 3, 2, 1], ("2026-07-15", ""): [4, 3, 2], ("", "2026-07-15"): [3, 2, 1], ("2026-07-15", "2026-07-15"): [3, 2]},
+        **{("2026-07-16", "2026-07-15"): [], ("2026-07-17", ""): []},
+    }
+    with Server(lists) as server, opened(browser, server, WIDE[0]) as tab:
+        for (since, until), numbers in wanted.items():
+            for view in ("in", "out"):
+                choose(tab, view)
+                set_value(tab, "since", since)
+                set_value(tab, "until", until)
+                expect(numbers_of(tab), numbers, f"{view} from {since} to {until}")
+                tab.value("void location.reload()")
+                time.sleep(0.3)
+                tab.until(IS_DRAWN)
+                expect(numbers_of(tab), numbers, f"{view} from {since} to {until}, loaded again")
+                tab.value('document.querySelector("#clear").click()')
+                expect(numbers_of(tab), [5, 4, 3, 2, 1], "the files once the filter is cleared")
         expect_quiet(tab, server)
 
 
@@ -370,7 +745,7 @@ def set_value(tab, control, value):
     """Sets a control as somebody does who chooses or types."""
     tab.value(f"""(() => {{
       const control = document.querySelector("#{control}");
-      control.value = "{value}";
+      control.value = {json.dumps(value)};
       control.dispatchEvent(new Event("input", {{ bubbles: true }}));
     }})()""")
 
@@ -378,9 +753,9 @@ def set_value(tab, control, value):
 def renews_itself(browser, _picture):
     """The page renews itself: rows that say the same stay, what is open stays open, and the row and the field in use keep their place."""
     now = utc_now()
-    with Server(page_lists.in_every_state(60, now)) as server, opened(browser, server, 1024) as tab:
-        tab.value('document.querySelector("details").open = true')
-        tab.value('document.querySelector("details summary").focus()')
+    with Server(page_lists.in_every_state(60, now)) as server, opened(browser, server, WIDE[0]) as tab:
+        tab.value('document.querySelectorAll(".open")[4].click()')
+        tab.value('document.querySelectorAll(".open")[4].focus()')
         changed = watched(tab)
         begin, before = time.monotonic(), len(server.asked)
         while len(server.asked) < before + 3 and time.monotonic() - begin < 60:
@@ -388,18 +763,59 @@ def renews_itself(browser, _picture):
         expect(PAUSE - 1 < time.monotonic() - begin < 60, True, "whether it asks again after its pause")
         expect(tab.value(changed), 0, "changes of the table where nothing changed")
         came = page_lists.incoming(61, now, description="just came")
-        server.lists.incoming = [{**it, "state": "whole"} if it["no"] == 60 else it for it in server.lists.incoming] + [came]
-        tab.value("""window.rows = [...document.querySelectorAll("#list tbody tr")];
+        server.lists.incoming = [{**it, "state": "whole"} if it["no"] == 56 else it for it in server.lists.incoming] + [came]
+        tab.value("""window.rows = [...document.querySelectorAll("#list tbody")];
           scrollTo(0, window.rows[30].getBoundingClientRect().top + scrollY);
           window.top30 = window.rows[30].getBoundingClientRect().top;""")
-        tab.value(f"void ({RENEW})")
-        tab.until("document.querySelector('#list tbody tr .no').textContent === '61'")
-        stay = "window.rows.every((row, at) => row === document.querySelectorAll('#list tbody tr')[at + 1])"
+        renewed(tab)
+        expect(rows_of(tab)[0].no, "61", "the newest file")
+        stay = "window.rows.every((row, at) => row === document.querySelectorAll('#list tbody')[at + 1])"
         expect(tab.value(stay), True, "whether the rows stay")
         expect(abs(tab.value("window.rows[30].getBoundingClientRect().top - window.top30")) < 2, True, "whether the place stays")
-        expect(tab.value('document.querySelectorAll("details[open]").length'), 1, "texts that stay open")
-        expect(tab.value('document.activeElement.localName'), "summary", "where the keyboard is")
-        expect(rows_of(tab)[0], page_lists.shown(server.lists, now)["in"], "the rows")
+        expect(tab.value('document.querySelectorAll("#list dl").length'), 1, "details that stay open")
+        expect(tab.value("document.activeElement === window.rows[4].querySelector('.open')"), True, "whether the keyboard stays")
+        expect(rows_of(tab), page_lists.shown(server.lists, now)["in"], "the rows")
+        expect_quiet(tab, server)
+
+
+def keeps_what_is_in_use(browser, _picture):
+    """While somebody types, sorts and scrolls, the page renews itself under it: half a date, a text, its order and its place are as before, also
+    where the row with the keyboard changes or moves, and where others go."""
+    now = utc_now()
+    with Server(page_lists.in_every_state(60, now)) as server, opened(browser, server, WIDE[0]) as tab:
+        choose(tab, "out")
+        tab.value("document.querySelector('thead [data-column=name]').click()")
+        tab.value('document.querySelector("#since").focus()')
+        for digit in "11":
+            tab.key(digit)
+        server.lists.came(now=now)
+        renewed(tab)
+        for digit in "012026":
+            tab.key(digit)
+        expect(tab.value('document.querySelector("#since").value'), "2026-11-01", "a date of which the half was typed before")
+        set_value(tab, "since", "")
+        tab.value('document.querySelector("#name").focus()')
+        tab.type("dis")
+        tab.value('document.querySelector("#name").setSelectionRange(1, 2)')
+        server.lists.went("handed", dataset="DISPATCH.0", now=now)
+        renewed(tab)
+        found = page_lists.items(server.lists, now)["out"]
+        wanted = page_lists.in_order([it for it in found if "DIS" in it.file["dataset"]], "name", False)
+        expect(numbers_of(tab), [it.file["no"] for it in wanted], "the files in their order")
+        used = tab.value("[document.activeElement.id, document.activeElement.value, document.activeElement.selectionStart]")
+        expect(used, ["name", "dis", 1], "the field in use")
+        set_value(tab, "name", "")
+        choose(tab, "out", sort="state")
+        tab.value("""window.body = document.querySelector('#list tbody[data-no="6"]'); window.body.querySelector(".open").focus();
+          scrollTo(0, document.querySelector("#list").getBoundingClientRect().top + scrollY + 400);""")
+        server.lists.outgoing = [{**it, "state": "delivered"} if it["no"] in (6, 7) else it for it in server.lists.outgoing]
+        renewed(tab)
+        expect(tab.value("document.activeElement === window.body.querySelector('.open')"), True, "whether the keyboard goes with its row")
+        expect(sorted_by(tab), [["state", "ascending"]], "how it is sorted")
+        server.lists.outgoing = server.lists.outgoing[:-3]
+        renewed(tab)
+        expect(len(rows_of(tab)), 58, "rows once three are gone")
+        expect(tab.value("document.activeElement === window.body.querySelector('.open')"), True, "whether the keyboard stays")
         expect_quiet(tab, server)
 
 
@@ -434,8 +850,8 @@ def says_when_it_cannot(browser, picture):
                 server.fault = fault
                 tab.value(f"void ({RENEW})")
                 tab.until(f'document.querySelector("#trouble").textContent.includes("{words}. What you see is of ")')
-                expect(rows_of(tab)[0], page_lists.shown(server.lists, now)["in"], "the rows")
-                expect(tab.value(READ_OVERFLOW), [0, [], []], "what doesn't fit the window")
+                expect(rows_of(tab), page_lists.shown(server.lists, now)["in"], "the rows")
+                expect_fits(tab, "trouble")
             picture(tab, "trouble_400")
             server.fault = None
             tab.value(f"void ({RENEW})")
@@ -443,45 +859,81 @@ def says_when_it_cannot(browser, picture):
 
 
 def by_keyboard(browser, _picture):
-    """Everything can be done by keyboard, each control has a name, and a table has its role at either width."""
+    """Everything can be done by keyboard, with a mark that can be seen; each control has a name, and a table has its role at any width."""
     now = utc_now()
     with Server(page_lists.in_every_state(30, now)) as server:
         for width in WIDTHS:
             with opened(browser, server, width) as tab:
-                nodes = [it for it in tab.call("Accessibility.getFullAXTree")["nodes"] if not it.get("ignored")]
-                names = {}
-                for node in nodes:
-                    names.setdefault(node["role"]["value"], []).append(node.get("name", {}).get("value", ""))
-                expect(sorted(names["combobox"] + names["searchbox"]), ["File name, description or number", "Partner", "State"], "fields")
-                heads = ["No.", "From", "File", "Date and time", "Size", "State"]
-                expect(names["columnheader"], heads, f"heads of the columns at {width} pixels")
-                expect((names["table"], len(names["row"])), (["Incoming files, newest first"], 31), f"the table at {width} pixels")
-                expect(len(names["rowheader"]), 30, f"heads of rows at {width} pixels")
-                expect("" in names.get("link", []) + names.get("button", []), False, "controls without a name")
-                passed_by = tabbed(tab)
-                wanted = page_lists.shown(server.lists, now)
-                links = page_lists.to_do(wanted) + [f"{title} {len(wanted[view])}" for view, title in TITLES.items()]
-                fields = ["select", "select", "input"]
-                expect([it for it in passed_by if it != "summary"], [*(f"a {it}" for it in links), *fields], "what the keyboard passes")
+                expect_named(tab, width)
+                found = page_lists.items(server.lists, now)
+                tiles = page_lists.to_do(found)
+                links = [*tiles, *page_lists.unlooked(found).rpartition(": ")[2].rstrip(".").split(", ")]
+                lists = [f"{title} {len(found[view])}" for view, title in TITLES.items()]
+                heads = ["No. ↓", *HEADS[1:]] if width in WIDE else []
+                fields = ["select#partner", "select#state", "input#since", "input#until", "input#name"]
+                rows = [name for it in found["in"] for name in ("button ▸", *(["button Copy"] if "release" in it.state else []))]
+                wanted = ["a Skip to the list", *(f"a {it}" for it in links), "summary Paths in the commands to copy", *(f"a {it}" for it in lists)]
+                wanted += fields if width in WIDE else ["button Filter and sort"]
+                expect(tabbed(tab), wanted + [f"button {it}" for it in heads] + rows, f"what the keyboard passes at {width} pixels")
+                skips(tab, width)
                 expect_quiet(tab, server)
 
 
 TITLES = {"in": "Incoming", "out": "Outgoing", "received": "Responses received", "issued": "Responses issued"}
+HEADS = ["No.", "From", "File", "Sender's stamp", "Size", "State"]
+
+
+def expect_named(tab, width):
+    """Each control has a name, and the table is one."""
+    if width in NARROW:
+        tab.value('document.querySelector("#fold").click()')
+    nodes = [it for it in tab.call("Accessibility.getFullAXTree")["nodes"] if not it.get("ignored")]
+    names = {}
+    for node in nodes:
+        names.setdefault(node["role"]["value"], []).append(node.get("name", {}).get("value", ""))
+    choices = ["Partner", "State", *(["Sorted by"] if width in NARROW else [])]
+    expect((names["combobox"], names["searchbox"]), (choices, ["File name, description or number"]), f"fields at {width} pixels")
+    expect(names["columnheader"], HEADS, f"heads of the columns at {width} pixels")
+    expect(names["table"], ["Incoming files"], f"the table at {width} pixels")
+    more = tab.value("document.querySelectorAll('#list .more').length")
+    expect((len(names["row"]), len(names["rowheader"])), (31 + more, 30), f"rows at {width} pixels, and their heads")
+    expect("" in names.get("link", []) + names.get("button", []), False, "controls without a name")
+    if width in NARROW:
+        tab.value('document.querySelector("#fold").click()')
 
 
 def tabbed(tab):
-    """The elements that the key Tab reaches, one after another, until it leaves the page."""
+    """The elements that the key Tab reaches, one after another, until it leaves the page. Each is marked so that one sees it."""
     passed_by = []
-    while len(passed_by) < 100:
+    while len(passed_by) < 300:
         tab.key("Tab")
-        at = tab.value("""(() => {
-          const it = document.activeElement;
-          return it === document.body ? "" : it.localName + (it.localName === "a" ? ` ${it.textContent}` : "");
-        })()""")
+        at, is_marked = tab.value(f"""(() => {{{CONTRAST}
+          const it = document.activeElement, style = getComputedStyle(it);
+          const isMarked = style.outlineStyle !== "none" && parseFloat(style.outlineWidth) >= 2 && it.getClientRects().length > 0
+            && ratio(style.outlineColor, behind(it.parentElement)) >= 3 && style.visibility === "visible";
+          return [it === document.body ? "" : it.localName + (it.matches("select, input") ? `#${{it.id}}` : ` ${{it.textContent}}`), isMarked];
+        }})()""")
         if not at:
             return passed_by
-        passed_by.append(at)
+        expect(is_marked, True, f"whether one sees that the keyboard is at {at}")
+        # The parts of a date are one field.
+        passed_by += [at] if not at.startswith("input#") or at not in passed_by else []
     return passed_by
+
+
+def skips(tab, width):
+    """The first link leads past all that is above the list, and leaves the chosen list as it is."""
+    choose(tab, "out", state="handed")
+    tab.value("document.activeElement.blur(), getSelection().removeAllRanges(), document.querySelector('#skip').focus()")
+    expect_fits(tab, "the link that skips")
+    tab.key("Enter")
+    expect(tab.value("[document.activeElement.id, location.hash]"), ["list", "#view=out&state=handed"], "where the first link leads")
+    tab.key("Tab")
+    where = "[document.activeElement.closest('table')?.id, document.activeElement.textContent]"
+    expect(tab.value(where), ["list", "No. ↓" if width in WIDE else "▸"], "what follows the link")
+    tab.value("document.querySelector('.open').focus()")
+    tab.key("Enter")
+    expect(tab.value("document.querySelectorAll('#list dl').length"), 1, "details that a key opens")
 
 
 def of_the_program(browser, picture):
@@ -531,7 +983,7 @@ def served_by_run(browser, picture):
             station.submit(room / "content")
             renewed(tab)
             choose(tab, "out")
-            expect([row.name for row in rows_of(tab)[0]], ["INV.1"], "the outgoing files")
+            expect([row.name for row in rows_of(tab)], ["INV.1"], "the outgoing files")
             expect_shown(tab, page_lists.read_lists(answer), utc_now())
             expect_quiet(tab, there)
             station.program.kill()
@@ -572,94 +1024,145 @@ def after_a_restore(browser, picture):
             there = There(f"http://127.0.0.1:{port}/")
             with Resident(room, "--http-port", str(port), book=book), opened(browser, there, 400) as tab:
                 choose(tab, "out")
-                expect(rows_of(tab)[0][0].words, "Waiting to be sent", "the file in the backup")
+                expect(rows_of(tab)[0].words, "Waiting to be sent, late", "the file in the backup")
                 call()
                 renewed(tab)
                 picture(tab, "after_a_restore")
-                expect(rows_of(tab)[0][0].words, "Refused as a duplicate", "the file that was sent again")
+                expect(rows_of(tab)[0].words, "Refused as a duplicate", "the file that was sent again")
                 expect(says_of(tab, 1, "with another date or time"), False, "whether it is to be submitted again")
                 expect(given("release", "--db", other.database, "--book", theirs, "1"), "done: release 1\n", "the release there")
                 call()
                 renewed(tab)
-                expect(rows_of(tab)[0][0].words, "Delivered", "the file once its EERP has come")
+                delivered = "Delivered", "EERP came, after 13 duplicate file", None
+                expect((rows_of(tab)[0].words, rows_of(tab)[0].detail, rows_of(tab)[0].duty), delivered, "the file once its EERP has come")
                 expect_quiet(tab, there)
 
 
 def renewed(tab):
     """Makes the page renew itself, and waits until it has."""
-    tab.value("window.before = renewedAt")
+    tab.value("window.before = updatedAt")
     tab.value(f"void ({RENEW})")
-    tab.until("renewedAt !== window.before")
+    tab.until("updatedAt !== window.before")
 
 
 def closing_for_long(browser, _picture):
     """A file that is younger than an hour stands out once the page has seen it closing for ten minutes, and not before."""
     now = utc_now()
-    file = page_lists.outgoing(1, now - timedelta(minutes=2), "closing")
-    with Server(Lists(outgoing=[file])) as server, opened(browser, server, 1024) as tab:
+    lists = Lists()
+    lists.went("closing", age=timedelta(minutes=2), now=now)
+    with Server(lists) as server, opened(browser, server, WIDE[0]) as tab:
         choose(tab, "out")
         tab.value("void (window.real = Date.now)")
-        for minutes, state, todo in ((0, "closing", []), (8, "closing", []), (10, "stuck", ["1 not confirmed for long"])):
+        late = ["1 not confirmed, late, oldest 12 minutes"]
+        for minutes, state, todo in ((0, "closing", []), (8, "closing", []), (10, "closing_late", late)):
             tab.value(f"void (Date.now = () => window.real() + {minutes * 60_000})")
             renewed(tab)
-            rows, pills = rows_of(tab)
-            told = tab.value('[...document.querySelectorAll("#todo a")].map((it) => it.textContent)')
-            found = [(row.words, row.look) for row in rows], pills, told
-            expect(found, ([page_lists.OUTGOING[state]], [bool(todo)], todo), f"a file that it has seen closing for {minutes} minutes")
+            found = [row.words for row in rows_of(tab)], tiles_of(tab)
+            expect(found, ([page_lists.STATES["out"][state][0]], todo), f"a file that it has seen closing for {minutes} minutes")
         expect_quiet(tab, server)
 
 
-def other_time_zones(browser, _picture):
-    """Dates and times of files are read as UTC, whatever the browser's time zone is."""
-    for zone in ("Europe/Berlin", "America/Mexico_City"):
+def other_time_zones(_browser, picture):
+    """In a browser of another zone this station's own stamps are read as UTC and shown by that zone's clock, in summer and in winter. A sender's
+    are shown as they came. A file is late by UTC, whatever the zone."""
+    clocks = {
+        "Europe/Berlin": ["2026-01-15 10:30:00", "2026-07-15 11:30:00", "2026-01-01 00:10:00"],
+        "America/Mexico_City": ["2026-01-15 03:30:00", "2026-07-15 03:30:00", "2025-12-31 17:10:00"],
+    }
+    written = [("20260115", "0930000001"), ("20260715", "0930000002"), ("20251231", "2310000003")]
+    for zone, wanted in clocks.items():
         now = utc_now()
-        files = [page_lists.outgoing(no, now - timedelta(minutes=minutes), "closing") for no, minutes in ((1, 65), (2, 55), (3, 2))]
-        with Server(Lists(outgoing=files)) as server, opened(browser, server, 1024, zone=zone) as tab:
-            expect(tab.value("Intl.DateTimeFormat().resolvedOptions().timeZone"), zone, "the browser's time zone")
-            choose(tab, "out")
-            wanted = ["Sent, not yet confirmed", "Sent, not yet confirmed", "Not confirmed for long"]
-            expect([row.words for row in rows_of(tab)[0]], wanted, f"files of 2, 55 and 65 minutes in {zone}")
-            expect_shown(tab, server.lists, now)
-            expect_quiet(tab, server)
+        lists = Lists()
+        for date, time_of_day in written:
+            lists.went("delivered", "EERP", date=date, time=time_of_day)
+            lists.came("whole", "EERP", True, date=date, time=time_of_day)
+        for minutes in (65, 55, 2):
+            lists.went("closing", age=timedelta(minutes=minutes), now=now)
+        for minutes in (-5, 5):
+            lists.went("handed", age=timedelta(hours=24, minutes=minutes), now=now)
+            lists.came(age=timedelta(hours=24, minutes=minutes), now=now)
+        with tempfile.TemporaryDirectory() as room, Browser(Path(room), zone) as browser, Server(lists) as server:
+            with opened(browser, server, WIDE[0]) as tab:
+                expect(tab.value("Intl.DateTimeFormat().resolvedOptions().timeZone"), zone, "the browser's time zone")
+                choose(tab, "out")
+                rows = rows_of(tab)[::-1]
+                expect([row.when for row in rows[:3]], wanted, f"this station's stamps in {zone}")
+                late = ["Sent, not confirmed, late", *2 * ["Sent, not yet confirmed"], "Handed over", "EERP overdue"]
+                expect([row.words for row in rows[3:]], late, f"files of 65, 55 and 2 minutes, and of almost and of more than a day in {zone}")
+                set_value(tab, "until", wanted[2][:10])
+                expect(numbers_of(tab), [3], f"the files up to the day of the oldest in {zone}")
+                choose(tab, "in")
+                rows = rows_of(tab)[::-1]
+                expect([row.when for row in rows[:3]], ["2026-01-15 09:30:00", "2026-07-15 09:30:00", "2025-12-31 23:10:00"], "senders' stamps")
+                expect([row.words for row in rows[3:]], ["To be released", "To be released, late"], f"files that came, of about a day in {zone}")
+                expect(text_of(tab, "#updated").partition(", ")[2], page_lists.zone_text(zone, now), "the zone of the clock")
+                expect_shown(tab, lists, now, zone)
+                picture(tab, f"zone_{zone.partition('/')[2]}")
+                expect_quiet(tab, server)
 
 
 def refused_as_duplicate(browser, picture):
-    """A file that the partner has already isn't to be sent again. It is what its response says, if one is here or comes."""
+    """A file that the partner has already isn't to be sent again. It is what its response says, if one is here or comes: an EERP before all."""
     now = utc_now()
-    files = [page_lists.outgoing(no, now, "refused", reason="13" if no < 4 else "05") for no in (1, 2, 3, 4)]
-    responses = [
-        page_lists.received(1, files[1]),
-        page_lists.received(2, files[2], "NERP", "34", note="Part number 4711 isn't ours"),
-        page_lists.received(3, files[3]),
-    ]
-    with Server(Lists(outgoing=files, received=responses)) as server:
-        for width in WIDTHS:
-            server.lists.received = responses
+    lists = Lists()
+    kept = lists.went("refused", reason="13")
+    released = lists.went("refused", reason="13")
+    negative = lists.went("refused", reason="13")
+    lists.went("refused", reason="05")
+    both = lists.went("refused", reason="13")
+    lists.went("refused", "EERP", reason="12")
+    returned = {"kind": "NERP", "reason": "34", "note": "Part number 4711 isn't ours"}
+    for file, response in ((released, {}), (negative, returned), (both, {}), (both, returned)):
+        lists.received.append(page_lists.received(len(lists.received) + 1, file, **response))
+    before = list(lists.received)
+    with Server(lists) as server:
+        for width in (WIDE[0], NARROW[0]):
+            lists.received = list(before)
             with opened(browser, server, width) as tab:
-                expect_shown(tab, server.lists, now)
+                expect_shown(tab, lists, now)
                 choose(tab, "out")
                 picture(tab, f"refused_as_duplicate_{width}")
-                wanted = ["Refused by the partner", "Returned (NERP)", "Delivered", "Refused as a duplicate"]
-                expect([row.words for row in rows_of(tab)[0]], wanted, "what is said of files 4, 3, 2 and 1")
-                asked = [says_of(tab, no, "don't send it again before asking") for no in (4, 3, 2, 1)]
-                expect(asked, [False, False, False, True], "which files aren't to be sent again before asking")
-                again = [says_of(tab, no, "submit it with another date or time") for no in (4, 3, 2, 1)]
-                expect(again, [True, True, False, False], "which files are to be submitted again")
-                server.lists.received = [*responses, page_lists.received(4, files[0])]
+                wanted = ["Delivered", "Delivered", "Refused by the partner", "Returned (NERP)", "Delivered", "Refused as a duplicate"]
+                expect([row.words for row in rows_of(tab)], wanted, "what is said of files 6 to 1")
+                told = ["EERP came, after 12 access method failure", *2 * ["EERP came, after 13 duplicate file"]]
+                expect([rows_of(tab)[at].detail for at in (0, 1, 4)], told, "what is said of refused files whose EERP has come")
+                asked = [says_of(tab, no, "don't send it again before asking") for no in range(6, 0, -1)]
+                expect(asked, [*5 * [False], True], "which files aren't to be sent again before asking")
+                again = [says_of(tab, no, "submit it with another date or time") for no in range(6, 0, -1)]
+                expect(again, [False, False, True, True, False, False], "which files are to be submitted again")
+                lists.received.append(page_lists.received(len(before) + 1, kept))
                 renewed(tab)
-                expect(rows_of(tab)[0][-1].words, "Delivered", "what is said of file 1 once its EERP has come")
-                expect_shown(tab, server.lists, now)
+                expect((rows_of(tab)[5].words, rows_of(tab)[5].duty), ("Delivered", None), "what is said of file 1 once its EERP has come")
+                expect_shown(tab, lists, now)
                 expect_quiet(tab, server)
 
 
 def says_of(tab, no, words):
-    """Whether the row of this file says these words."""
-    return tab.value(f"""document.querySelector('#list tbody tr[data-no="{no}"] .state').textContent.includes("{words}")""")
+    """Whether the rows of this file say these words."""
+    return tab.value(f"""document.querySelector('#list tbody[data-no="{no}"]').textContent.includes("{words}")""")
+
+
+def tells_what_changed(browser, _picture):
+    """Who can't see the page is told when there is more or less to do, and not when nothing changed."""
+    lists = Lists()
+    with Server(lists) as server, opened(browser, server, WIDE[0]) as tab:
+        expect(text_of(tab, "#said"), "", "what is said at first")
+        lists.came()
+        renewed(tab)
+        expect((text_of(tab, "#said"), tab.value("document.title")), ("To do: 1 file.", "(1) OFTP2 station O0013SUPPLIER"), "what is said of one file")
+        tab.value('void (document.querySelector("#said").textContent = "")')
+        renewed(tab)
+        expect(text_of(tab, "#said"), "", "what is said where nothing changed")
+        lists.incoming.clear()
+        lists.came("whole", "EERP", True)
+        renewed(tab)
+        expect(text_of(tab, "#said"), page_lists.IDLE, "what is said where no file needs anybody any more")
 
 
 CASES = [
-    *(no_file, every_state, closing_for_long, other_time_zones, refused_as_duplicate, hostile_texts, many_files, filter_is_kept, renews_itself, says_when_it_cannot, by_keyboard),
-    *(of_the_program, served_by_run, after_a_restore),
+    *(no_file, every_state, one_line_a_file, sizes, late_by_age, closing_for_long, of_unknown_age, never_nothing_to_do, sent_again),
+    *(refused_as_duplicate, other_time_zones, command_to_copy, details, sorting, filter_is_kept, filtered_by_day, hostile_texts, many_files),
+    *(renews_itself, keeps_what_is_in_use, tells_what_changed, says_when_it_cannot, by_keyboard, of_the_program, served_by_run, after_a_restore),
 ]
 
 
@@ -675,6 +1178,13 @@ def at_base(url):
                 expect_quiet(tab, There(url))
 
     return served
+
+
+def write_screenshot(browser, path):
+    """Writes the picture of a supplier's day, as the documents have it."""
+    with Server(page_lists.of_a_day(utc_now())) as server, opened(browser, server, WIDE[0]) as tab:
+        choose(tab, "out")
+        tab.picture(path, is_whole=True)
 
 
 def tried(case, browser, pictures):
@@ -696,6 +1206,7 @@ def main():
     parser.add_argument("--pictures", type=Path)
     parser.add_argument("--page", type=Path, default=PAGE)
     parser.add_argument("--base")
+    parser.add_argument("--screenshot", type=Path)
     parser.add_argument("names", nargs="*", metavar="NAME")
     taken = parser.parse_args()
     Server.page = taken.page
@@ -706,7 +1217,10 @@ def main():
     if taken.pictures:
         taken.pictures.mkdir(parents=True, exist_ok=True)
     failed = 0
-    with tempfile.TemporaryDirectory() as room, Browser(Path(room)) as browser:
+    with tempfile.TemporaryDirectory() as room, Browser(Path(room), "UTC") as browser:
+        if taken.screenshot:
+            write_screenshot(browser, taken.screenshot)
+            return 0
         for case in cases:
             why = tried(case, browser, taken.pictures)
             failed += why is not None

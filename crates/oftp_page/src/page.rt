@@ -6,7 +6,7 @@ pub const PAGE: &str = r###"<!doctype html>
 <head>
 <meta charset="utf-8">
 <meta http-equiv="Content-Security-Policy" content="default-src 'none'; connect-src 'self'; img-src data:;
-  script-src 'sha256-MCvFA2PAZmOP4t+tgcYaNcy+08uQVP2OXlGvxHDUc8s='; style-src 'sha256-6ydgNxWktbe59SKh5qqWlZcNM+Tbv6Qp5vhS0GHFr78=';
+  script-src 'sha256-Vz13qG2Ndcn9mNvXNFrQmwPUQqM5GNeW5QRtNcA/rCQ='; style-src 'sha256-O8+gAOTZHPTMl4rNdZludEQsA1D0u5KulhgydGi1zgY=';
   base-uri 'none'; form-action 'none'; require-trusted-types-for 'script'; trusted-types 'none'">
 <meta name="viewport" content="width=device-width, initial-scale=1">
 <meta name="color-scheme" content="light dark">
@@ -15,156 +15,196 @@ pub const PAGE: &str = r###"<!doctype html>
 <link rel="icon" href="data:,">
 <style>
 :root {
-  --ground: #f6f7f8; --sheet: #ffffff; --line: #d9dee3; --faint: #eef1f4;
+  --ground: #f6f7f8; --sheet: #ffffff; --line: #d9dee3; --edge: #76818c; --faint: #eef1f4;
   --ink: #1c242c; --soft: #55616d; --link: #1f5fa8;
-  --act: #8a4b00; --act-ground: #fff6e5; --act-line: #e09a2b;
-  --bad: #a3262a; --bad-ground: #fdf0ef; --bad-line: #d2605d;
+  --act: #8a4b00; --act-ground: #fff6e5; --act-line: #b9761a;
+  --bad: #a3262a; --bad-ground: #fdf0ef; --bad-line: #c9514e;
   --good: #256b3e; --wait: #2c5d8f;
 }
 @media (prefers-color-scheme: dark) {
   :root {
-    --ground: #14181c; --sheet: #1b2126; --line: #333c45; --faint: #232a31;
+    --ground: #14181c; --sheet: #1b2126; --line: #333c45; --edge: #7d8995; --faint: #232a31;
     --ink: #e3e8ec; --soft: #a3afba; --link: #8cbdf2;
     --act: #f0bd6c; --act-ground: #2d2617; --act-line: #b67d24;
-    --bad: #f3a19d; --bad-ground: #311f20; --bad-line: #b5514f;
+    --bad: #f3a19d; --bad-ground: #311f20; --bad-line: #c05f5c;
     --good: #86cf9f; --wait: #9dc4ec;
   }
 }
 * { box-sizing: border-box; }
-html { background: var(--ground); color: var(--ink); font: 15px/1.45 system-ui, "Segoe UI", Roboto, "DejaVu Sans", sans-serif; }
-body { max-width: 78rem; margin: 0 auto; padding: 1.25rem 1.5rem 4rem; overflow-wrap: anywhere; }
-h1, h2, p, ul, table { margin: 0; padding: 0; }
+html { background: var(--ground); color: var(--ink); font: 15px/1.4 system-ui, "Segoe UI", Roboto, "DejaVu Sans", sans-serif; overflow-anchor: none; }
+body { max-width: 83rem; margin: 0 auto; padding: 1.1rem 1.5rem 4rem; overflow-wrap: anywhere; }
+h1, h2, p, ul, dl, dd, table { margin: 0; padding: 0; }
 ul { list-style: none; }
-a { color: var(--link); }
+a, summary { color: var(--link); }
 [hidden] { display: none !important; }
-.unseen { position: absolute; width: 1px; height: 1px; overflow: hidden; clip-path: inset(50%); white-space: nowrap; }
-:focus-visible { outline: 2px solid var(--link); outline-offset: 2px; border-radius: 3px; }
+.unseen, .skip:not(:focus) { position: absolute; width: 1px; height: 1px; overflow: hidden; clip-path: inset(50%); white-space: nowrap; }
+.skip { position: absolute; z-index: 2; padding: .4rem .85rem; background: var(--sheet); }
+:focus-visible, input:focus-within { outline: 2px solid var(--link); outline-offset: 2px; border-radius: 3px; }
 
-header { display: flex; flex-wrap: wrap; align-items: baseline; justify-content: space-between; gap: .25rem 1.5rem; }
+header { display: flex; flex-wrap: wrap; align-items: baseline; justify-content: space-between; gap: .2rem 1.5rem; }
 h1 { font-size: 1.35rem; font-weight: 600; letter-spacing: -.01em; }
-#renewed { color: var(--soft); font-variant-numeric: tabular-nums; }
+h1 span { color: var(--soft); font-size: .95rem; letter-spacing: 0; }
+#updated, #rules, #unlooked, #paths, #shown, #stamps { color: var(--soft); font-size: .87rem; font-variant-numeric: tabular-nums; }
 #trouble { margin-top: .75rem; padding: .6rem .9rem; border-left: 4px solid var(--bad-line); background: var(--bad-ground); color: var(--bad); }
 
-h2 { margin-top: 1.1rem; color: var(--soft); font-size: .87rem; font-weight: 400; }
-#todo { display: flex; flex-wrap: wrap; gap: .6rem; margin-top: .3rem; }
-#todo a { display: block; height: 100%; padding: .4rem .85rem; border: 1px solid var(--line); border-left: 4px solid; border-radius: 4px; text-decoration: none; }
+h2 { margin-top: .9rem; color: var(--soft); font-size: .87rem; font-weight: 400; }
+#todo { display: flex; flex-wrap: wrap; gap: .5rem .6rem; margin: .2rem 0 .5rem; }
+#todo a { display: block; height: 100%; padding: .35rem .8rem; border: 1px solid; border-left-width: 4px; border-radius: 4px; text-decoration: none; }
 #todo a:hover, #views a:hover { text-decoration: underline; }
 #todo strong { font-size: 1.2rem; font-variant-numeric: tabular-nums; }
-#todo .act { border-left-color: var(--act-line); background: var(--act-ground); color: var(--act); }
-#todo .bad { border-left-color: var(--bad-line); background: var(--bad-ground); color: var(--bad); }
-#idle { margin-top: .3rem; color: var(--good); }
+#todo .act { border-color: var(--act-line); background: var(--act-ground); color: var(--act); }
+#todo .bad { border-color: var(--bad-line); background: var(--bad-ground); color: var(--bad); }
+#idle { margin: .2rem 0 .5rem; color: var(--good); }
+#paths summary { cursor: pointer; width: fit-content; }
+#paths > div { display: flex; flex-wrap: wrap; gap: .4rem 1rem; margin-top: .3rem; }
+#paths > div > div { flex: 1 1 14rem; min-width: 0; }
 
-#views { display: flex; flex-wrap: wrap; gap: 0 1.75rem; margin-top: 1.5rem; border-bottom: 1px solid var(--line); }
-#views a { display: block; padding: .45rem 0; border-bottom: 3px solid transparent; color: var(--soft); text-decoration: none; }
+#views { display: flex; flex-wrap: wrap; gap: 0 1.75rem; margin-top: .9rem; border-bottom: 1px solid var(--line); }
+#views a { display: block; padding: .4rem 0; border-bottom: 3px solid transparent; color: var(--soft); text-decoration: none; }
 #views a[aria-current] { border-bottom-color: var(--link); color: var(--ink); font-weight: 600; }
 #views .count { font-weight: 400; color: var(--soft); font-variant-numeric: tabular-nums; }
 
-form { display: flex; flex-wrap: wrap; align-items: end; gap: .75rem 1rem; margin-top: 1rem; }
+form { display: flex; flex-wrap: wrap; align-items: end; gap: .5rem .75rem; margin-top: .7rem; }
+form > div { flex: 1 1 10rem; min-width: 0; }
+form > .day { flex-basis: 8rem; }
+form > .wide { flex: 2 1 14rem; }
 label { display: block; color: var(--soft); font-size: .87rem; }
-select, input, button { width: 100%; height: 2.3rem; margin-top: .15rem; padding: 0 .6rem; border: 1px solid var(--line); border-radius: 4px;
-  background: var(--sheet); color: var(--ink); font: inherit; font-size: 15px; }
-form > div { flex: 1 1 12rem; min-width: 0; }
+select, input, button { width: 100%; height: 2.2rem; margin-top: .1rem; padding: 0 .6rem; border: 1px solid var(--edge); border-radius: 4px;
+  background: var(--sheet); color: var(--ink); font: inherit; font-size: 14px; }
 button { width: auto; padding: 0 1rem; cursor: pointer; }
+button:hover { border-color: var(--ink); }
 #clear:disabled { visibility: hidden; }
-button:hover { border-color: var(--soft); }
-#shown { margin-top: .9rem; color: var(--soft); font-variant-numeric: tabular-nums; }
+#fold, form > .sort { display: none; }
+.line { display: flex; flex-wrap: wrap; justify-content: space-between; gap: 0 1.5rem; margin-top: .6rem; }
 
-table { width: 100%; margin-top: .5rem; border: 1px solid var(--line); border-collapse: separate; border-spacing: 0; table-layout: fixed;
+table { width: 100%; margin-top: .4rem; border: 1px solid var(--line); border-collapse: separate; border-spacing: 0; table-layout: fixed;
   background: var(--sheet); font-size: 14px; }
-th, td { padding: .6rem .75rem; border-bottom: 1px solid var(--line); text-align: left; vertical-align: top; font-weight: 400; }
-tbody tr:last-child > * { border-bottom: 0; }
-thead th { position: sticky; top: 0; z-index: 1; background: var(--faint); color: var(--soft); font-size: .87rem; }
-.no { width: 4.4rem; text-align: right; font-variant-numeric: tabular-nums; }
-.partner { width: 20%; }
-.when { width: 8.6rem; font-variant-numeric: tabular-nums; }
-.size { width: 8.2rem; text-align: right; font-variant-numeric: tabular-nums; }
-.file { width: 9.6rem; }
-.state { width: 31%; }
-time, .clock { white-space: nowrap; }
-tbody .name { font-weight: 600; }
-.under { display: block; color: var(--soft); font-size: .87rem; font-weight: 400; }
-.text { display: block; overflow: hidden; }
+th, td { padding: .5rem .7rem; border-bottom: 1px solid var(--line); text-align: left; vertical-align: top; font-weight: 400; }
+tbody:last-child tr:last-child > * { border-bottom: 0; }
+thead th { position: sticky; top: 0; z-index: 1; padding: .1rem .7rem; background: var(--faint); }
+thead button { width: 100%; padding: 0; border: 0; background: none; color: var(--soft); font-size: .87rem; text-align: inherit; }
+thead button:hover { color: var(--ink); text-decoration: underline; }
+[aria-sort] button { color: var(--ink); }
+.no { width: 6.2rem; text-align: right; font-variant-numeric: tabular-nums; white-space: nowrap; }
+.partner { width: 17%; }
+.when { width: 11.4rem; font-variant-numeric: tabular-nums; white-space: nowrap; }
+.size { width: 5.8rem; text-align: right; font-variant-numeric: tabular-nums; white-space: nowrap; }
+.file { width: 6.8rem; }
+.state { width: 29%; }
+tbody .when, tbody .file { color: var(--soft); }
+.when bdi, .cut { overflow: hidden; text-overflow: ellipsis; white-space: nowrap; }
+.when bdi { display: block; }
+.few { display: -webkit-box; -webkit-box-orient: vertical; -webkit-line-clamp: 3; overflow: hidden; }
+tbody .name > div, tbody .state > div { display: flex; gap: .6rem; align-items: baseline; }
+.name .few { flex: 0 1 auto; font-weight: 600; }
+.about, .detail { flex: 1 1 3ch; min-width: 3ch; color: var(--soft); font-size: .93em; }
 .words { font-weight: 600; }
-.words::before { content: ""; display: inline-block; width: .6em; height: .6em; margin-right: .5em; border-radius: 50%; background: currentColor; }
-.act .words, .act .pill { color: var(--act); }
-.bad .words, .bad .pill { color: var(--bad); }
+.words::before { content: ""; display: inline-block; width: .55em; height: .55em; margin-right: .5em; border-radius: 50%; background: currentColor;
+  vertical-align: .08em; }
+.act .detail, .bad .detail { flex-basis: auto; white-space: normal; }
+.act .words { color: var(--act); }
+.bad .words { color: var(--bad); }
 .good .words { color: var(--good); }
 .wait .words { color: var(--wait); }
 .rest .words { color: var(--soft); }
-.pill { display: inline-block; margin-left: .3rem; padding: 0 .5rem; border: 1px solid; border-radius: 1rem; font-size: .8rem; white-space: nowrap; }
-tr.act { background: var(--act-ground); }
-tr.bad { background: var(--bad-ground); }
-tr.act > :first-child { box-shadow: inset 4px 0 var(--act-line); }
-tr.bad > :first-child { box-shadow: inset 4px 0 var(--bad-line); }
-tr.act .state .under, tr.bad .state .under { color: var(--ink); }
-summary { cursor: pointer; list-style-position: outside; }
-summary::-webkit-details-marker { display: none; }
-summary::after { content: "more"; color: var(--link); text-decoration: underline; }
-details[open] summary::after { content: "less"; }
-details[open] .start { display: none; }
+tbody > tr:first-child { cursor: pointer; }
+tbody.act { background: var(--act-ground); }
+tbody.bad { background: var(--bad-ground); }
+tbody.act tr > :first-child { box-shadow: inset 4px 0 var(--act-line); }
+tbody.bad tr > :first-child { box-shadow: inset 4px 0 var(--bad-line); }
+tbody.act .state > div, tbody.bad .state > div { flex-wrap: wrap; row-gap: 0; }
+tbody.has_more > tr:first-child > * { border-bottom: 0; }
+.more > td { padding: 0 .7rem .6rem 1.4rem; }
+.open { width: 1.3rem; height: 1.3rem; margin: 0; padding: 0; border: 0; background: none; color: var(--soft); font-size: 12px; }
+.open:hover { color: var(--ink); }
+code { padding: .1rem .4rem; border: 1px solid var(--line); border-radius: 4px; background: var(--sheet); font-size: 13px; }
+.copy { height: 1.6rem; margin: 0 0 0 .3rem; padding: 0 .6rem; font-size: 13px; }
+dl { display: grid; grid-template-columns: max-content minmax(0, 1fr); gap: .1rem 1rem; margin-top: .3rem; }
+dt { color: var(--soft); }
 #none { padding: 2.5rem 1rem; border: 1px solid var(--line); border-top: 0; background: var(--sheet); color: var(--soft); text-align: center; }
-#more { display: block; margin: 1rem auto 0; }
+#next { display: block; margin: 1rem auto 0; }
 
-@media (max-width: 46rem) {
-  body { padding: 1rem .9rem 3rem; }
-  #todo { display: grid; grid-template-columns: 1fr 1fr; }
-  #views { display: grid; grid-template-columns: 1fr 1fr; }
-  form { display: grid; grid-template-columns: 1fr 1fr; }
-  .wide { grid-column: 1 / 3; }
+@media (max-width: 62rem) {
+  body { padding: .9rem .9rem 3rem; }
+  #todo, #views { display: grid; grid-template-columns: repeat(auto-fit, minmax(8.5rem, 1fr)); }
+  #fold { display: block; width: 100%; margin-top: .7rem; }
+  form { display: none; grid-template-columns: repeat(auto-fit, minmax(10rem, 1fr)); }
+  form.unfolded { display: grid; }
+  form > .sort { display: block; }
   #clear:disabled { display: none; }
-  #clear { grid-column: 1 / 3; margin: 0; }
   table, tbody { display: block; }
   table { border: 0; background: none; }
   thead { position: absolute; width: 1px; height: 1px; overflow: hidden; clip-path: inset(50%); }
-  tbody tr { display: grid; grid-template-columns: minmax(0, 1fr) fit-content(50%); gap: .15rem .75rem; margin-top: .6rem; padding: .7rem .9rem;
-    border: 1px solid var(--line); border-radius: 4px; background: var(--sheet); }
-  tbody tr.act { border-left: 4px solid var(--act-line); }
-  tbody tr.bad { border-left: 4px solid var(--bad-line); }
-  tr.act > :first-child, tr.bad > :first-child { box-shadow: none; }
-  th, td { width: auto !important; min-width: 0; padding: 0; border: 0; }
+  thead button { visibility: hidden; }
+  tbody { margin-top: .5rem; padding: .6rem .8rem; border: 1px solid var(--line); border-radius: 4px; background: var(--sheet); }
+  tbody.act { border-left: 4px solid var(--act-line); }
+  tbody.bad { border-left: 4px solid var(--bad-line); }
+  tbody.act tr > :first-child, tbody.bad tr > :first-child { box-shadow: none; }
+  tbody > tr:first-child { display: grid; grid-template-columns: minmax(0, 1fr) max-content; gap: .1rem .75rem; }
+  tbody > tr.more, tbody > tr.more > td { display: block; }
+  th, td, tbody .more > td { width: auto !important; min-width: 0; padding: 0; border: 0; }
   tbody .name { grid-area: 1 / 1; }
+  tbody .name > div, tbody .state > div { flex-wrap: wrap; gap: 0 .6rem; }
+  tbody .about { flex-basis: 100%; }
+  tbody .detail { flex-basis: auto; white-space: normal; }
   tbody .no { grid-area: 1 / 2; color: var(--soft); }
-  tbody .no::before { content: attr(data-head) " "; }
-  tbody .partner { grid-area: 2 / 1; }
-  tbody .when { grid-area: 2 / 2; text-align: right; }
-  tbody .state { grid-area: 3 / 1 / auto / 3; margin-top: .3rem; }
-  tbody .size, tbody .file { grid-area: 4 / 1 / auto / 3; color: var(--soft); text-align: left; }
-  .size .under { display: inline; margin-left: .75rem; }
+  .number::before { content: attr(data-head) " "; }
+  tbody .partner { grid-area: 2 / 1 / auto / 3; }
+  tbody .when { grid-area: 3 / 1; }
+  tbody .size, tbody .file { grid-area: 3 / 2; color: var(--soft); text-align: right; }
+  tbody .state { grid-area: 4 / 1 / auto / 3; }
+  dl { grid-template-columns: minmax(0, 1fr); gap: 0; }
   #none { border-top: 1px solid var(--line); }
 }
 @media print {
-  form, #more, #views { display: none; }
+  form, #fold, #next, #views, #paths { display: none; }
 }
 </style>
 </head>
 <body>
+<a class="skip" id="skip" href="#list">Skip to the list</a>
 <header>
-  <h1>OFTP2 station <bdi id="code"></bdi></h1>
-  <p id="renewed">Reading what the station holds&nbsp;…</p>
+  <h1><bdi id="code"></bdi> <span>OFTP2 station</span></h1>
+  <p id="updated">Reading what the station holds&nbsp;…</p>
 </header>
 <p id="trouble" role="alert" hidden></p>
+<p id="said" class="unseen" role="status"></p>
 <noscript><p>This page needs JavaScript, which it has in itself. Without it, <a href="in">in</a>, <a href="out">out</a> and
 <a href="responses">responses</a> have the same as text.</p></noscript>
 <main id="main" hidden>
-<h2>Waits for you</h2>
+<h2>To do</h2>
 <ul id="todo"></ul>
-<p id="idle" hidden>Nothing: no file has to be released, and none was refused or returned.</p>
+<p id="idle" hidden>No file needs anybody, by its state and its age.</p>
+<p id="rules"></p>
+<p id="unlooked"></p>
+<details id="paths">
+  <summary>Paths in the commands to copy</summary>
+  <div>
+    <div><label for="program">Program</label><input id="program" autocomplete="off" spellcheck="false"></div>
+    <div><label for="database">Database</label><input id="database" autocomplete="off" spellcheck="false"></div>
+    <div><label for="book">Book</label><input id="book" autocomplete="off" spellcheck="false"></div>
+  </div>
+</details>
 <nav aria-label="Lists"><ul id="views"></ul></nav>
+<button id="fold" type="button" aria-controls="filter" aria-expanded="false">Filter and sort</button>
 <form id="filter" role="search" aria-label="Filter">
   <div><label for="partner">Partner</label><select id="partner"></select></div>
   <div><label for="state">State</label><select id="state"></select></div>
+  <div class="day"><label for="since">From day</label><input id="since" type="date"></div>
+  <div class="day"><label for="until">To day</label><input id="until" type="date"></div>
   <div class="wide"><label for="name">File name, description or number</label><input id="name" type="search" autocomplete="off"
     spellcheck="false"></div>
+  <div class="sort"><label for="sort">Sorted by</label><select id="sort"></select></div>
   <button id="clear" type="reset">Clear filter</button>
 </form>
-<p id="shown" role="status"></p>
-<table id="list" role="table">
+<h2 class="unseen" id="heading"></h2>
+<div class="line"><p id="shown" role="status"></p><p id="stamps"></p></div>
+<table id="list" role="table" tabindex="-1">
   <caption class="unseen"></caption>
   <thead role="rowgroup"></thead>
-  <tbody role="rowgroup"></tbody>
 </table>
 <p id="none" hidden></p>
-<button id="more" type="button" hidden>Show more</button>
+<button id="next" type="button" hidden>Show more</button>
 </main>
 <script>
 "use strict";
@@ -176,12 +216,26 @@ const PATIENCE = 30_000;
 const TIMES = 10;
 // How many rows are drawn at once, which is as many as a person looks at.
 const ROWS = 100;
-// A text with more characters is shortened. A click shows all of it.
+// A text of a response with more characters is shortened where it stands beside what to do. The details have all of it.
 const LONGEST = 120;
-// When a file counts as not confirmed for long: the page has seen it closing for ten minutes, which is twice the timeout of a session, or it
-// is an hour old. In milliseconds.
-const CLOSING_SEEN = 10 * 60_000;
-const CLOSING_AGE = 60 * 60_000;
+const MINUTE = 60_000;
+const HOUR = 60 * MINUTE;
+const DAY = 24 * HOUR;
+// The age from which a file is late in a state, in milliseconds.
+const LATE_AFTER = { closing: HOUR, open: DAY, release: DAY, waiting: DAY, partly: DAY, handed: DAY };
+// These states in the sentence that tells the bounds.
+const LATE_IF = {
+  closing: "sent but not confirmed", open: "incomplete", release: "to be released", waiting: "waiting to be sent", partly: "partly sent",
+  handed: "without EERP",
+};
+// A closing file is late, too, once the page has seen it so for this long, which is twice the timeout of a session.
+const CLOSING_SEEN = 10 * MINUTE;
+// How far a clock somewhere on earth is ahead of UTC. A stamp that is further ahead tells no age.
+const AHEAD = 14 * HOUR;
+// How many numbers of files stand in one sentence.
+const NAMED = 5;
+// What the commands to copy begin with and name, unless somebody enters something else: an installation as docs/OPERATING.md makes it.
+const PATHS = { program: "sudo -u oftp oftp_station", database: "/var/lib/oftp/station.db", book: "/etc/oftp/book.toml" };
 
 // ---- texts
 
@@ -210,169 +264,292 @@ const NEGATIVE_REASONS = {
 };
 const FORMATS = { F: "fixed", V: "variable", U: "unstructured", T: "text" };
 
-// The states of each list: the text, the style (act and bad need a person), the text in the summary, and a hint on what comes next or what to
-// do.
+// The states of each list: the text, and the style (act and bad need a person). Those that need a person also have their text above the list
+// (`many` for more than one file, where it differs), and a sentence on what to do.
 const STATES = {
   in: {
-    open: { words: "Incomplete", look: "wait", hint: "The rest comes with a later session." },
-    release: { words: "To be released", look: "act", sums: "to be released", hint: "Complete. Fetch it, then release or refuse it." },
-    eerp_due: { words: "Released, EERP not yet sent", look: "wait", hint: "The EERP goes with the next session." },
+    open: { words: "Incomplete", look: "wait" },
+    open_late: {
+      words: "Incomplete, late", look: "act", sums: "incomplete, late",
+      hint: "The rest hasn't come. Ask the partner to send the file again: its transfer goes on where it broke.",
+    },
+    release: { words: "To be released", look: "act", sums: "to be released", hint: "Take it, then release it or refuse it:" },
+    release_late: {
+      words: "To be released, late", look: "act", sums: "to be released, late",
+      hint: "Its sender waits for the EERP. Take it, then release it or refuse it:",
+    },
+    eerp_due: { words: "Released, EERP not yet sent", look: "wait" },
     eerp_sent: { words: "Released, EERP sent", look: "good" },
-    nerp_due: { words: "Refused here, NERP not yet sent", look: "wait", hint: "The NERP goes with the next session." },
+    nerp_due: { words: "Refused here, NERP not yet sent", look: "wait" },
     nerp_sent: { words: "Refused here, NERP sent", look: "rest" },
   },
   out: {
-    waiting: { words: "Waiting to be sent", look: "wait", hint: "Goes with the next session." },
-    partly: { words: "Partly sent", look: "wait", hint: "Goes on with the next session." },
-    closing: { words: "Sent, not yet confirmed", look: "wait", hint: "The partner hasn't said yet that it has the file." },
-    stuck: {
-      words: "Not confirmed for long", look: "act", sums: "not confirmed for long",
+    waiting: { words: "Waiting to be sent", look: "wait" },
+    waiting_late: {
+      words: "Waiting to be sent, late", look: "act", sums: "waiting to be sent, late",
+      hint: "No session has taken it. Call the partner, and look at how the session ends.",
+    },
+    partly: { words: "Partly sent", look: "wait" },
+    partly_late: {
+      words: "Partly sent, late", look: "act", sums: "partly sent, late",
+      hint: "The rest hasn't gone. Call the partner, and look at how the session ends.",
+    },
+    closing: { words: "Sent, not yet confirmed", look: "wait" },
+    closing_late: {
+      words: "Sent, not confirmed, late", look: "act", sums: "not confirmed, late",
       hint: "All of it was sent, and the partner hasn't said that it has it. Call the partner: the next session settles it.",
     },
-    handed: { words: "Handed over", look: "wait", hint: "The partner has it. Its EERP or NERP is awaited." },
-    delivered: { words: "Delivered", look: "good", hint: "The partner's EERP came: it has released the file." },
+    handed: { words: "Handed over", look: "wait" },
+    handed_late: {
+      words: "EERP overdue", look: "act", sums: "EERP overdue", many: "EERPs overdue",
+      hint: "The partner has it, and hasn't said what became of it. Ask the partner.",
+    },
+    delivered: { words: "Delivered", look: "good" },
     refused: {
       words: "Refused by the partner", look: "bad", sums: "refused by a partner",
-      hint: "Mend what the reason names, and submit it with another date or time.",
+      hint: "Correct what the reason names, and submit it with another date or time.",
     },
     duplicate: {
-      words: "Refused as a duplicate", look: "act", sums: "refused as a duplicate",
+      words: "Refused as a duplicate", look: "act", sums: "refused as a duplicate", many: "refused as duplicates",
       hint: "The partner has it: don't send it again before asking.",
     },
+    refused_again: { words: "Refused, name used again", look: "rest" },
     returned: {
       words: "Returned (NERP)", look: "bad", sums: "returned by a partner",
       hint: "Ask the partner, and submit it with another date or time.",
     },
+    returned_again: { words: "Returned, name used again", look: "rest" },
   },
   received: {
     eerp: { words: "Delivered (EERP)", look: "good" },
-    nerp: { words: "Returned (NERP)", look: "bad" },
+    nerp: { words: "Returned (NERP)", look: "rest" },
   },
   issued: {
-    eerp_due: { words: "EERP not yet sent", look: "wait", hint: "Goes with the next session." },
+    eerp_due: { words: "EERP not yet sent", look: "wait" },
     eerp_sent: { words: "EERP sent", look: "good" },
-    nerp_due: { words: "NERP not yet sent", look: "wait", hint: "Goes with the next session." },
+    nerp_due: { words: "NERP not yet sent", look: "wait" },
     nerp_sent: { words: "NERP sent", look: "rest" },
   },
 };
 
-// The state of an outgoing file after its response.
+// The state of a refused file after its response.
 const ANSWERED = { EERP: "delivered", NERP: "returned" };
+// The state of a file that was refused or returned, once a later one has its name.
+const AGAIN = { refused: "refused_again", duplicate: "refused_again", returned: "returned_again" };
 
-// The lists: the title, the columns with their headings, and the text of an empty list.
+// Whose clock stamped the files of a list. A stamp has no zone. This station's own are in UTC, a sender's may be anything.
+const OURS = "ours";
+const SENDERS = "senders";
+
+// The lists: the title, whose stamps it has, the columns with their headings, and the text of an empty list.
 const VIEWS = {
   in: {
-    title: "Incoming", noun: "file", caption: "Incoming files, newest first", none: "No file has come in yet.",
-    columns: { no: "No.", partner: "From", name: "File", when: "Date and time", size: "Size", state: "State" },
+    title: "Incoming", noun: "file", caption: "Incoming files", stamps: SENDERS, none: "No file has come in yet.",
+    columns: { no: "No.", partner: "From", name: "File", when: "Sender's stamp", size: "Size", state: "State" },
   },
   out: {
-    title: "Outgoing", noun: "file", caption: "Outgoing files, newest first", none: "No file has been submitted yet.",
-    columns: { no: "No.", partner: "To", name: "File", when: "Date and time", size: "Size", state: "State" },
+    title: "Outgoing", noun: "file", caption: "Outgoing files", stamps: OURS, none: "No file has been submitted yet.",
+    columns: { no: "No.", partner: "To", name: "File", when: "Stamp", size: "Size", state: "State" },
   },
   received: {
-    title: "Responses received", noun: "response", caption: "Responses that came from partners, newest first",
+    title: "Responses received", noun: "response", caption: "Responses that came from partners", stamps: OURS,
     none: "No response has come yet.",
-    columns: { no: "No.", partner: "From", name: "File", when: "Date and time", file: "Answers", state: "Response" },
+    columns: { no: "No.", partner: "From", name: "File", when: "File's stamp", file: "Answers", state: "Response" },
   },
   issued: {
-    title: "Responses issued", noun: "response", caption: "Responses to incoming files, newest file first",
+    title: "Responses issued", noun: "response", caption: "Responses to incoming files", stamps: SENDERS,
     none: "No file has been released or refused yet.",
-    columns: { no: "File", partner: "To", name: "File name", when: "Date and time", state: "Response" },
+    columns: { no: "File", partner: "To", name: "File name", when: "Sender's stamp", state: "Response" },
   },
 };
 
+// ---- what the station's events would tell
+
+// The station tells no events yet, and what needs them asks here alone. Null is that nobody knows, and it is never shown as if all were well.
+const events = {
+  // The changes of an item, oldest first, each with its moment (`at`, in milliseconds) and its words.
+  changesOf: (_view, _no) => null,
+  // The last contact with a partner, with its moment and its end in words.
+  lastContactWith: (_partner) => null,
+};
+
+// ---- dates and times
+
+// A stamp read as UTC. It is null if it is no valid date and time: a partner may send any digits.
+function momentOf({ date, time }) {
+  if (!/^\d{8}$/.test(date) || !/^\d{10}$/.test(time)) {
+    return null;
+  }
+  const [year, month, day] = [+date.slice(0, 4), +date.slice(4, 6), +date.slice(6)];
+  const [hours, minutes, seconds] = [+time.slice(0, 2), +time.slice(2, 4), +time.slice(4, 6)];
+  const moment = Date.UTC(year, month - 1, day, hours, minutes, seconds);
+  const at = new Date(moment);
+  const isDay = at.getUTCFullYear() === year && at.getUTCMonth() === month - 1 && at.getUTCDate() === day;
+  return isDay && hours < 24 && minutes < 60 && seconds < 60 ? moment : null;
+}
+
+function two(number) {
+  return String(number).padStart(2, "0");
+}
+
+// A moment by the clock of the browser's zone.
+function localText(moment) {
+  const at = new Date(moment);
+  const day = `${String(at.getFullYear()).padStart(4, "0")}-${two(at.getMonth() + 1)}-${two(at.getDate())}`;
+  return `${day} ${two(at.getHours())}:${two(at.getMinutes())}:${two(at.getSeconds())}`;
+}
+
+// A stamp as it is written, without its counter.
+function writtenText({ date, time }) {
+  const day = `${date.slice(0, 4)}-${date.slice(4, 6)}-${date.slice(6)}`;
+  return `${day} ${time.slice(0, 2)}:${time.slice(2, 4)}:${time.slice(4, 6)}`;
+}
+
+// A stamp as its list shows it, or its digits if it is no date and time.
+function stampText(view, file, moment) {
+  if (moment === null) {
+    return [file.date, file.time].filter(Boolean).join(" ");
+  }
+  return VIEWS[view].stamps === OURS ? localText(moment) : writtenText(file);
+}
+
+// The whole stamp, and what it says.
+function stampFact({ view, file, moment }) {
+  if (moment === null) {
+    const digits = stampText(view, file, moment);
+    return digits && `${digits}, which is no date and time`;
+  }
+  const whole = `${writtenText(file)}.${file.time.slice(6)}`;
+  return VIEWS[view].stamps === OURS ? `${whole} UTC` : `${whole}, without a zone; read as UTC it is ${localText(moment)} here`;
+}
+
+function zoneText() {
+  const minutes = -new Date().getTimezoneOffset();
+  const [hours, rest] = [Math.floor(Math.abs(minutes) / 60), Math.abs(minutes) % 60];
+  return minutes ? `UTC${minutes < 0 ? "−" : "+"}${hours}${rest ? `:${two(rest)}` : ""}` : "UTC";
+}
+
+function spanOf(time) {
+  const [size, unit] = time < HOUR ? [MINUTE, "minute"] : time < 2 * DAY ? [HOUR, "hour"] : [DAY, "day"];
+  return counted(Math.floor(time / size), unit);
+}
+
 // ---- the items of the lists, each of which becomes a row
 
-// Each item has its view, number, partner and state, the object with the file's name, date and time, the response if there is one, and the
-// text that the name filter searches.
+// Each item has its view, number, partner and state, the object with the file's name, date and time, the response if there is one, the stamp
+// as a moment, the file's age, and the number of the later file of its name.
 const lists = { in: [], out: [], received: [], issued: [] };
 let partners = [];
 // When the page first saw each outgoing file as closing, by the file's number.
 const closingSince = new Map();
 
-function itemOf(view, no, partner, state, file, response) {
-  const sought = `${file.dataset}\n${file.description ?? ""}`.toLowerCase();
-  return { view, no, partner, state, file, response, sought };
+function itemOf(view, no, partner, file, response) {
+  const moment = momentOf(file);
+  return { view, no, partner, file, response, moment, age: ageOf(view, no, moment), later: null, state: "" };
+}
+
+// How long a file has been in its state, in milliseconds, or null if nobody knows: by the station's events, and without them by its stamp.
+function ageOf(view, no, moment) {
+  const since = events.changesOf(view, no)?.at(-1)?.at ?? moment;
+  const now = Date.now();
+  return since === null || since > now + AHEAD ? null : now - since;
+}
+
+function lateOrNot(state, age) {
+  return age !== null && age >= LATE_AFTER[state] ? `${state}_late` : state;
 }
 
 function incomingItem(file, response) {
+  const item = itemOf("in", file.no, file.originator, file, response);
   let state = file.state;
   if (state === "whole") {
     state = file.response === "none" ? "release" : responseState(file.response, response?.sent);
   }
-  return itemOf("in", file.no, file.originator, state, file, response);
+  item.state = lateOrNot(state, item.age);
+  return item;
 }
 
 function responseState(kind, isSent) {
   return `${kind.toLowerCase()}_${isSent ? "sent" : "due"}`;
 }
 
-function outgoingItem(file, response) {
-  const state = outgoingState(file, response);
-  return itemOf("out", file.no, file.destination, state, file, state === "returned" ? response : undefined);
+function outgoingItem(file, response, newest) {
+  const item = itemOf("out", file.no, file.destination, file, response);
+  item.later = newest > file.no ? newest : null;
+  item.state = outgoingState(item);
+  return item;
 }
 
-function outgoingState(file, response) {
-  if (file.state === "closing") {
-    return isStuck(file) ? "stuck" : "closing";
+function outgoingState({ file, response, age, later }) {
+  let state = file.state;
+  if (state === "refused") {
+    state = response ? ANSWERED[response.kind] : file.reason === DUPLICATE ? "duplicate" : "refused";
+  } else if (state === "waiting" && file.mark > 0) {
+    state = "partly";
+  } else if (state === "closing" && isSeenForLong(file)) {
+    return "closing_late";
   }
-  if (isDuplicate(file)) {
-    return response ? ANSWERED[response.kind] : "duplicate";
-  }
-  return file.state === "waiting" && file.mark > 0 ? "partly" : file.state;
+  return later !== null && Object.hasOwn(AGAIN, state) ? AGAIN[state] : lateOrNot(state, age);
 }
 
-// Whether the partner refused the file because it has it, as it does after a restore, which makes this station send the file again. The
-// response says what became of such a file.
-function isDuplicate(file) {
-  return file.state === "refused" && file.reason === DUPLICATE;
-}
-
-function isStuck(file) {
-  const now = Date.now();
-  const since = closingSince.get(file.no) ?? now;
+function isSeenForLong(file) {
+  const since = closingSince.get(file.no) ?? Date.now();
   closingSince.set(file.no, since);
-  const stamp = momentOf(file.date, file.time);
-  return now - since >= CLOSING_SEEN || stamp !== null && now - stamp >= CLOSING_AGE;
-}
-
-// A file's date and time, read as UTC, in which `offer` writes them. It is null if they are no valid date and time: a partner may send any
-// digits.
-function momentOf(date, time) {
-  const digits = date + time.slice(0, 6);
-  const parts = /^(\d{4})(\d\d)(\d\d)(\d\d)(\d\d)(\d\d)$/.exec(digits);
-  if (!parts) {
-    return null;
-  }
-  const [year, month, ...rest] = parts.slice(1).map(Number);
-  const moment = Date.UTC(year, month - 1, ...rest);
-  return new Date(moment).toISOString().replace(/\D/g, "").startsWith(digits) ? moment : null;
+  return Date.now() - since >= CLOSING_SEEN;
 }
 
 function receivedItem(response) {
-  return itemOf("received", response.no, response.from, response.kind.toLowerCase(), response, response);
+  const item = itemOf("received", response.no, response.from, response, response);
+  item.state = response.kind.toLowerCase();
+  return item;
 }
 
 function issuedItem(response, file) {
   const named = file ?? { dataset: "", date: "", time: "", originator: "" };
-  return itemOf("issued", response.no, named.originator, responseState(response.kind, response.sent), named, response);
+  const item = itemOf("issued", response.no, named.originator, named, response);
+  item.state = responseState(response.kind, response.sent);
+  return item;
+}
+
+// The responses to outgoing files, by the number of the file. Of two to one file the first counts, as for the station. But a refused file that
+// has an EERP was released, whatever came before.
+function responsesTo(received) {
+  const [first, released, negative] = [new Map(), new Map(), new Map()];
+  for (const response of received) {
+    for (const map of [first, response.kind === "EERP" ? released : negative]) {
+      map.set(response.file, map.get(response.file) ?? response);
+    }
+  }
+  const of = { refused: (no) => released.get(no) ?? negative.get(no), returned: (no) => negative.get(no) };
+  return ({ state, no }) => (Object.hasOwn(of, state) ? of[state](no) : first.get(no));
+}
+
+// The number of the newest file of each name, for each partner.
+function newestOf(outgoing) {
+  const newest = new Map();
+  for (const { no, destination, dataset } of outgoing) {
+    const names = newest.get(destination) ?? new Map();
+    newest.set(destination, names.set(dataset, Math.max(no, names.get(dataset) ?? 0)));
+  }
+  return newest;
 }
 
 // Makes the items of the station's replies, newest first.
 function takeLists(incoming, outgoing, responses) {
   const files = new Map(incoming.map((file) => [file.no, file]));
   const issued = new Map(responses.issued.map((response) => [response.no, response]));
-  const answering = new Map(responses.received.map((it) => [it.file, it]));
-  const negatives = new Map(responses.received.filter((it) => it.kind === "NERP").map((it) => [it.file, it]));
-  const responseTo = (file) => (file.state === "returned" ? negatives : answering).get(file.no);
+  const responseTo = responsesTo(responses.received);
+  const newest = newestOf(outgoing);
   const closing = new Set(outgoing.filter((file) => file.state === "closing").map((file) => file.no));
   for (const no of [...closingSince.keys()].filter((it) => !closing.has(it))) {
     closingSince.delete(no);
   }
-  lists.in = newestFirst(incoming.map((file) => incomingItem(file, issued.get(file.no))));
-  lists.out = newestFirst(outgoing.map((file) => outgoingItem(file, responseTo(file))));
-  lists.received = newestFirst(responses.received.map(receivedItem));
-  lists.issued = newestFirst(responses.issued.map((response) => issuedItem(response, files.get(response.no))));
+  Object.assign(lists, {
+    in: newestFirst(incoming.map((file) => incomingItem(file, issued.get(file.no)))),
+    out: newestFirst(outgoing.map((file) => outgoingItem(file, responseTo(file), newest.get(file.destination).get(file.dataset)))),
+    received: newestFirst(responses.received.map(receivedItem)),
+    issued: newestFirst(responses.issued.map((response) => issuedItem(response, files.get(response.no)))),
+  });
   partners = [...new Set(Object.values(lists).flat().map((item) => item.partner))].filter(Boolean).sort();
   byId("code").textContent = plain(outgoing.at(-1)?.originator ?? incoming.at(-1)?.destination ?? "");
 }
@@ -386,13 +563,24 @@ function stateOf(item) {
   return Object.hasOwn(states, item.state) ? states[item.state] : { words: item.state, look: "rest" };
 }
 
-// ---- the chosen list and filter, which are also in the fragment of the address
+// ---- the chosen list, filter and order, which are also in the fragment of the address
 
-const choice = { view: "in", partner: "", name: "", state: "" };
+const choice = { view: "in", partner: "", name: "", state: "", since: "", until: "", sort: "" };
+const FILTERS = ["partner", "name", "state", "since", "until"];
+// The order of a list unless somebody chooses another one: newest first. A minus is before the column whose greatest comes first.
+const NEWEST = "-no";
+// The columns whose greatest comes first once somebody sorts by them.
+const FROM_GREATEST = ["no", "when", "size", "file"];
 let mostRows = ROWS;
+// The items whose details are open, by their list and number.
+const opened = new Set();
 
 function byId(id) {
   return document.getElementById(id);
+}
+
+function keyOf({ view, no }) {
+  return `${view} ${no}`;
 }
 
 function readChoice() {
@@ -402,6 +590,10 @@ function readChoice() {
   }
   choice.view = Object.hasOwn(VIEWS, choice.view) ? choice.view : "in";
   choice.state = Object.hasOwn(STATES[choice.view], choice.state) ? choice.state : "";
+  choice.sort = Object.hasOwn(VIEWS[choice.view].columns, choice.sort.replace(/^-/, "")) ? choice.sort : "";
+  for (const key of ["since", "until"]) {
+    choice[key] = /^\d{4}-\d\d-\d\d$/.test(choice[key]) ? choice[key] : "";
+  }
   mostRows = ROWS;
 }
 
@@ -410,16 +602,65 @@ function hashOf(chosen) {
   return `#${given}`;
 }
 
-function keepChoice() {
+function choose(changes) {
+  Object.assign(choice, changes);
   history.replaceState(null, "", hashOf(choice));
   mostRows = ROWS;
+  draw();
+  // Whoever has scrolled down begins at the head of what was chosen.
+  scrollBy(0, Math.min(byId("list").getBoundingClientRect().top, 0));
 }
 
-// The items with the chosen partner and name, in any state.
-function namedAsChosen() {
+// Whether an item has the chosen partner, name and day, in any state.
+function isChosen() {
+  const { partner, since, until } = choice;
   const name = choice.name.trim().toLowerCase();
-  const isOfPartner = (item) => !choice.partner || item.partner === choice.partner;
-  return (item) => isOfPartner(item) && (!name || item.sought.includes(name) || String(item.no) === name);
+  const isOfDay = (day) => day !== "" && day >= since && (!until || day <= until);
+  const isNamed = ({ file, no }) => soughtIn(file).includes(name) || String(no) === name;
+  return (item) => (!partner || item.partner === partner) && ((!since && !until) || isOfDay(dayOf(item))) && (!name || isNamed(item));
+}
+
+// The text that the name filter searches, by the file. It is made once, since a list may have many long ones.
+const sought = new WeakMap();
+
+function soughtIn(file) {
+  if (!sought.has(file)) {
+    sought.set(file, `${file.dataset}\n${file.description ?? ""}`.toLowerCase());
+  }
+  return sought.get(file);
+}
+
+// The day of an item's stamp as it is shown, which is empty if it is no date.
+function dayOf({ view, file, moment }) {
+  return moment === null ? "" : stampText(view, file, moment).slice(0, 10);
+}
+
+// The items in a state.
+function inState(view, state) {
+  return lists[view].filter((item) => item.state === state);
+}
+
+// What items are sorted by, for each column. States have the order of their table, in which a file passes through them.
+const SORTED_BY = {
+  no: ({ no }) => no,
+  partner: ({ partner }) => partner,
+  name: ({ file }) => file.dataset,
+  when: ({ file }) => file.date + file.time,
+  size: ({ file }) => file.units,
+  file: ({ response }) => response.file,
+  state: (item) => Object.keys(STATES[item.view]).indexOf(item.state),
+};
+
+// The items, which are newest first, in the chosen order. Where two are equal, the newer one stays before the other.
+function sorted(items) {
+  const sort = choice.sort || NEWEST;
+  if (sort === NEWEST) {
+    return items;
+  }
+  const [column, sign] = sort.startsWith("-") ? [sort.slice(1), -1] : [sort, 1];
+  const keyed = items.map((item) => [SORTED_BY[column](item), item]);
+  keyed.sort(([one], [other]) => (one < other ? -sign : one > other ? sign : 0));
+  return keyed.map(([, item]) => item);
 }
 
 // ---- drawing
@@ -436,6 +677,21 @@ function make(kind, className, ...parts) {
   return element;
 }
 
+function buttonOf(className, words, label) {
+  const button = make("button", className, words);
+  button.type = "button";
+  if (label) {
+    button.setAttribute("aria-label", label);
+  }
+  return button;
+}
+
+function linkOf(chosen, ...parts) {
+  const link = make("a", "", ...parts);
+  link.href = hashOf(chosen);
+  return link;
+}
+
 // A partner's text in one line. Control characters, changes of the writing direction and long runs of combining marks are replaced, because
 // they could make it look like another text.
 function plain(text) {
@@ -443,27 +699,19 @@ function plain(text) {
   return line.replace(/[\p{Cc}\p{Bidi_Control}]|\p{M}{9,}/gu, "\ufffd");
 }
 
-// A partner's text, isolated from the writing direction around it. A long one shows its beginning, and all of it after a click.
+// A partner's text, isolated from the writing direction around it.
 function textOf(text, className) {
+  return make("bdi", className, plain(text));
+}
+
+function shortened(text) {
   const characters = [...plain(text)];
-  if (characters.length <= LONGEST) {
-    return make("bdi", className, characters.join(""));
-  }
-  const start = make("bdi", "start", `${characters.slice(0, LONGEST - 20).join("")}… `);
-  return make("details", className, make("summary", "", start), make("bdi", "", characters.join("")));
+  return characters.length <= LONGEST ? characters.join("") : `${characters.slice(0, LONGEST - 20).join("")}…`;
 }
 
-function under(text) {
-  return make("span", "under", text);
-}
-
-function whenOf({ file }) {
-  if (momentOf(file.date, file.time) === null) {
-    return [make("bdi", "", plain(file.date)), under(plain(file.time))];
-  }
-  const day = `${file.date.slice(0, 4)}-${file.date.slice(4, 6)}-${file.date.slice(6)}`;
-  const clock = `${file.time.slice(0, 2)}:${file.time.slice(2, 4)}:${file.time.slice(4, 6)}`;
-  return [make("time", "", day), make("span", "under clock", `${clock}.${file.time.slice(6)}`)];
+function titled(element, title) {
+  element.title = title;
+  return element;
 }
 
 function counted(count, one) {
@@ -475,141 +723,312 @@ function rowsOf(file) {
   return counted(file.rows, file.format === "F" || file.format === "V" ? "record" : "block");
 }
 
-function sizeOf({ file }) {
-  const form = Object.hasOwn(FORMATS, file.format) ? FORMATS[file.format] : plain(file.format);
-  const rows = file.format === "F" || file.format === "V" ? `${rowsOf(file)}, ` : "";
-  return [counted(file.units, "byte"), under(rows + form)];
+// A number of octets in three digits or so.
+function sizeText(units) {
+  if (units < 1000) {
+    return `${units} B`;
+  }
+  const [size, unit] = units < 999_500 ? [1000, "KB"] : [1_000_000, "MB"];
+  const hasTenths = unit === "MB" || units < 9_950;
+  return `${(units / size).toFixed(hasTenths ? 1 : 0)} ${unit}`;
 }
 
+function exactSize(file) {
+  const form = Object.hasOwn(FORMATS, file.format) ? FORMATS[file.format] : plain(file.format);
+  const rows = file.format === "F" || file.format === "V" ? `${rowsOf(file)}, ` : "";
+  return `${counted(file.units, "byte")}, ${rows}${form}`;
+}
+
+// Why a file was refused or returned.
 function reasonOf({ state, file, response }) {
-  if (response?.kind === "NERP") {
+  if (response?.kind === "NERP" && state !== "delivered") {
     return reasonText(response.reason, NEGATIVE_REASONS);
   }
-  return state === "refused" || state === "duplicate" ? reasonText(file.reason, START_REASONS) : "";
+  return file.state === "refused" ? reasonText(file.reason, START_REASONS) : "";
 }
 
 function reasonText(number, reasons) {
   return Object.hasOwn(reasons, number) ? `${number} ${reasons[number]}` : `unknown reason ${plain(number)}`;
 }
 
-function stateParts(item) {
-  const { partner, file, response } = item;
-  const state = stateOf(item);
-  const reason = reasonOf(item);
-  const isOfAnother = response?.creator && response.creator !== partner;
+// A few words more on the state.
+function detailOf(item) {
+  const { state, file, age, later } = item;
+  if (state.endsWith("_again")) {
+    return `by ${later}`;
+  }
+  if (state === "handed_late") {
+    return `by ${spanOf(age - LATE_AFTER.handed)}`;
+  }
+  if (state === "delivered" && file.state === "refused") {
+    return `EERP came, after ${reasonOf(item)}`;
+  }
+  const part = state.startsWith("partly") ? `${Math.floor((100 * file.mark) / file.rows)} %` : "";
+  const old = state.endsWith("_late") && age !== null ? `${spanOf(age)} old` : "";
+  return [part, old].filter(Boolean).join(", ") || reasonOf(item);
+}
+
+function needsSomebody(item) {
+  return Boolean(stateOf(item).sums);
+}
+
+// The command that takes a file and then releases it. It has no text of a partner, since a shell reads it.
+function commandFor({ state, no }) {
+  if (!state.startsWith("release") || !Number.isSafeInteger(no)) {
+    return null;
+  }
+  const [database, book] = [shellWord(paths.database), shellWord(paths.book)];
+  const fetched = `${paths.program} fetch --db ${database} ${no} /tmp/oftp_file_${no}`;
+  return `${fetched} && ${paths.program} release --db ${database} --book ${book} ${no}`;
+}
+
+function shellWord(text) {
+  return /^[\w@%+=:,./~-]+$/.test(text) ? text : `'${text.replaceAll("'", "'\\''")}'`;
+}
+
+// What somebody has to do about an item, as sentences.
+function dutyOf(item) {
+  const { partner, response } = item;
+  const note = response?.note ? make("bdi", "note", `“${shortened(response.note)}”`) : null;
+  const creator = response?.creator && response.creator !== partner ? make("span", "", "Created by ", textOf(response.creator, ""), ". ") : null;
+  const command = commandFor(item);
+  return make(
+    "p", "duty", note, note ? " " : null, creator, make("span", "hint", stateOf(item).hint),
+    ...(command ? [" ", make("code", "", command), " ", buttonOf("copy", "Copy", `Copy the command for ${item.no}`)] : []),
+  );
+}
+
+// All that is known of an item, as pairs of a name and a text.
+function factsOf(item) {
+  const { view, no, file, response, state } = item;
+  const part = state.startsWith("partly") ? `${numbers.format(file.mark)} of ${rowsOf(file)}` : "";
+  const changes = events.changesOf(view, no) ?? [];
   return [
-    make("span", "words", plain(state.words)),
-    ...(state.sums ? [" ", make("span", "pill", "To do")] : []),
-    reason ? make("span", "under reason", reason) : null,
-    response?.note ? textOf(response.note, "under text note") : null,
-    isOfAnother ? make("span", "under", "Created by ", make("bdi", "", plain(response.creator))) : null,
-    item.state === "partly" ? under(`${numbers.format(file.mark)} of ${rowsOf(file)} acknowledged.`) : null,
-    state.hint ? under(state.hint) : null,
-    isDuplicate(file) && item.state !== "duplicate" ? under("It was sent again, and refused as a duplicate.") : null,
-  ];
+    ["Name", file.dataset], ["Description", file.description], ["From", file.originator ?? file.from], ["To", file.destination],
+    ["Stamp", stampFact(item)], ["Size", file.units === undefined ? "" : exactSize(file)], ["Acknowledged", part],
+    ["Reason", reasonOf(item)], ["Text", response?.note], ["Created by", response?.creator],
+    ...changes.map(({ at, words }) => [localText(at), words]),
+  ].filter(([, text]) => text);
+}
+
+function detailsOf(item) {
+  return make("dl", "", ...factsOf(item).flatMap(([name, text]) => [make("dt", "", name), make("dd", "", textOf(text, ""))]));
+}
+
+function openerOf(item) {
+  const isOpen = opened.has(keyOf(item));
+  const button = buttonOf("open", isOpen ? "▾" : "▸", `Details of ${item.no}`);
+  button.setAttribute("aria-expanded", isOpen);
+  return button;
+}
+
+// An item's number. On a card there is no heading above it.
+function numberOf({ view, no }) {
+  const number = make("span", "number", String(no));
+  number.dataset.head = VIEWS[view].columns.no;
+  return number;
 }
 
 // The content of each column in an item's row.
 const CELLS = {
-  no: ({ no }) => [String(no)],
-  partner: ({ partner }) => [textOf(partner, "text")],
-  name: ({ file }) => [textOf(file.dataset, "text"), file.description ? textOf(file.description, "under text about") : null],
-  when: whenOf,
-  size: sizeOf,
-  file: ({ response }) => [response.file ? `Outgoing file ${response.file}` : "No file that is here"],
-  state: stateParts,
+  no: (item) => [openerOf(item), numberOf(item)],
+  partner: ({ partner }) => [textOf(partner, "few")],
+  name: ({ file }) => [make("div", "", textOf(file.dataset, "few"), file.description ? textOf(file.description, "about cut") : null)],
+  when: (item) => [titled(textOf(stampText(item.view, item.file, item.moment), ""), plain(stampFact(item)))],
+  size: ({ file }) => [titled(make("span", "", sizeText(file.units)), exactSize(file))],
+  file: ({ response }) => [response.file ? `File ${response.file}` : "None here"],
+  state: (item) => {
+    const detail = detailOf(item);
+    return [make("div", "", make("span", "words", plain(stateOf(item).words)), detail ? make("span", "detail cut", detail) : null)];
+  },
 };
 
-function fillRow(row, item) {
-  const open = new Set([...row.querySelectorAll("details[open]")].map((it) => it.className));
-  const columns = VIEWS[item.view].columns;
-  row.className = stateOf(item).look;
-  row.replaceChildren(...Object.keys(columns).map((column) => {
+function rowOf(item) {
+  const row = make("tr", "", ...Object.entries(VIEWS[item.view].columns).map(([column, head]) => {
     const cell = make(column === "name" ? "th" : "td", column, ...CELLS[column](item));
     cell.setAttribute("role", column === "name" ? "rowheader" : "cell");
-    if (column === "no") {
-      cell.dataset.head = columns.no;
-    }
     return cell;
   }));
-  for (const text of row.querySelectorAll("details")) {
-    text.open = open.has(text.className);
-  }
-}
-
-// Draws the rows of the items. A row whose content is unchanged is kept, so nothing flickers, and what is open stays open.
-function drawRows(body, items) {
-  const old = new Map([...body.rows].map((row) => [row.dataset.no, row]));
-  let place = body.firstElementChild;
-  for (const item of items) {
-    const row = old.get(String(item.no)) ?? newRow(item);
-    old.delete(String(item.no));
-    const print = JSON.stringify([item.state, item.partner, item.file, item.response]);
-    if (printed.get(row) !== print) {
-      fillRow(row, item);
-      printed.set(row, print);
-    }
-    if (row === place) {
-      place = place.nextElementSibling;
-    } else {
-      body.insertBefore(row, place);
-    }
-  }
-  for (const row of old.values()) {
-    row.remove();
-  }
-}
-
-function newRow(item) {
-  const row = make("tr");
-  row.dataset.no = item.no;
   row.setAttribute("role", "row");
   return row;
 }
 
+// The row below an item's own: what to do, and the details if they are open. Most items have none.
+function moreOf(item) {
+  const parts = [needsSomebody(item) ? dutyOf(item) : null, opened.has(keyOf(item)) ? detailsOf(item) : null];
+  if (!parts.some(Boolean)) {
+    return null;
+  }
+  const cell = make("td", "", ...parts);
+  cell.colSpan = Object.keys(VIEWS[item.view].columns).length;
+  cell.setAttribute("role", "cell");
+  const row = make("tr", "more", cell);
+  row.setAttribute("role", "row");
+  return row;
+}
+
+function fillBody(body, item) {
+  const more = moreOf(item);
+  body.className = `${stateOf(item).look}${more ? " has_more" : ""}`;
+  body.replaceChildren(...[rowOf(item), more].filter(Boolean));
+}
+
+// All that an item's rows are made of.
+function printOf(item) {
+  return JSON.stringify([item.state, item.partner, item.file, item.response, detailOf(item), opened.has(keyOf(item)), commandFor(item)]);
+}
+
+// Draws the rows of the items, those of each in a body of its own. A body whose content is unchanged is kept, so nothing flickers.
+function drawRows(table, items) {
+  const old = new Map([...table.tBodies].map((body) => [body.dataset.no, body]));
+  const shown = new Set(items.map((item) => String(item.no)));
+  for (const [no, body] of old) {
+    if (!shown.has(no)) {
+      body.remove();
+    }
+  }
+  let place = table.tBodies[0] ?? null;
+  for (const item of items) {
+    const body = old.get(String(item.no)) ?? newBody(item);
+    const print = printOf(item);
+    if (printed.get(body) !== print) {
+      fillBody(body, item);
+      printed.set(body, print);
+    }
+    if (body === place) {
+      place = place.nextElementSibling;
+    } else {
+      table.insertBefore(body, place);
+    }
+  }
+}
+
+// Draws, and keeps the keyboard at the button of the item where it is, also if the rows of that item are made anew or move.
+function keepFocus(table, change) {
+  const used = document.activeElement;
+  const body = table.contains(used) ? used.closest("tbody") : null;
+  change();
+  if (body?.isConnected && !body.contains(document.activeElement)) {
+    body.querySelector(`.${used.className}`)?.focus({ preventScroll: true });
+  }
+}
+
+function newBody(item) {
+  const body = make("tbody");
+  body.dataset.no = item.no;
+  body.setAttribute("role", "rowgroup");
+  return body;
+}
+
 function drawHead(table) {
-  if (table.dataset.view === choice.view) {
+  const [sort, isOther] = [choice.sort || NEWEST, table.dataset.view !== choice.view];
+  if (!isOther && table.dataset.sort === sort) {
     return;
   }
-  table.dataset.view = choice.view;
+  const used = table.tHead.contains(document.activeElement) ? document.activeElement.dataset.column : null;
   const view = VIEWS[choice.view];
-  const row = make("tr", "", ...Object.entries(view.columns).map(([column, head]) => {
-    const cell = make("th", column, head);
-    cell.scope = "col";
-    cell.setAttribute("role", "columnheader");
-    return cell;
-  }));
+  const row = make("tr", "", ...Object.entries(view.columns).map(([column, head]) => headOf(column, head, sort)));
   row.setAttribute("role", "row");
   table.caption.textContent = view.caption;
   table.tHead.replaceChildren(row);
-  table.tBodies[0].replaceChildren();
+  table.tHead.querySelector(`[data-column="${used}"]`)?.focus({ preventScroll: true });
+  Object.assign(table.dataset, { view: choice.view, sort });
+  if (isOther) {
+    [...table.tBodies].forEach((body) => body.remove());
+  }
 }
 
-// The files that need a person: for each such state their number, as a link to them.
+function headOf(column, head, sort) {
+  const isDown = sort === `-${column}`;
+  const isSorted = isDown || sort === column;
+  const button = buttonOf("", isSorted ? `${head} ${isDown ? "↓" : "↑"}` : head);
+  button.dataset.column = column;
+  const cell = make("th", column, button);
+  cell.scope = "col";
+  cell.setAttribute("role", "columnheader");
+  cell.setAttribute("aria-label", head);
+  if (isSorted) {
+    cell.setAttribute("aria-sort", isDown ? "descending" : "ascending");
+  }
+  return cell;
+}
+
+// The files that need somebody: for each such state their number, as a link to them.
 function drawTodo() {
-  const parts = [];
+  const tiles = [];
   let all = 0;
   for (const view of ["in", "out"]) {
-    for (const [state, { sums, look }] of Object.entries(STATES[view])) {
-      const count = sums ? lists[view].filter((item) => item.state === state).length : 0;
-      if (count) {
-        all += count;
-        const link = make("a", look, make("strong", "", numbers.format(count)), ` ${sums}`);
-        link.href = hashOf({ view, state });
-        parts.push(make("li", "", link));
+    for (const state of Object.keys(STATES[view]).filter((it) => STATES[view][it].sums)) {
+      const found = inState(view, state);
+      all += found.length;
+      if (found.length) {
+        tiles.push(make("li", "", tileOf(view, state, found)));
       }
     }
   }
-  replaceIfOther(byId("todo"), parts);
-  byId("idle").hidden = parts.length > 0;
-  document.title = `${all ? `(${all}) ` : ""}OFTP2 station ${byId("code").textContent}`.trim();
+  replaceIfOther(byId("todo"), tiles);
+  byId("idle").hidden = all > 0;
+  const title = `${all ? `(${all}) ` : ""}OFTP2 station ${byId("code").textContent}`.trim();
+  if (updatedAt && title !== document.title) {
+    say(all ? `To do: ${counted(all, "file")}.` : byId("idle").textContent);
+  }
+  document.title = title;
 }
 
-function drawViews(isNamed) {
+function tileOf(view, state, found) {
+  const { look, sums, many } = STATES[view][state];
+  const words = [(found.length > 1 && many) || sums, state.endsWith("_late") ? oldestOf(found) : commonReason(found)];
+  const link = linkOf({ view, state }, make("strong", "", numbers.format(found.length)), ` ${words.filter(Boolean).join(", ")}`);
+  link.className = look;
+  return link;
+}
+
+function oldestOf(found) {
+  const age = found.reduce((oldest, item) => Math.max(oldest, item.age ?? 0), 0);
+  return age > 0 ? `oldest ${spanOf(age)}` : "";
+}
+
+// The reason of these files, if they have the same.
+function commonReason(found) {
+  const [reason, ...others] = new Set(found.map(reasonOf));
+  return others.length ? "" : reason;
+}
+
+function drawRules() {
+  const rules = [...new Set(Object.values(LATE_AFTER))].map((bound) => {
+    const states = Object.keys(LATE_IF).filter((state) => LATE_AFTER[state] === bound);
+    const seen = states.includes("closing") ? ` (or ${spanOf(CLOSING_SEEN)} seen here)` : "";
+    return `${states.map((state) => LATE_IF[state]).join(", ")} after ${spanOf(bound)}${seen}`;
+  });
+  setText(byId("rules"), `Late, by a file's stamp read as UTC: ${rules.join("; ")}.`);
+}
+
+// What "no file needs anybody" doesn't speak of.
+function drawUnlooked() {
+  const parts = [];
+  if (!partners.length || partners.some((partner) => events.lastContactWith(partner) === null)) {
+    parts.push("Not looked at: whether partners are reached, and for how long responses wait to be sent. The journal has how each session ended. ");
+  }
+  const undated = ["in", "out"].flatMap((view) => lists[view].filter((item) => Object.hasOwn(LATE_AFTER, item.state) && item.age === null));
+  if (undated.length) {
+    const links = undated.slice(0, NAMED).flatMap(({ view, no }) => [linkOf({ view, name: no }, `${VIEWS[view].title.toLowerCase()} ${no}`), ", "]);
+    const rest = undated.length > NAMED ? ` and ${numbers.format(undated.length - NAMED)} more` : "";
+    parts.push("Not looked at, since the stamp tells no age: ", ...links.slice(0, -1), `${rest}. `);
+  }
+  const again = [...new Set(Object.values(AGAIN))].flatMap((state) => {
+    const count = inState("out", state).length;
+    return count ? [linkOf({ view: "out", state }, `${numbers.format(count)} ${state.replace("_again", "")}`), ", "] : [];
+  });
+  if (again.length) {
+    parts.push("Not counted, since a later file to the partner has their name: ", ...again.slice(0, -1), ".");
+  }
+  replaceIfOther(byId("unlooked"), parts);
+}
+
+function drawViews(isOfFilter) {
   replaceIfOther(byId("views"), Object.entries(VIEWS).map(([view, { title }]) => {
-    const count = lists[view].filter(isNamed).length;
-    const link = make("a", "", title, " ", make("span", "count", numbers.format(count)));
-    link.href = hashOf({ ...choice, view, state: "" });
+    const count = lists[view].filter(isOfFilter).length;
+    const link = linkOf({ ...choice, view, state: "" }, title, " ", make("span", "count", numbers.format(count)));
     if (view === choice.view) {
       link.setAttribute("aria-current", "page");
     }
@@ -617,15 +1036,15 @@ function drawViews(isNamed) {
   }));
 }
 
-// Replaces the children of an element only if they differ, so that the keyboard focus isn't lost.
+// Replaces the content of an element only if it differs, so that the keyboard focus isn't lost.
 function replaceIfOther(element, parts) {
-  const other = make(element.localName, "", ...parts);
+  const other = make(element.localName, element.className, ...parts);
   if (element.isEqualNode(Object.assign(other, { id: element.id }))) {
     return;
   }
-  const at = [...element.children].findIndex((part) => part.contains(document.activeElement));
+  const at = [...element.querySelectorAll("a")].indexOf(document.activeElement);
   element.replaceChildren(...other.childNodes);
-  element.children[at]?.querySelector("a")?.focus();
+  element.querySelectorAll("a")[at]?.focus();
 }
 
 function drawFilter() {
@@ -633,10 +1052,16 @@ function drawFilter() {
   setOptions(byId("partner"), [["", "All partners"], ...shown.map((partner) => [partner, plain(partner)])], choice.partner);
   const states = Object.entries(STATES[choice.view]).map(([state, { words }]) => [state, words]);
   setOptions(byId("state"), [["", "All states"], ...states], choice.state);
-  if (byId("name").value !== choice.name) {
-    byId("name").value = choice.name;
+  const orders = Object.entries(VIEWS[choice.view].columns).flatMap(([column, head]) => [[`-${column}`, `${head} ↓`], [column, `${head} ↑`]]);
+  setOptions(byId("sort"), orders, choice.sort || NEWEST);
+  for (const key of ["name", "since", "until"]) {
+    if (byId(key).value !== choice[key]) {
+      byId(key).value = choice[key];
+    }
   }
-  byId("clear").disabled = !choice.partner && !choice.name && !choice.state;
+  const used = FILTERS.filter((key) => choice[key]).length;
+  byId("clear").disabled = !used;
+  setText(byId("fold"), `Filter and sort${used ? ` (${used})` : ""}`);
 }
 
 function setOptions(select, options, value) {
@@ -650,18 +1075,20 @@ function setOptions(select, options, value) {
 function draw() {
   const table = byId("list");
   const all = lists[choice.view];
-  const isNamed = namedAsChosen();
-  const found = all.filter((item) => isNamed(item) && (!choice.state || item.state === choice.state));
-  drawViews(isNamed);
+  const isOfFilter = isChosen();
+  const found = sorted(all.filter((item) => isOfFilter(item) && (!choice.state || item.state === choice.state)));
+  drawViews(isOfFilter);
   drawFilter();
   drawHead(table);
-  keepPlace(table.tBodies[0], () => drawRows(table.tBodies[0], found.slice(0, mostRows)));
-  const { noun, none } = VIEWS[choice.view];
+  keepPlace(table, () => keepFocus(table, () => drawRows(table, found.slice(0, mostRows))));
+  const { noun, none, caption, stamps } = VIEWS[choice.view];
   const part = found.length === all.length ? "" : `${numbers.format(found.length)} of `;
+  setText(byId("heading"), caption);
   setText(byId("shown"), part + counted(all.length, noun));
+  setText(byId("stamps"), stamps === OURS ? `Stamps are read as UTC, and shown in your zone, ${zoneText()}.` : "Stamps are shown as the sender wrote them. They tell no zone.");
   setText(byId("none"), all.length ? "Nothing here fits the filter." : none);
   byId("none").hidden = found.length > 0;
-  byId("more").hidden = found.length <= mostRows;
+  byId("next").hidden = found.length <= mostRows;
 }
 
 // Sets a text only if it differs, so that a screen reader doesn't read it again.
@@ -671,9 +1098,14 @@ function setText(element, text) {
   }
 }
 
-// Draws, and keeps the row at the top of the window in its place.
-function keepPlace(body, change) {
-  const top = body.getBoundingClientRect().top < 0 ? [...body.rows].find((row) => row.getBoundingClientRect().bottom > 0) : null;
+// Tells something to who can't see it change.
+function say(text) {
+  byId("said").textContent = text;
+}
+
+// Draws, and keeps the item at the top of the window in its place.
+function keepPlace(table, change) {
+  const top = table.getBoundingClientRect().top < 0 ? [...table.tBodies].find((body) => body.getBoundingClientRect().bottom > 0) : null;
   const before = top?.getBoundingClientRect().top;
   change();
   if (top?.isConnected) {
@@ -684,7 +1116,7 @@ function keepPlace(body, change) {
 // ---- renewing
 
 const answers = new Map();
-let renewedAt = null;
+let updatedAt = null;
 let timer = null;
 let isRenewing = false;
 
@@ -723,12 +1155,13 @@ async function renew() {
   const begun = performance.now();
   try {
     takeLists(await ask("in"), await ask("out"), await ask("responses"));
-    renewedAt = new Date();
     byId("main").hidden = false;
     byId("trouble").hidden = true;
-    byId("renewed").textContent = `Renewed at ${clockOf(renewedAt)}`;
     drawTodo();
+    drawUnlooked();
     draw();
+    updatedAt = new Date();
+    byId("updated").textContent = `Updated ${clockOf(updatedAt)}, ${zoneText()}`;
   } catch (fault) {
     tellTrouble(fault instanceof Trouble ? fault.message : "its answer isn't what it should be");
   }
@@ -741,28 +1174,104 @@ function clockOf(moment) {
 }
 
 function tellTrouble(why) {
-  const what = renewedAt ? `What you see is of ${clockOf(renewedAt)}.` : "Nothing can be shown yet.";
+  const what = updatedAt ? `What you see is of ${clockOf(updatedAt)}.` : "Nothing can be shown yet.";
   setText(byId("trouble"), `The station couldn't be asked: ${why}. ${what} The page tries again by itself.`);
   byId("trouble").hidden = false;
-  byId("renewed").textContent = renewedAt ? `Last renewed at ${clockOf(renewedAt)}` : "";
+  byId("updated").textContent = updatedAt ? `Last updated ${clockOf(updatedAt)}, ${zoneText()}` : "";
+}
+
+// ---- the paths in commands, which the browser keeps
+
+const paths = { ...PATHS };
+
+function readPaths() {
+  for (const key of Object.keys(PATHS)) {
+    try {
+      paths[key] = localStorage.getItem(`oftp_station ${key}`) || PATHS[key];
+    } catch {
+      // This browser keeps nothing.
+    }
+    byId(key).value = paths[key];
+  }
+}
+
+function takePath(key, text) {
+  paths[key] = text.trim() || PATHS[key];
+  try {
+    localStorage.setItem(`oftp_station ${key}`, text.trim());
+  } catch {
+    // It counts until the page is closed.
+  }
+  draw();
 }
 
 // ---- what a person does
 
-for (const key of ["partner", "name", "state"]) {
-  byId(key).addEventListener("input", (event) => {
-    choice[key] = event.target.value;
-    keepChoice();
-    draw();
-  });
+for (const key of [...FILTERS, "sort"]) {
+  byId(key).addEventListener("input", (event) => choose({ [key]: event.target.value }));
+}
+for (const key of Object.keys(PATHS)) {
+  byId(key).addEventListener("input", (event) => takePath(key, event.target.value));
 }
 byId("filter").addEventListener("submit", (event) => event.preventDefault());
 byId("filter").addEventListener("reset", (event) => {
   event.preventDefault();
-  Object.assign(choice, { partner: "", name: "", state: "" });
-  keepChoice();
-  draw();
+  choose(Object.fromEntries(FILTERS.map((key) => [key, ""])));
   byId("name").focus();
+});
+byId("fold").addEventListener("click", () => {
+  const isOpen = byId("filter").classList.toggle("unfolded");
+  byId("fold").setAttribute("aria-expanded", isOpen);
+});
+byId("skip").addEventListener("click", (event) => {
+  // The fragment of the address is the filter's.
+  event.preventDefault();
+  byId("list").focus();
+});
+
+function sortBy(column) {
+  const [up, down] = [column, `-${column}`];
+  const now = choice.sort || NEWEST;
+  const [first, second] = FROM_GREATEST.includes(column) ? [down, up] : [up, down];
+  choose({ sort: now === first ? second : first });
+}
+
+async function copy(button) {
+  const command = button.parentElement.querySelector("code");
+  try {
+    await navigator.clipboard.writeText(command.textContent);
+    tellCopied(button, "Copied");
+  } catch {
+    // A browser gives no clipboard to a page that came by plain HTTP from another machine.
+    getSelection().selectAllChildren(command);
+    tellCopied(button, "Press Ctrl+C");
+  }
+}
+
+function tellCopied(button, words) {
+  say(`${words}.`);
+  button.textContent = words;
+  setTimeout(() => setText(button, "Copy"), 2000);
+}
+
+function toggle(no) {
+  const key = keyOf({ view: choice.view, no });
+  if (!opened.delete(key)) {
+    opened.add(key);
+  }
+  draw();
+}
+
+// A click on a row opens its details, unless it marks a text in it.
+byId("list").addEventListener("click", ({ target, detail }) => {
+  const [head, copied, body] = [target.closest("thead button"), target.closest(".copy"), target.closest("tbody")];
+  if (head) {
+    sortBy(head.dataset.column);
+  } else if (copied) {
+    copy(copied);
+  } else if (target.closest(".open") || (body && detail < 2 && !target.closest(".more") && getSelection().isCollapsed)) {
+    toggle(body.dataset.no);
+  }
 });
 
 function showMore() {
@@ -770,14 +1279,16 @@ function showMore() {
   draw();
 }
 
-byId("more").addEventListener("click", showMore);
-new IntersectionObserver(([seen]) => seen.isIntersecting && showMore(), { rootMargin: "600px" }).observe(byId("more"));
+byId("next").addEventListener("click", showMore);
+new IntersectionObserver(([seen]) => seen.isIntersecting && showMore(), { rootMargin: "600px" }).observe(byId("next"));
 addEventListener("hashchange", () => {
   readChoice();
   draw();
 });
 document.addEventListener("visibilitychange", () => document.hidden || renew());
+readPaths();
 readChoice();
+drawRules();
 renew();
 </script>
 </body>
