@@ -376,8 +376,8 @@ def of_unknown_age(browser, picture):
     """A file whose stamp is no date, or is ahead of every clock, isn't late; the page says that its age wasn't looked at, and which file it is."""
     now = utc_now()
     lists = Lists()
-    for _ in range(4):
-        lists.went("handed", date="20240230", time="0600000001")
+    for date, time_of_day in (("20240230", "0600000001"), ("20241301", "0600000001"), ("20240115", "2400000001"), ("20240115", "0660600001")):
+        lists.went("handed", date=date, time=time_of_day)
     lists.came("open", date="99999999", time="9999999999")
     lists.went("delivered", "EERP", date="20240230", time="0600000001")
     lists.went("waiting", age=-timedelta(hours=14, minutes=5), now=now)
