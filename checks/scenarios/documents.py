@@ -17,6 +17,16 @@ in docs/PERFORMANCE.md. The definitions that docs/PROMISES.md quotes are in the 
 crate that there is, or by the gate. If `rt` is installed, the documents name its logic. With `--verify`, what docs/PROMISES.md shows of
 `rt ci` is typed too, at the top of the repository, and ends as shown. That is a proof of a small crate: 21 seconds, or 3 where it has passed
 before. The last line is `N passed, M failed`.
+
+Shows: the commands and options of docs/COMMANDS.md are those of the program, its reasons those of oftp_wire, its keys of a partner book those that
+a book needs, and its columns and keys of lists those that are printed. README's day and the first day of docs/OPERATING.md, through TLS too where
+stunnel is installed, go as they are shown, and then so do the second partner and the second plant of docs/HOWTO.md; so do README's installation of
+a service, OPERATING's trial of a restore, and its change of the year, between two stations that still owe each other something at first;
+examples/two_stations.sh prints what README shows of it. CHANGELOG.md has the program's version. OPERATING makes each folder that a unit needs, and
+gives what reads a service's database as its user; the book of examples/service leads to the tunnel. Each promise of docs/PROMISES.md is verified by
+`rt ci` of a crate that there is; with `--verify`, as in the gate, what is shown of `rt ci` ends as shown. Each speed of README.md stands in
+docs/PERFORMANCE.md, each definition that docs/PROMISES.md quotes is that of a crate, and the picture of docs/ARCHITECTURE.md has each crate above
+those that it uses. The documents name the crates that there are and the toolchain's logic
 """
 
 import argparse
