@@ -5,7 +5,7 @@
     checks/evidence.py --check      compares them with what it would write
 
 The pages are: what each check shows (from the head of each script), which wrong bodies a promise names and what refuses each (from the edits), each
-statement about `run` with what shows it, the breaks that checks have noticed, the bounds, what a tool's wrong bodies found, and what was measured.
+statement about `run` with what shows it, two ways through the code, the breaks that checks have noticed, the bounds, what a tool's wrong bodies found, and what was measured.
 What no script knows is in tables beside the pages, docs/evidence/*.csv and docs/measured/*.csv. A wrong body that isn't there, a check without a
 script and a table that no page shows fail. The last line is `N passed, M failed`, in pages.
 """
@@ -119,7 +119,20 @@ def page_of_run():
     """Each statement about `run`, with what shows it."""
     rows = [["Statement", "Shown by"], *table(EVIDENCE / "run.csv")[1:]]
     name = "A name without a script is a case of `checks/scenarios/resident.py`."
-    return f"# Each statement about `run`, and what shows it\n\n{WRITTEN}\n{name}\n\n{markdown(rows)}"
+    rules = [["Rule", "Function", "Law", "Row or check"], *table(EVIDENCE / "rules.csv")[1:]]
+    told = "Functions are those of oftp_schedule/specs, laws those of oftp_schedule/src/laws.rt, rows files of rows/schedule."
+    return (
+        f"# Each statement about `run`, and what shows it\n\n{WRITTEN}\n{name}\n\n{markdown(rows)}\n## Which rule is where\n\n{told}\n\n{markdown(rules)}"
+    )
+
+
+def page_of_ways():
+    """The ways of an octet and of a submission through the code, call by call."""
+    parts = [f"# Two ways through the code\n\n{WRITTEN}\nEach line is called by one above it; paths are below crates/.\n"]
+    for title, name in (("An octet, from DATA to a row", "way_of_an_octet"), ("A submission, from its words to a row", "way_of_a_submission")):
+        rows = [["", "File", "Function", "What it does"], *table(EVIDENCE / f"{name}.csv")[1:]]
+        parts.append(f"## {title}\n\n{markdown(rows)}")
+    return "\n".join(parts)
 
 
 def page_of_edges():
@@ -173,6 +186,7 @@ MADE = {
     EVIDENCE / "checks.md": page_of_checks,
     EVIDENCE / "wrong_bodies.md": page_of_wrong_bodies,
     EVIDENCE / "run.md": page_of_run,
+    EVIDENCE / "ways.md": page_of_ways,
     EVIDENCE / "edges.md": page_of_edges,
     EVIDENCE / "measured.md": page_of_measurements,
     MEASURED / "gate.svg": chart_of_gate,

@@ -5,7 +5,7 @@
 
 What the package has is compared with the tree and with what the program prints: its files and their modes, its units, a page for each command, each
 option in its page and in the completions. Without man the pages aren't printed, and without lintian it isn't asked. The folder is a Debian of its
-own, which debootstrap makes from the network. There the package is installed, the first day of docs/OPERATING.md is typed as the station's user, and
+own, which debootstrap makes from the network. There the package is installed, the first day of the tutorial is typed as the station's user, and
 it is installed again, removed and purged: the data stay, unless whoever is asked says otherwise. The last line is `N passed, M failed`.
 
 Shows: the package of packaging/: the same octets twice; its files, modes, fields and units; a page for each command with its options, printed
@@ -37,7 +37,7 @@ from typist import Typist, blocks_below, typed
 
 BUILD = ROOT / "packaging/build"
 SERVICE = ROOT / "examples/service"
-OPERATING = ROOT / "docs/OPERATING.md"
+TUTORIAL = ROOT / "docs/tutorials/first-delivery.md"
 PLACES = {".service": "usr/lib/systemd/system", ".timer": "usr/lib/systemd/system", ".path": "usr/lib/systemd/system"}
 DOCUMENTS = "usr/share/doc/oftp-station"
 USAGE = re.compile(r"^  oftp_station (\w+)(.*)$", re.M)
@@ -366,7 +366,7 @@ def is_installed(package):
 
 
 def makes_user_and_folders(guest):
-    """The user can't log in, and the folders are as docs/OPERATING.md makes them. No unit is enabled."""
+    """The user can't log in, and the folders are as docs/howto/install.md makes them. No unit is enabled."""
     user = guest.give("getent", "passwd", "oftp").strip().split(":")
     expect(user[5:], ["/var/lib/oftp", "/usr/sbin/nologin"], "the user's folder and shell")
     found = guest.give("stat", "--format=%n %a %U %G", *(f"/{name}" for name in DATA)).splitlines()
@@ -377,9 +377,9 @@ def makes_user_and_folders(guest):
 
 
 def first_day_goes_as_shown(guest):
-    """The first day of docs/OPERATING.md, up to its tunnel, typed as it is."""
+    """The first day of the tutorial, up to its tunnel, typed as it is."""
     with guest:
-        for block in blocks_below(OPERATING, "The first day", 9):
+        for block in blocks_below(TUTORIAL, "The first day", 9):
             if block[0].startswith("openssl "):
                 break
             for command, wanted in typed(block):

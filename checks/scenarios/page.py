@@ -8,7 +8,7 @@
 The page is crates/oftp_page/src/page.html, or FILE. Most lists are made (`checks/lib/page_lists.py`): a server in this script returns
 both, and counts the requests. In three cases the built program answers, in two of them from databases of rows/listing: `http` returns the
 lists, and `run` also the page. The browser resolves no address but this machine's. `--pictures` writes screenshots. The picture of
-docs/OPERATING.md is `--screenshot docs/page.png`, and nothing compares it. Without a browser nothing is tried. The last line is
+docs/howto/page.md is `--screenshot docs/page.png`, and nothing compares it. Without a browser nothing is tried. The last line is
 `N passed, M failed`; before it comes the time for 10,000 files.
 
 Shows: where there is a browser: the page without a file, with 30 in every state, with 10,000 and with hostile texts, at 1,280, 1,024, 400 and 320

@@ -219,7 +219,7 @@ def nobody_is_there(room):
 
 
 def authority_has_names(room):
-    """With verifyChain and checkHost, as docs/OPERATING.md has them, a name that an authority has signed is let in, and no other."""
+    """With verifyChain and checkHost, as docs/howto/partner.md has them, a name that an authority has signed is let in, and no other."""
     authority = made(room, "authority")
     known, other = made(room, "known", signer=authority), made(room, "other", signer=authority)
     late = made(room, "late", "known", days=-1, signer=authority)
