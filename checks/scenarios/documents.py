@@ -13,10 +13,9 @@ first day. Without stunnel the first day ends before it, and these are left out.
 are typed too, in a folder that takes the place of /usr/local and /etc, without systemd. So are the change of the year of docs/OPERATING.md,
 with two stations between which something is open at first, and its restore. Each folder that a unit of examples/service needs is made
 there, what reads a service's database is given as its user, and the book for a service leads to the tunnel. Each speed of README.md stands
-in docs/PERFORMANCE.md. The definitions that docs/PROMISES.md quotes are in the crates, and each promise there is verified by `rt ci` of a
-crate that there is, or by the gate. If `rt` is installed, the documents name its logic. With `--verify`, what docs/PROMISES.md shows of
-`rt ci` is typed too, at the top of the repository, and ends as shown. That is a proof of a small crate: 21 seconds, or 3 where it has passed
-before. The last line is `N passed, M failed`.
+in docs/PERFORMANCE.md. If `rt` is installed, the documents name its logic. With `--verify`, what docs/PROOF-MAP.md shows of `rt ci` is typed
+too, at the top of the repository, and ends as shown. That is a proof of a small crate: 21 seconds, or 3 where it has passed before. The last
+line is `N passed, M failed`.
 """
 
 import argparse
@@ -45,7 +44,7 @@ COMMANDS = ROOT / "docs/COMMANDS.md"
 OPERATING = ROOT / "docs/OPERATING.md"
 HOWTO = ROOT / "docs/HOWTO.md"
 ARCHITECTURE = ROOT / "docs/ARCHITECTURE.md"
-PROMISES = ROOT / "docs/PROMISES.md"
+PROOF_MAP = ROOT / "docs/PROOF-MAP.md"
 PERFORMANCE = ROOT / "docs/PERFORMANCE.md"
 # A command's line of the table: its name, and the rest.
 LINE = re.compile(r"^\| `\./oftp_station ([a-z]+)((?:[^`|]|\\\|)*)` \|", re.M)
@@ -64,8 +63,6 @@ MORE_KEYS = re.compile(r"Files also have ([^.]*), and responses that were receiv
 REPLY = re.compile(r"^ask GET /(\w+)[/\d]* HTTP/1\.1\n200 (.*)$", re.M)
 # A time or a rate.
 SPEED = re.compile(r"\b([\d.,]+)(?: \|)? (ms|s|MB/s)\b")
-# How a promise is verified.
-VERIFIED = re.compile(r"\*Verify\*:\s+(.*?)(?:\. |\.$)", re.S | re.M)
 
 
 def said(*words):
@@ -395,16 +392,9 @@ def kit_is_told():
         return
     version = subprocess.run(["rt", "version"], capture_output=True, text=True, check=True).stdout.split()
     logic = version[version.index("logic") + 1]
-    for name in ("README.md", "docs/PROOF-MAP.md", "docs/PERFORMANCE.md"):
+    for name in ("README.md", "docs/THEOREM.md", "docs/PERFORMANCE.md"):
         named = set(re.findall(r"logic ([0-9a-f]{16})", (ROOT / name).read_text(encoding="utf-8")))
         expect(named, {logic}, f"the toolchain of {name}")
-
-
-def definitions_are_quoted():
-    """The definitions that docs/PROMISES.md quotes are in the crates as they are there."""
-    specs = " ".join(" ".join(it.read_text(encoding="utf-8").split()) for it in ROOT.glob("crates/*/specs/*.antt"))
-    for block in blocks_below(PROMISES, "The headline, phrase by phrase", 2):
-        expect(" ".join(" ".join(block).split()) in specs, True, f"specs/ of a crate has the definition that docs/PROMISES.md quotes: {block[0]}")
 
 
 def speeds_are_measured():
@@ -414,23 +404,13 @@ def speeds_are_measured():
     expect(told - set(SPEED.findall(PERFORMANCE.read_text(encoding="utf-8"))), set(), "the speeds of README.md that docs/PERFORMANCE.md doesn't have")
 
 
-def promises_are_verified():
-    """Each promise is verified by `rt ci` of crates that there are, or by the gate."""
-    crates = set(re.findall(r"^(\w+):", (ROOT / "crates.txt").read_text(encoding="utf-8"), re.M))
-    text = part_of(PROMISES, "Promises")
-    told = VERIFIED.findall(text)
-    expect(len(told), text.count("\n### P") - 1, "the promises of docs/PROMISES.md, without the last, that say how they are verified")
-    commands = {command for it in told for command in re.findall(r"`([^`]+)`", it)}
-    expect(commands - {".ci/run", *(f"rt ci {crate}" for crate in crates)}, set(), "other commands that verify a promise of docs/PROMISES.md")
-
-
 def verification_ends_as_shown():
-    """What docs/PROMISES.md shows of `rt ci` ends as shown, typed at the top of the repository by a reader, so CI isn't set: where it is, `rt`
+    """What docs/PROOF-MAP.md shows of `rt ci` ends as shown, typed at the top of the repository by a reader, so CI isn't set: where it is, `rt`
     takes no names. How many passed may differ."""
     if not shutil.which("rt"):
-        print("NOT TRIED without rt: how a promise is verified")
+        print("NOT TRIED without rt: how a claim is proved again")
         return
-    block = next(it for it in blocks_below(PROMISES, "Promises", 1) if it[0].startswith("$ rt "))
+    block = next(it for it in blocks_below(PROOF_MAP, "How to read a claim", 1) if it[0].startswith("$ rt "))
     environment = {name: value for name, value in os.environ.items() if name != "CI"}
     for command, wanted in typed(block):
         done = subprocess.run(command.split(), cwd=ROOT, env=environment, capture_output=True, text=True, timeout=600, check=False)
@@ -442,7 +422,7 @@ CASES = [
     *(commands_are_told, options_are_told, version_is_told, crates_are_told, reasons_are_told, keys_are_told, columns_are_told),
     *(day_goes_as_shown, first_day_goes_as_shown, example_prints_what_is_shown, service_is_installed_as_shown),
     *(folders_of_units_are_made, database_is_read_as_its_user, book_of_service_leads_to_tunnel, year_ends_as_shown, restore_is_tried_as_shown, kit_is_told),
-    *(picture_is_in_order, definitions_are_quoted, speeds_are_measured, promises_are_verified),
+    *(picture_is_in_order, speeds_are_measured),
 ]
 
 
