@@ -7,7 +7,7 @@
     checks/claims.py --show P7 ..   prints them, and runs nothing
 
 A claim is named by its id, with its points, or by a crate. Its command proves one function with what that calls, in the crate's folder;
-the crates below are proved first unless they have been. The command `.ci/run` is the gate, and isn't run from here.
+the crates below are proved first unless they have been. A definition has no command. `.ci/run` is the gate, and isn't run from here.
 
 `--check` asks that
 
@@ -113,6 +113,10 @@ def is_spec(claim):
     return claim["file"].startswith("specs/")
 
 
+def is_definition(claim):
+    return claim["id"].startswith("D")
+
+
 def lost_in(claim):
     """What a claim names and isn't there."""
     if not ID.fullmatch(claim["id"]) or not claim["sentence"] or claim["sentence"][-1] != ".":
@@ -149,9 +153,9 @@ def lost_functions(text, names):
 
 
 def lost_command(claim, names):
-    """A command proves a function that the claim names, or its module."""
+    """A command proves a function that the claim names, or its module; a claim of definitions is one of its crate. A definition has none."""
     if is_spec(claim):
-        if claim["command"] != "rt check":
+        if claim["command"] != ("" if is_definition(claim) else "rt check"):
             yield "its command"
         return
     module = claim["file"].removeprefix("src/").removesuffix(".rt").replace("/", "::")
@@ -219,7 +223,7 @@ def contract(claim):
 
 
 def rendered(claim):
-    kind = "Definition" if claim["id"].startswith("D") else "Contract"
+    kind = "Definition" if is_definition(claim) else "Contract"
     premise = f" *Premise*: {claim['premise']}." if claim["premise"] else ""
     return f"{claim['sentence']}{premise} *{kind}*: {contract(claim)}."
 
@@ -286,6 +290,16 @@ def shown(claim):
             if found:
                 yield f"\n{path.relative_to(ROOT)}:{text.count(chr(10), 0, begin) + 1}: {name}"
                 yield from (f"    {it}" for it in found)
+                yield from (word for it in found for word in words_of(text, it))
+
+
+def words_of(text, clause):
+    """The definition of a clause that is one word, as the file imports it."""
+    word = re.fullmatch(r"ensures\*?(?: \w+)? \{ (\w+) \}", clause)
+    imported = re.search(rf"ghost use Rattle\.(\w+)\.specs\.(\w+)\.\{{[^}}]*\b{word[1]}\b", text) if word else None
+    path = CRATES / imported[1] / f"specs/{imported[2]}.antt" if imported else None
+    if path and path.is_file():
+        yield f"\n{path.relative_to(ROOT)}:\n{definition_of(path.read_text(encoding='utf-8'), word[1])}"
 
 
 def asked(table, names):
@@ -302,7 +316,7 @@ def tell(names, runs):
     table = list(asked(claims(), names))
     for claim in table:
         print("\n".join(shown(claim)), end="\n\n")
-    commands = dict.fromkeys((claim["crate"], claim["command"]) for claim in table)
+    commands = dict.fromkeys((claim["crate"], claim["command"]) for claim in table if claim["command"])
     passed = failed = 0
     for crate, command in commands:
         if not crate:
