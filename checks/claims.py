@@ -18,6 +18,9 @@ the crates below are proved first unless they have been. A definition has no com
 - docs/evidence/claims.md is what the table generates.
 
 The last line is `N passed, M failed`: of `--check` in claims, promises, ids and quotations, else in commands.
+
+Shows: each file, function, clause and definition that docs/claims.csv names exists, each promise has its claim, docs/THEOREM.md quotes the sources,
+and docs/evidence/claims.md is what the table generates
 """
 
 import csv

@@ -2,6 +2,10 @@
 # A supplier and a car maker as two stations on this machine, each a `run` that keeps its own database open and is asked by the commands beside it. A
 # dispatch note goes one way and a schedule the other. During the schedule the supplier's station is killed, and the next call continues where it
 # stopped. End-to-End Responses go back both ways, and the register is shown over HTTP. It prints each command and its output.
+#
+# Shows: two stations that keep their databases open, one of which is killed; the units of examples/service as systemd reads them, where it is
+# installed, the exposure of each service, which is below 3, the options that are shown for the station's unit, and the names of units for codes
+# that have to be escaped: none is started
 set -euo pipefail
 root=$(cd "$(dirname "$0")/.." && pwd)
 if [ -z "${OFTP_STATION-}" ]; then

@@ -111,7 +111,7 @@ class Page:
 
     def see_also(self, *pages):
         self.lines += [".SH SEE ALSO", ",\n".join(f"\\fB{plain(name)}\\fR({number})" for name, number in pages)]
-        self.lines += [".PP", plain(f"{DOCUMENTS}/docs/COMMANDS.md and {DOCUMENTS}/docs/OPERATING.md")]
+        self.lines += [".PP", plain(f"{DOCUMENTS}/docs/COMMANDS.md and {DOCUMENTS}/docs/howto")]
 
     def write(self, folder):
         place = folder / f"man{self.number}"

@@ -9,6 +9,10 @@ it, its tables are those of a register, it has all that was answered before the 
 check goes on beyond its time until enough of each were killed. At the end the database has all that was answered, no temporary file is left
 beside the backup, and a station opens a copy of the last one. The seed is printed. After a failure all files are kept in a folder. The last
 line is `N passed, M failed`.
+
+Shows: backups for 20 s (`--minutes N` for longer) of a station to which two others hand in files all the time, while either program is killed by
+SIGKILL at random moments. The file at the name is the backup from earlier or a whole new one. Stock sqlite3 finds no error in it; it has all that
+was answered before it began, and nothing that began after its end. No draft is left, and a station opens a copy
 """
 
 import argparse

@@ -10,6 +10,10 @@ it heard, the station's line and the tables have to be those of the model of a s
 with the same station again, which goes as in the model. If this leaves what the row has at this place, the rest of the row follows, and ends
 as the row says. Where several rows begin alike, what they share is cut once. In sessions of more than 20,000 octets N is 50 times as much. The
 last line is `N passed, M failed`.
+
+Shows: the sessions of the rows, in lives of `run`, end after one octet after another: around the end of each frame and at each 251st (`--every 1`
+for each). The partner says no more, closes or resets. What it heard and what is left is the model's; then the same station hears the whole session,
+and ends as the row does where what is left allows it
 """
 
 import argparse

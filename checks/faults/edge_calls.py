@@ -10,6 +10,13 @@ and the names before the line is printed. A file that `offer` can't read or move
 link or a pipe that comes between its look and its open isn't followed, nor by `collect`; and one that is killed between the taking of a file and
 its submission takes no file of another folder for its own. One that is killed at any call of a refusal leaves no line without its file for good.
 The lock of a folder that goes away between a look and an open is tried again. It needs a C compiler. The last line is `N passed, M failed`.
+
+Shows: where there is a C compiler: calls for sockets and a trace that fail, allocations that are refused while a trace is compared with the
+database, and which fault reports it; callers who can't be accepted for the moment, by `listen`, by `http` and at the sockets of `run`; each
+listener of `run` that fails for good, also within a session; the syncs and the name of a fetched file and of a backup, in their order; a file of
+`offer` whose move, open or reading fails for the moment; a refusal that is killed at each of its calls, and the next `offer`; a folder's lock that
+goes away or is exchanged behind a look; a link or a pipe that comes to the place of a file between two calls of `offer` and `collect`; an `offer`
+that is killed between the taking of a file and its submission, while another folder has one of its name and time
 """
 
 import bisect

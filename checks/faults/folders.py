@@ -12,6 +12,12 @@ no file has: each file in `refused` has its whole line then, and a line without 
 folder again. Behind the last call each file that was to be collected is there once, and released once where that was asked for; each file that was
 offered is in the register once and is put away, and no line is left; and one more call does nothing. It goes on behind its time until enough of
 each were killed. The seed is printed, and at a failure all that is left is kept in a folder. The last line is `N passed, M failed`.
+
+Shows: `collect`, and `offer` over two folders with files of the same names and times, killed by SIGKILL at random moments for 20 s (`--minutes N`
+for longer), alone and beside a station, which is killed too, again and again until a call comes to an end. After each call no file is half,
+another's or in two places, what is released is in the folder, and the register has no file twice. At the end each file that is whole and unanswered
+is in the folder once, and released once with `--release`; each that was offered is in the register once, and in `sent`; and another call does
+nothing
 """
 
 import argparse

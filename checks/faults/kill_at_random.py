@@ -14,6 +14,9 @@ Over each of the five databases `listen` and `http` run from the first trial to 
 that `listen`, and half of these are cut off. Between two trials a stranger calls, or a request asks for the database. The memory and
 descriptors of the services at the end are compared with those at the beginning (checks/lib/staying.py). The last line is `N passed, M
 failed`.
+
+Shows: the program killed at random moments for 30 s (`--minutes N` for longer), and sessions of services that stay cut off: what was answered is
+there
 """
 
 import argparse

@@ -9,6 +9,9 @@ received or sent answer, and what the piece asked for whose answers were about t
 again, continues from the Restart position that the station answers, and is fetched whole, or it is refused by SFNA 13 because it is whole
 already. Otherwise the session is held once more. Reads and writes of one octet change nothing. It needs a C compiler. The last line is `N
 passed, M failed`.
+
+Shows: where there is a C compiler: eight rows whose input ends, or whose reader or writer fails, at about the end of each frame and at each 97th
+octet (`--every 1` for each octet), and which then go on
 """
 
 import argparse

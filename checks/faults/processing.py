@@ -9,6 +9,10 @@ one, for each N up to its end. Random moments also come within a command of the 
 then, each alone or with all that it has started. Of the killed calls and the last one: no file with a response, and none of which a verdict is kept,
 comes to the program again; each comes whole. Behind the last one each file has the response that the program said, and what it leaves has none. The
 seed is printed, and at a failure all that is left is kept in a folder. The last line is `N passed, M failed`.
+
+Shows: the same script, killed before each of its commands, and at random moments for 10 s (`--seconds N`), alone and with all that it has started,
+several times in a row. The program gets no file that has a response, or of which it has said something that is kept, and each file whole. Behind a
+last call each file has the response that the program said, and what it leaves has none
 """
 
 import argparse

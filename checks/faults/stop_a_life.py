@@ -10,6 +10,10 @@ killed before the call; killed after half of a write; or gets an error, then and
 told that it is done, or of whose answer an octet was read, and at most one change more, as in the model of a station (checks/lib/model.py).
 Another `run` opens it, shows the same, and lives the life to its end: what broke is done again, by a partner that knows only what it heard.
 Then both files and both responses are there, once. It needs a C compiler. The last line is `N passed, M failed`.
+
+Shows: where there is a C compiler: `run` is killed, torn and failed at each write and sync on its database within one life, of a submitted file
+that goes out, a partner's that comes in two sessions, its release, a call with both responses, and look-ups. What is left has each change that was
+answered or told as done, and at most one more; another `run` shows the same and lives the life to its end
 """
 
 import argparse

@@ -14,6 +14,10 @@ output has to be a beginning of the whole answer, except for a final ESID 08. Th
 have to hold all that it answers, and at most the next change. Then the command runs again, and ends as usual. A session also goes on as the
 model of a station does (checks/lib/model.py): a file that was received in part continues from the Restart position that the station
 answers, and is fetched whole. It needs a C compiler. The last line is `N passed, M failed`.
+
+Shows: where there is a C compiler: each command of the day and of seven more rows is killed, torn and failed at each write and sync on the
+database, and has 25 of its allocations refused; then a partner's file goes on and is fetched whole. It prints how many of how many calls and
+allocations were tried, and fails where a command that writes isn't stopped
 """
 
 import argparse

@@ -20,6 +20,12 @@ the others (docs/PROMISES.md, P13). The check goes on beyond its time until prog
 and until a station has had a whole file from the fourth partner and one has handed a file over to it. It fails if another five minutes don't
 bring that. The seed is printed. It repeats the choices, but not how far a program is when it is killed. After a failure the history of the life is
 printed too, and its files are kept. The last line is `N passed, M failed`.
+
+Shows: three stations as processes for 30 s (`--minutes N` for longer), each of which exchanges files with both others and with a fourth partner
+that sends anything at all. That one gives its files the names of others' files, says that they are another's, answers files that aren't for it, and
+says that it is another station. Connections are cut, reset or silent, and programs and commands are killed. After each session each two stations
+have what they promise each other, of the files between their two codes; once nothing breaks any more, all of these are answered. In every other
+life a station begins a new database, and what is left of the promise is tested from then on
 """
 
 import argparse

@@ -19,6 +19,12 @@ beginning (checks/lib/staying.py), and behind ten minutes, too. It goes on behin
 lost their station, connections broke and transfers went on, and fails where five minutes more don't bring them. The seed is printed: it repeats
 what each chooses, and not when. At a failure what happened to the pair last is printed too, and what is left is kept. The last line is `N passed,
 M failed`.
+
+Shows: two pairs of `run` for 30 s (`--minutes N` for longer), which call by their clocks and when they are asked. Connections are cut, reset or
+silent, and stations are killed by SIGKILL at any moment, also while they open. Two operators work at each station all the time; their commands are
+killed or lose their station. After each round what a command said is done is there, once, and so are what was accepted and each response that was
+answered, and both stations have what they promise each other. At the end all is answered, and a station that stayed has the memory and descriptors
+that it had
 """
 
 import argparse

@@ -18,6 +18,11 @@ The check goes on beyond its time until programs and commands were killed, conne
 happen to a session has happened to one (checks/lib/passage.py). It fails if another five minutes don't bring that. The seed is printed. It
 repeats the choices, but not how far a program is when it is killed. After a failure the history of the pair is printed too, and its files are
 kept. The last line is `N passed, M failed`.
+
+Shows: pairs of stations as processes for 30 s (`--minutes N` for longer), with files and responses both ways. Connections are cut within a frame,
+reset or silent, and either program and the operators' commands are killed by SIGKILL. After each session what either has as handed over is whole
+and equal at the other, and what it has as answered was answered there. Once nothing breaks any more, all is answered. Services that stay have at
+the end the memory and descriptors that they had at the beginning
 """
 
 import argparse

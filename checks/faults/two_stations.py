@@ -11,6 +11,10 @@ either direction, or one of the supplier's three programs is killed before it wr
 this is one program, from its opening on). The second round isn't broken. Then the file is delivered at the car maker and whole at the
 supplier, and there is one response for it at either side, whatever broke. `--stops` needs a C compiler. The last line is `N passed, M
 failed`.
+
+Shows: two programs whose connection breaks after one octet in 29 (`--every 1` for each), and, where there is a C compiler, of which one is killed
+at each call on its database (`--stops`): after a second round the file is delivered, whole and answered once. With `--residents` each is `run` and
+is asked to call
 """
 
 import argparse

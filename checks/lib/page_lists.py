@@ -371,7 +371,7 @@ SUMS = {
     "duplicate": ("refused as a duplicate", "refused as duplicates"),
     "returned": ("returned by a partner", None),
 }
-# The words that an installation by docs/OPERATING.md has in a command.
+# The words that an installation by docs/howto/install.md has in a command.
 PATHS = {"program": "sudo -u oftp oftp_station", "database": "/var/lib/oftp/station.db", "book": "/etc/oftp/book.toml"}
 TURNS = "\u061c\u200e\u200f\u202a\u202b\u202c\u202d\u202e\u2066\u2067\u2068\u2069"
 

@@ -5,8 +5,11 @@
 
 A line of BOUNDS names a document, a pattern that finds the sentence there, and for each number in it where the code has it, or where the table of
 crates in docs/PERFORMANCE.md does. A sentence that isn't found fails too. The last line is `N passed, M failed`.
+
+Shows: each bound, default and number of things that the documents state is the one that the code has
 """
 
+import csv
 import re
 import sys
 from pathlib import Path
@@ -84,17 +87,14 @@ DURABLE = count(r"^pub fn", "oftp_durable/src/**/*.rt") - sum(count(r"^pub fn", 
 TAKE = clauses("oftp_vfile/src/taking.rt", "pub fn take(")
 
 
-def seconds_in(cell):
-    return int(cell.replace(",", "").strip() or 0)
-
-
 def verified():
-    """The minutes that `rt ci` takes for a crate: what docs/PERFORMANCE.md has for the crate and for all below it, without what those edits took
-    that must-fail/ doesn't have any more."""
-    text = (ROOT / "docs/PERFORMANCE.md").read_text(encoding="utf-8")
-    rows = re.findall(r"^\| (oftp_\w+) (?:\|[ \d,]*){2}\|([ \d,]*)\|[ \d,]*\| ([\d,]+) \|$", text, re.M)
+    """The minutes that `rt ci` takes for a crate: what docs/measured/gate.csv has for the crate and for all below it, without what those edits
+    took that must-fail/ doesn't have any more."""
+    with (ROOT / "docs/measured/gate.csv").open(encoding="utf-8", newline="") as file:
+        rows = list(csv.DictReader(file))
     has_edits = {it.parent.name for it in (ROOT / "crates").glob("*/must-fail")}
-    seconds = {crate: seconds_in(taken) - (0 if crate in has_edits else seconds_in(edits)) for crate, edits, taken in rows}
+    kinds = {it["crate"]: [kind for kind in it if kind != "crate" and (kind != "must-fail" or it["crate"] in has_edits)] for it in rows}
+    seconds = {it["crate"]: sum(int(it[kind] or 0) for kind in kinds[it["crate"]]) for it in rows}
     lines = (ROOT / "crates.txt").read_text(encoding="utf-8").splitlines()
     uses = {line.split(":")[0]: [it for it in line.split()[1:] if it in seconds] for line in lines}
 
@@ -135,8 +135,8 @@ BOUNDS = [
     ("docs/COMMANDS.md", rf"to 1 to {N} seconds, by default {N}\.", (DURATION, default("longest"))),
     ("docs/COMMANDS.md", rf"still sends, {N} seconds at most", (LIMITS["FAREWELL"],)),
     ("docs/COMMANDS.md", rf"must arrive within {N} seconds, and its reply must be out within another {N}\.", (LIMITS["REQUESTING"], LIMITS["REQUESTING"])),
-    ("docs/OPERATING.md", rf"then has {N} seconds to send a code and a password", (default("admission"),)),
-    ("docs/OPERATING.md", rf"as long as no more than {N} of them wait. A partner who comes after {N} waits", (LIMITS["PARTNERS"], LIMITS["PARTNERS"])),
+    ("docs/howto/install.md", rf"then has {N} seconds to send a code and a password", (default("admission"),)),
+    ("docs/howto/install.md", rf"as long as no more than {N} of them wait. A partner who comes after {N} waits", (LIMITS["PARTNERS"], LIMITS["PARTNERS"])),
     ("docs/PARTNER.md", rf"{N} octets and {N} records at most", (OCTETS, RECORDS)),
     ("docs/PARTNER.md", rf"Records of F and V have up to {N} octets", (RECORD,)),
     ("docs/ARCHITECTURE.md", rf"a piece of at most {N} octets", (PIECE,)),
@@ -150,7 +150,7 @@ BOUNDS = [
     ("docs/GLOSSARY.md", rf"one of the {N} ways in which the register changes", (CHANGES,)),
     ("docs/claims.csv", rf"each of the {N} changes makes of a register", (CHANGES,)),
     ("docs/claims.csv", rf"each of the {N} changes in one transaction", (CHANGES,)),
-    ("docs/OPERATING.md", rf"The station's own are {N} tables", (TABLES,)),
+    ("docs/howto/troubleshooting.md", rf"The station's own are {N} tables", (TABLES,)),
     ("docs/claims.csv", rf"the rows of the {N} tables", (TABLES,)),
     ("docs/claims.csv", rf"the {N} tables are made in one transaction", (TABLES,)),
     ("docs/claims.csv", rf"the contracts of {N} calls of crates/oftp_durable", (DURABLE,)),

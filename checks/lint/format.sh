@@ -1,5 +1,7 @@
 #!/bin/bash
 # Whether `rt fmt` would leave each file of the crates as it is, in a copy of them. `rt ci` checks the same, but after an hour.
+#
+# Shows: each file of the crates is as `rt fmt` has it, which `rt ci` finds only after the proofs
 set -euo pipefail
 root=$(cd "$(dirname "$0")/../.." && pwd)
 room=$(mktemp -d)

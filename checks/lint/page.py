@@ -7,6 +7,9 @@
 The copy is crates/oftp_page/src/page.rt. The page's policy allows only the script and the style with these hashes, and no text to
 become markup. Nothing in the page is loaded from elsewhere. It knows each state that the listing names (oftp_listing/specs/Names.antt), and
 has the words of oftp_wire/specs/Reasons.antt for the reasons there. Each state in which a file may be late has a bound, which the page tells.
+
+Shows: the page lets nothing run but its own script, has nothing from elsewhere, and knows every state of the listing and the station's words for
+reasons; the program's copy is the same
 """
 
 import base64

@@ -2,6 +2,8 @@
 """Lets the program read each text of rows/books/faults.txt as a partner book, and compares the output of `check` with the expected one.
 
 The last line is `N passed, M failed`.
+
+Shows: texts of partner books, with the error of each
 """
 
 import subprocess

@@ -8,6 +8,8 @@ second command waits for the database. If it is released within ten seconds, the
 `fault: 6 store 1`, and the holder's session goes on undisturbed. Meanwhile stock sqlite3 finds the database locked. A command that waits for
 who writes or reads its pipe holds no database. All cases run in parallel, so it takes some twelve seconds. The last line is `N passed, M
 failed`.
+
+Shows: commands over a database that another process locks; `submit` and `fetch` that wait for who writes or reads their pipe, and lock none
 """
 
 import fcntl

@@ -7,15 +7,24 @@ The commands of docs/COMMANDS.md are those of the program, and its line for each
 program's version. The reasons of docs/COMMANDS.md are those of oftp_wire. Its table of the partner book has the keys that a book needs, and
 its table of reports the columns that are printed. Its keys of the JSON objects are those of rows/listing, which `listing.py` compares with
 the program. README.md and the table of docs/ARCHITECTURE.md name all crates, and its picture has each above those that it uses. The blocks
-below README's heading "A day .." and below "The first day" of docs/OPERATING.md are typed as they are, each in a folder of its own, with
-free ports: what follows a `$` prints the lines below it. So are the second partner and the second plant of docs/HOWTO.md, after the
+below README's heading "A day .." and below "The first day" of the tutorial are typed as they are, each in a folder of its own, with
+free ports: what follows a `$` prints the lines below it. So are the second partner and the second plant of docs/howto, after the
 first day. Without stunnel the first day ends before it, and these are left out. README's three lines for a service
-are typed too, in a folder that takes the place of /usr/local and /etc, without systemd. So are the change of the year of docs/OPERATING.md,
+are typed too, in a folder that takes the place of /usr/local and /etc, without systemd. So are the change of the year of docs/howto/days.md,
 with two stations between which something is open at first, and its restore. Each folder that a unit of examples/service needs is made
 there, what reads a service's database is given as its user, and the book for a service leads to the tunnel. Each speed of README.md stands
 in docs/PERFORMANCE.md. If `rt` is installed, the documents name its logic. With `--verify`, what docs/PROOF-MAP.md shows of `rt ci` is typed
 too, at the top of the repository, and ends as shown. That is a proof of a small crate: 21 seconds, or 3 where it has passed before. The last
 line is `N passed, M failed`.
+
+Shows: the commands and options of docs/COMMANDS.md are those of the program, its reasons those of oftp_wire, its keys of a partner book those that
+a book needs, and its columns and keys of lists those that are printed. README's day and the first day of the tutorial, through TLS too where
+stunnel is installed, go as they are shown, and then so do the second partner and the second plant of docs/howto; so do README's installation of
+a service, the trial of a restore, and its change of the year, between two stations that still owe each other something at first;
+examples/two_stations.sh prints what README shows of it. CHANGELOG.md has the program's version. docs/howto makes each folder that a unit needs, and
+gives what reads a service's database as its user; the book of examples/service leads to the tunnel. With `--verify`, as in the gate, what
+docs/PROOF-MAP.md shows of `rt ci` ends as shown. Each speed of README.md stands in docs/PERFORMANCE.md, and the picture of docs/ARCHITECTURE.md has
+each crate above those that it uses. The documents name the crates that there are and the toolchain's logic
 """
 
 import argparse
@@ -41,8 +50,10 @@ from typist import Typist, blocks_below, part_of, typed
 
 README = ROOT / "README.md"
 COMMANDS = ROOT / "docs/COMMANDS.md"
-OPERATING = ROOT / "docs/OPERATING.md"
-HOWTO = ROOT / "docs/HOWTO.md"
+TUTORIAL = ROOT / "docs/tutorials/first-delivery.md"
+HOWTO = ROOT / "docs/howto"
+# All guides in one text, of which some checks ask.
+GUIDES = "\n".join(it.read_text(encoding="utf-8") for it in sorted(HOWTO.glob("*.md")))
 ARCHITECTURE = ROOT / "docs/ARCHITECTURE.md"
 PROOF_MAP = ROOT / "docs/PROOF-MAP.md"
 PERFORMANCE = ROOT / "docs/PERFORMANCE.md"
@@ -225,39 +236,39 @@ def service_is_installed_as_shown():
 
 
 def first_day_goes_as_shown():
-    """The first day of docs/OPERATING.md, typed as it is, and then the second partner and the second plant of docs/HOWTO.md."""
+    """The first day of the tutorial, typed as it is, and then the second partner and the second plant of docs/howto."""
     has_tunnel = shutil.which("stunnel") and shutil.which("openssl")
     with Typist() as typist:
-        for block in blocks_below(OPERATING, "The first day", 9):
+        for block in blocks_below(TUTORIAL, "The first day", 9):
             if block[0].startswith("openssl ") and not has_tunnel:
                 print("NOT TRIED without stunnel: the first day through TLS, a second partner, a second plant")
                 return
             for command, wanted in typed(block):
                 typist.type(command, wanted)
-        for block in [*blocks_below(HOWTO, "A second partner", 6), *blocks_below(HOWTO, "Many plants", 1)]:
+        for block in [*blocks_below(HOWTO / "partner.md", "A second partner", 6), *blocks_below(HOWTO / "plants.md", "Many plants", 1)]:
             for command, wanted in typed(block):
                 typist.type(command, wanted)
 
 
 def folders_of_units_are_made():
-    """The folders that the units of examples/service need are made by a command of docs/OPERATING.md, and their user can't log in."""
-    lines = [line.strip() for line in OPERATING.read_text(encoding="utf-8").splitlines() if re.match(r"    (install -d|useradd) ", line)]
+    """The folders that the units of examples/service need are made by a command of docs/howto, and their user can't log in."""
+    lines = [line.strip() for line in GUIDES.splitlines() if re.match(r"    (install -d|useradd) ", line)]
     made = {word for line in lines for word in line.split() if word.startswith("/")}
     wanted = set()
     for unit in SERVICE.glob("*.service"):
         text = unit.read_text(encoding="utf-8")
         for words in re.findall(r"^(?:ReadWritePaths|WorkingDirectory)=(.*)$", text, re.M):
             wanted.update(words.split())
-    expect(wanted - made, set(), "folders of units that docs/OPERATING.md doesn't make")
+    expect(wanted - made, set(), "folders of units that docs/howto doesn't make")
     users = [line for line in lines if line.startswith("useradd ")]
     expect([line for line in users if " --shell /usr/sbin/nologin " not in line], [], "users that can log in")
 
 
 def database_is_read_as_its_user():
-    """A command of docs/OPERATING.md that reads a service's database is its user's, who alone may read it. Those of the first day read others."""
-    text = OPERATING.read_text(encoding="utf-8").replace(part_of(OPERATING, "The first day"), "")
+    """A command of docs/howto that reads a service's database is its user's, who alone may read it. Those of the second partner read others."""
+    text = GUIDES.replace(part_of(HOWTO / "partner.md", "A second partner"), "").replace(part_of(HOWTO / "plants.md", "Many plants"), "")
     told = re.findall(r"^(?:    |\| `)((?:sudo -u oftp )?(?:oftp_station|sqlite3) .*)$", text, re.M)
-    expect(len(told) > 8, True, "docs/OPERATING.md has commands that read a database")
+    expect(len(told) > 8, True, "docs/howto has commands that read a database")
     expect([line for line in told if not line.startswith("sudo -u oftp ")], [], "commands of another user than the database's")
 
 
@@ -274,9 +285,9 @@ def book_of_service_leads_to_tunnel():
     expect([it for it in addresses if it not in tunnels or it.endswith(f":{own}")], [], "addresses that aren't those of a tunnel")
 
 
-def block_with(heading, first):
-    """The block of docs/OPERATING.md below a heading that begins with this text, as its lines."""
-    found = [block for block in blocks_below(OPERATING, heading, 1) if block[0].startswith(first)]
+def block_with(page, heading, first):
+    """The block of a page of docs/howto below a heading that begins with this text, as its lines."""
+    found = [block for block in blocks_below(HOWTO / page, heading, 1) if block[0].startswith(first)]
     expect(len(found), 1, f"blocks below {heading!r} that begin with {first!r}")
     return found[0]
 
@@ -310,16 +321,16 @@ OTHER = ["--db", "carmaker.db", "--book", "examples/carmaker/book.toml"]
 
 
 def enabled_units():
-    """The units of examples/service that docs/OPERATING.md enables."""
-    lines = re.findall(r"systemctl enable --now (.*)", (ROOT / "docs/OPERATING.md").read_text(encoding="utf-8"))
+    """The units of examples/service that docs/howto enables."""
+    lines = re.findall(r"systemctl enable --now (.*)", GUIDES)
     return set(re.findall(r"oftp-[\w@-]+\.(?:service|timer|path)", " ".join(lines).replace("@$(systemd-escape O0177CARMAKER)", "@")))
 
 
 def year_ends_as_shown():
     """The change to a new database, typed as it is. Each response and file that is still open is named, and the change comes once none is. Then
     both sides have the response of each file."""
-    asked = block_with("A day, a week", "systemctl stop")
-    changed = block_with("A day, a week", "sudo -u oftp mv")
+    asked = block_with("days.md", "Each year", "systemctl stop")
+    changed = block_with("days.md", "Each year", "sudo -u oftp mv")
     units = re.findall(r"oftp-[\w@-]+\.(?:service|timer|path)", " ".join(changed).replace("@$(systemd-escape O0177CARMAKER)", "@"))
     expect([unit for unit in units if not (SERVICE / unit).is_file()], [], "units that aren't there")
     expect(sorted(enabled_units() - {"oftp-listen.service", "oftp-http.service"} - set(units)), [], "units that are stopped and not started again")
@@ -373,9 +384,9 @@ class Between:
 def restore_is_tried_as_shown():
     """The backup and the trial of a restore, typed as they are. Only the station's user may read them, so each command is that user's."""
     if not shutil.which("sqlite3"):
-        print("NOT TRIED without sqlite3: the restore of docs/OPERATING.md")
+        print("NOT TRIED without sqlite3: the restore of docs/howto/backup.md")
         return
-    backup, trial = block_with("Backup, and moving", "sudo -u oftp oftp_station backup"), block_with("Backup, and moving", "sudo -u oftp mkdir")
+    backup, trial = block_with("backup.md", "A backup", "sudo -u oftp oftp_station backup"), block_with("backup.md", "Trying a restore", "sudo -u oftp mkdir")
     expect([line for line in [*backup, *trial] if not line.startswith("sudo -u oftp ")], [], "commands of another user")
     with Administrator() as typist:
         expect(typist.printed_by(["oftp_station init --db /var/lib/oftp/station.db"]), ["done: init"], "the database")

@@ -6,6 +6,9 @@
 The program is stopped while it writes a file, and killed there. What only the superuser may try (files of other users) is tried as
 superuser, and otherwise reported as not tried. In addition, content longer than that of any file that is kept is submitted, in each format.
 The last line is `N passed, M failed`.
+
+Shows: the modes of all that the program makes, under several umasks; what a replaced file keeps; who owns a backup; drafts while they are written
+and after a kill, and those of another user; content that is too long, in each format
 """
 
 import fcntl

@@ -6,6 +6,13 @@
 Each case has a database of its own, and all run at once, so it takes some thirty seconds. A folder that can't be written is tried as another user
 where the superuser runs this, who may write any. Only then are a subfolder and a file tried that are another user's. The last line is
 `N passed, M failed`.
+
+Shows: `collect` and `offer`: four of each at once, alone and beside a station; two folders for one partner at once, twelve times 30 files of the
+same names and times, alone, beside a station and with the same contents; two stations that collect into one folder; subfolders that are links,
+pipes or another user's; a folder that a reader locks, and a lock that is a link, a pipe, open to others or another user's; a call that is killed
+while its request waits for a session's end, and the next call; 10,000 files of others, and a name that is no text; a folder over which another
+command goes; a folder that can't be written, and a file that can't be read; files of an old database in `sent`, and of others in `refused`; for the
+superuser, another user's file in a sticky folder
 """
 
 import fcntl

@@ -27,6 +27,13 @@ left may go on otherwise when it is played again.
 
 The memory and descriptors of services and stations at the end are compared with those at the beginning (checks/lib/staying.py). The last
 line is `N passed, M failed`, which counts sessions.
+
+Shows: random sessions in both roles with three partners, right, wrong, changed, cut and in pieces, and an operator's commands between them, for 20
+s (`--minutes N` for more): by `feed`, over sockets to services that stay, and in lives that one `run` lives from its first act to its last. Octets,
+lines, exit statuses and tables are those of a model that was written apart from the station's code (`checks/lib/model.py`). In the lives of `run`
+there are look-ups between two pieces of a session, by the commands and by HTTP, which show what the model has at that moment; orders within a
+session, which are done behind it in their order, or not at all if their command is gone; calls; and sessions that are closed, reset or end with a
+kill, after which the database has what the model had after the last answered change, or after a later one that was asked for
 """
 
 import argparse

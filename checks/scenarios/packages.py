@@ -5,8 +5,14 @@
 
 What the package has is compared with the tree and with what the program prints: its files and their modes, its units, a page for each command, each
 option in its page and in the completions. Without man the pages aren't printed, and without lintian it isn't asked. The folder is a Debian of its
-own, which debootstrap makes from the network. There the package is installed, the first day of docs/OPERATING.md is typed as the station's user, and
+own, which debootstrap makes from the network. There the package is installed, the first day of the tutorial is typed as the station's user, and
 it is installed again, removed and purged: the data stay, unless whoever is asked says otherwise. The last line is `N passed, M failed`.
+
+Shows: the package of packaging/: the same octets twice; its files, modes, fields and units; a page for each command with its options, printed
+without a warning; completions of each command and option in bash; that without `--unproved` it is built from the program alone that was proved from
+these sources; what lintian says, where it is installed. Where debootstrap makes a Debian in a folder, it is installed there, the first day is typed
+as its user, zsh completes, and it is installed again, removed and purged: the data stay, unless the question of the purge is answered by yes. That
+its scripts start and stop services of a systemd that runs is shown by nothing here
 """
 
 import argparse
@@ -31,7 +37,7 @@ from typist import Typist, blocks_below, typed
 
 BUILD = ROOT / "packaging/build"
 SERVICE = ROOT / "examples/service"
-OPERATING = ROOT / "docs/OPERATING.md"
+TUTORIAL = ROOT / "docs/tutorials/first-delivery.md"
 PLACES = {".service": "usr/lib/systemd/system", ".timer": "usr/lib/systemd/system", ".path": "usr/lib/systemd/system"}
 DOCUMENTS = "usr/share/doc/oftp-station"
 USAGE = re.compile(r"^  oftp_station (\w+)(.*)$", re.M)
@@ -120,7 +126,7 @@ def has_its_files(package):
     wanted |= {"usr/share/man/man5/oftp-book.5.gz", "usr/share/lintian/overrides/oftp-station"}
     wanted |= {"usr/share/bash-completion/completions/oftp_station", "usr/share/zsh/vendor-completions/_oftp_station"}
     wanted |= {f"{DOCUMENTS}/{name}" for name in ("README.md", "SECURITY.md", "copyright", "changelog.gz")}
-    wanted |= {f"{DOCUMENTS}/docs/{it.name}" for it in (ROOT / "docs").glob("*.md")}
+    wanted |= {f"{DOCUMENTS}/docs/{it.relative_to(ROOT / 'docs')}" for it in (ROOT / "docs").rglob("*.*")}
     wanted |= {f"{DOCUMENTS}/examples/service/{name}" for name in ("book.toml", "stunnel.conf", "logrotate.conf")}
     expect((package.files() - wanted, wanted - package.files()), (set(), set()), "files that it has beside them, and that it lacks")
     expect((package.tree / "usr/bin/oftp_station").read_bytes() == PROGRAM.read_bytes(), True, "whether the program is that which was tried")
@@ -360,7 +366,7 @@ def is_installed(package):
 
 
 def makes_user_and_folders(guest):
-    """The user can't log in, and the folders are as docs/OPERATING.md makes them. No unit is enabled."""
+    """The user can't log in, and the folders are as docs/howto/install.md makes them. No unit is enabled."""
     user = guest.give("getent", "passwd", "oftp").strip().split(":")
     expect(user[5:], ["/var/lib/oftp", "/usr/sbin/nologin"], "the user's folder and shell")
     found = guest.give("stat", "--format=%n %a %U %G", *(f"/{name}" for name in DATA)).splitlines()
@@ -371,9 +377,9 @@ def makes_user_and_folders(guest):
 
 
 def first_day_goes_as_shown(guest):
-    """The first day of docs/OPERATING.md, up to its tunnel, typed as it is."""
+    """The first day of the tutorial, up to its tunnel, typed as it is."""
     with guest:
-        for block in blocks_below(OPERATING, "The first day", 9):
+        for block in blocks_below(TUTORIAL, "The first day", 9):
             if block[0].startswith("openssl "):
                 break
             for command, wanted in typed(block):

@@ -8,8 +8,17 @@
 The page is crates/oftp_page/src/page.html, or FILE. Most lists are made (`checks/lib/page_lists.py`): a server in this script returns
 both, and counts the requests. In three cases the built program answers, in two of them from databases of rows/listing: `http` returns the
 lists, and `run` also the page. The browser resolves no address but this machine's. `--pictures` writes screenshots. The picture of
-docs/OPERATING.md is `--screenshot docs/page.png`, and nothing compares it. Without a browser nothing is tried. The last line is
+docs/howto/page.md is `--screenshot docs/page.png`, and nothing compares it. Without a browser nothing is tried. The last line is
 `N passed, M failed`; before it comes the time for 10,000 files.
+
+Shows: where there is a browser: the page without a file, with 30 in every state, with 10,000 and with hostile texts, at 1,280, 1,024, 400 and 320
+pixels, light and dark, over made lists and over those of `http` and `run`. Its rows, words and sentences, and what is to be done: each state with a
+bound just before and just after it, a file that was seen closing for ten minutes, stamps that tell no age, files whose name was used again, and
+files that were refused as duplicates, with and without their response, also after a restore; that it never says that there is nothing to do. Stamps
+by a browser in Berlin and in Mexico City, sizes, sorting by each column, the filter, details, and the command to copy. That all fits the window,
+that a file takes one line, and that texts, borders and the mark of the keyboard have the contrast that WCAG 2.1 wants; that nothing of a text runs,
+and that nobody else is asked; the keyboard, how it renews itself under somebody who types, sorts and scrolls, and what it says where it can't. It
+prints what 10,000 files take to draw, to filter and to sort, and bounds it
 """
 
 import argparse

@@ -13,6 +13,11 @@ Each row that has no error of the book or the database is also lived by one `run
 three times: the octets come in pieces of one octet, of 7 and of 100. Behind each piece, once its answers are there, something is looked up
 over HTTP or through the socket for commands, and shows what the model of a station has at that moment (checks/lib/model.py). The last line
 is `N passed, M failed`.
+
+Shows: the rows, each in one piece, octet by octet and as a conversation, against the script's own table of the commands: over a database, and those
+of one session in memory too. Stock sqlite3 reads what is left. Those without an error of the book or the database are lived by one `run` too, in
+pieces of one octet, of 7 and of 100, with the operator's commands between the sessions. A look-up behind each piece (behind each seventh of more
+than 300) shows what the model has
 """
 
 import os

@@ -5,6 +5,11 @@
 
 Each case has a database, a folder and a program of its own, and all run at once, so it takes some fifteen seconds. The last line is
 `N passed, M failed`.
+
+Shows: `oftp-process`: a file by each exit status of the program that gets it, alone and beside a station, with files of another partner and
+answered ones; the text of a refusal, cut, without controls and in UTF-8; names and codes with slashes; a file that the program moves or changes; a
+station that isn't reached once the program has said something; a verdict on a file that an operator has answered before or meanwhile, and what is
+no verdict; two at once; a program that outlives the script; bad words, and a book, a partner or a program that isn't there
 """
 
 import subprocess

@@ -4,6 +4,19 @@
     checks/scenarios/resident.py [WORD ..]       all cases, or those whose names have one of these words
 
 Each case has a port and a database of its own, and all run at once, so it takes some forty seconds. The last line is `N passed, M failed`.
+
+Shows: `run` as a process. Its lines; the order of its faults. Each command asks it, 40 at once and with 64 MiB, also one that comes while it opens
+its database. A fetch is answered by octets, and no file is made. A stale socket, its mode, a file in its place, a long path, a link. Two stations
+over one database, one that waits for it, and four that begin at once. Requests of commands that are none, cut, dripping or never taken; 100 silent
+commands and callers. 90 who ask by HTTP, of whom 64 are kept; a reply that is longer than the buffers, and isn't read; the hosts that may be named,
+also at other addresses. At each of its three sockets: what is meant for another one, zeros, anything at all, halves and resets, 20 who drip, 80 who
+are silent. Callers who aren't let in, one who begins the longest of frames, 140 with a partner behind them, and one who is let in after the long
+session of another. A partner who falls silent, one whose pauses are long together, one who takes no octet of his file, partners who don't close.
+Look-ups between two halves of a frame, also of an outgoing file; what changes something, copies or calls waits for the end of a session, longer
+than ten seconds. A backup, what is done while its command copies, and one that copies too long or is gone. Calls of a partner who is there, leaves,
+is silent, isn't there, doesn't answer, or calls itself at the same moment; two stations and three in a circle whose calls meet, by commands and by
+their clocks. Calls by the clock, of several partners and for a file that isn't confirmed; a trace. SIGKILL before each command is heard, within a
+call, and among 8 who submit and 8 who fetch, release and refuse; SIGTERM within a session. Answers that end at each octet or are none
 """
 
 import contextlib

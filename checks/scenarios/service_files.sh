@@ -52,7 +52,7 @@ passes_options() {
     grep -qxF 'EnvironmentFile=-/etc/default/oftp-station' "$service/oftp-run.service" || return
     grep -q '^ExecStart=.* \$OPTIONS$' "$service/oftp-run.service" || return
     told=$(grep '^| `./oftp_station run ' "$root/docs/COMMANDS.md") || return
-    options=$(sed -n 's/^ *#\{0,1\}OPTIONS="\(.*\)"$/\1/p' "$service/default" "$root/docs/OPERATING.md") || return
+    options=$(sed -n 's/^ *#\{0,1\}OPTIONS="\(.*\)"$/\1/p' "$service/default" "$root"/docs/howto/*.md) || return
     for option in $(grep -o -- '--[a-z-]*' <<< "$options"); do
         echo "the option $option"
         [[ $told == *"[$option "* ]] || return

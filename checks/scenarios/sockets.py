@@ -5,6 +5,10 @@
 
 Some of the callers are slow, silent, gone, or send on after the end. Each case has a port and a database of its own, and all run in
 parallel, so it takes some twenty seconds. The last line is `N passed, M failed`.
+
+Shows: `listen`, `call` and `http` as processes: callers who are slow, silent, gone or reset; 1 MiB after the station's ESID; 200 connections; heads
+in pieces; a port in use; no descriptor for a caller, for the database of a partner or of a request; requests that open no database; SIGTERM within
+a session; a service that is suspended again and again; an operator while the services run
 """
 
 import contextlib

@@ -4,6 +4,8 @@
     checks/scenarios/spell_examples.py [--write]      compares them with the files, or writes them
 
 The last line is `N passed, M failed`.
+
+Shows: the octets of examples/ and a day's commands are as the rows spell them
 """
 
 import sys

@@ -4,7 +4,11 @@
     checks/scenarios/stock_sqlite.py
 
 The tables below are those of a station's database; the SQL that makes them is generated from these lines, and not taken from the station's
-code. What a viewer adds is removed by the commands of docs/OPERATING.md. The last line is `N passed, M failed`.
+code. What a viewer adds is removed by the commands of docs/howto/troubleshooting.md. The last line is `N passed, M failed`.
+
+Shows: stock sqlite3 finds the tables, with the columns and keys that the script has of its own, and no error in them. Another program's database,
+of each kind, is refused and left as it was. So is one of schema 1 by each command that only opens it, until it is migrated. A view, an index and
+what `ANALYZE` makes are removed by the commands of docs/howto/troubleshooting.md, and the database opens again
 """
 
 import re
@@ -22,7 +26,7 @@ from program import PROGRAM, ROOT
 
 BOOK = ROOT / "examples/supplier/book.toml"
 ONE_FILE = ROOT / "examples/one_file.octets"
-OPERATING = ROOT / "docs/OPERATING.md"
+GUIDE = ROOT / "docs/howto/troubleshooting.md"
 OURS = ["--book", BOOK]
 SECONDS = 60
 BLOCK = 1024
@@ -99,7 +103,7 @@ WRONG = {
     "a text in a number's place": "DROP TABLE about; CREATE TABLE about (id INTEGER NOT NULL PRIMARY KEY, schema ANY NOT NULL) STRICT; INSERT INTO about VALUES (1, '2')",
 }
 
-# What a viewer adds: its type, its name in docs/OPERATING.md, and what makes it. They are in the order of the command that removes them.
+# What a viewer adds: its type, its name in docs/howto/troubleshooting.md, and what makes it. They are in the order of the command that removes them.
 ADDED = [
     ("view", "name_of_the_view", "CREATE VIEW name_of_the_view AS SELECT no FROM in_file"),
     ("index", "name_of_the_index", "CREATE INDEX name_of_the_index ON received (date)"),
@@ -316,12 +320,12 @@ def tables_made_in_another_order(room):
 
 
 def what_a_viewer_added(room):
-    """What a viewer adds is refused. The commands of docs/OPERATING.md show it and remove it, and the database opens again as it was."""
-    text = OPERATING.read_text(encoding="utf-8").partition("\n### Leave the tables alone\n")[2].partition("\n### ")[0]
+    """What a viewer adds is refused. The commands of docs/howto/troubleshooting.md show it and remove it, and the database opens again as it was."""
+    text = GUIDE.read_text(encoding="utf-8").partition("\n## Leave the tables alone\n")[2].partition("\n## ")[0]
     shows, removes = re.findall(r'^    sudo -u oftp sqlite3 station\.db "(.*)"$', text, re.M)
     db, own = room / "station.db", {("table", name) for name in TABLES}
     expect_run(["feed", "--db", db, "--book", BOOK, ONE_FILE, room / "out"], "end: partner 00\n")
-    expect(len(removes.split("; ")), len(ADDED), "how many kinds docs/OPERATING.md removes")
+    expect(len(removes.split("; ")), len(ADDED), "how many kinds docs/howto/troubleshooting.md removes")
     for (kind, name, makes), statement in zip(ADDED, removes.split("; ")):
         expect(set(ask(db, shows)), own, "what is there")
         write(db, makes)

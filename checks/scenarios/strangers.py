@@ -7,6 +7,10 @@ They delay no partner for longer than the time that a caller has to be admitted,
 partner that was admitted has a time limit, too. Each case has a port and a database of its own, and all run in parallel, so it takes some
 thirty seconds. Each wait has a limit, so that it takes little longer with a station that sends, ends or prints nothing. The last line is
 `N passed, M failed`.
+
+Shows: `listen` with callers who aren't let in: 1,000 who say nothing, a hundred at a time and one each hundredth of a second, a hundred with a
+wrong password, ones who drip. A partner with a password is served within one admission, no database is opened, and what the rows have is answered
+however it is cut. A caller who says nothing where no admission is given, a session and a call that take too long
 """
 
 import collections

@@ -5,6 +5,11 @@
 
 The file is used as it is, with other ports and folders. Where root runs this, stunnel becomes its own user, as the file says. All cases run in
 parallel. Without stunnel nothing is tried. The last line is `N passed, M failed`.
+
+Shows: where stunnel is installed: examples/service/stunnel.conf round two stations. A file goes through both. Callers without a certificate, with
+another one of the partner's name and authority, with one that is out of date, through TLS 1.1 or without TLS get no octet of the station, and it
+prints no line of them. Who shows another certificate than the partner's isn't called. Only the port for TLS is open to other machines, and stunnel
+has given root up
 """
 
 import os
@@ -214,7 +219,7 @@ def nobody_is_there(room):
 
 
 def authority_has_names(room):
-    """With verifyChain and checkHost, as docs/OPERATING.md has them, a name that an authority has signed is let in, and no other."""
+    """With verifyChain and checkHost, as docs/howto/partner.md has them, a name that an authority has signed is let in, and no other."""
     authority = made(room, "authority")
     known, other = made(room, "known", signer=authority), made(room, "other", signer=authority)
     late = made(room, "late", "known", days=-1, signer=authority)

@@ -8,6 +8,10 @@ compared. Over the large register a file of 10 KB submitted through the station,
 twice as long by the clock. A session in which 8 MiB are received or sent, in large windows, may take 1.2 times the processor time, which
 other work on the machine affects less. Each line has both times, and the milliseconds that are wanted on an idle machine, if any. With
 `--assert` it fails if something takes longer than it may. The last line is `N passed, M failed`.
+
+Shows: two stations that keep their databases open, over an empty register and over one of 100 MiB (`--whole` for 1 GiB), at the same work in turn.
+It fails where a file of 10 KB submitted, `/in/NO` or the greeting takes more than twice as long on the clock over the large one, or where a session
+in which 8 MiB come or go takes more than 1.2 times the processor time. It prints the milliseconds that are wanted on an idle machine
 """
 
 import argparse

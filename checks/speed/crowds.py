@@ -11,6 +11,13 @@ ms. Answers of 128 MiB that nobody reads take less than that, since the next wai
 Who comes to a door without a place is served once there is one: the 129th caller is greeted after five seconds and within six, since the oldest
 stranger leaves for him; a partner who has answered the greeting leaves for nobody. A session of 8 MiB beside six clients that ask without end, for
 an entry or for a list of 3 MB, takes at most four times as long as alone. The last line is `N passed, M failed`.
+
+Shows: a station beside as many strangers, commands and clients over HTTP as it has places, who send nothing, drip, wait or take nothing, and beside
+ten calls of partners who don't answer. It fails where a greeting, a report or `/in/NO` takes more than 50 ms, an answer after the session before
+more than 100 ms, or three times what the idle station takes if that is more; where a report or `/in/NO` takes more than 300 ms beside a session at
+full speed; where its memory passes 128 MiB, also beside answers of 128 MiB that nobody reads; where the place of another one at a full door isn't
+what COMMANDS.md says; or where a session of 8 MiB beside six clients that ask for an entry, or for a list of 3 MB, without end takes more than four
+times as long as alone
 """
 
 import argparse

@@ -10,6 +10,9 @@ journal mode and synchronous=FULL. Without a C compiler or sqlite3.h, Python's s
 and the opening of 100 MiB, and a report and a session over 10,000 files, compared with Python's sqlite3, which reads the same, and with a
 quarter of each. Each bound is a ratio of processor times, so that it holds on any machine, loaded or idle. It takes the program as it was
 last built; the last line is `N passed, M failed`.
+
+Shows: what a register in a database costs, compared with plain C over libsqlite3 that does the same, and with a quarter of as much. It fails where
+one takes more times the processor time of the other than its bound says: two and a half times what was measured of the checked program
 """
 
 import argparse

@@ -12,6 +12,12 @@ whether it receives or sends them. A line says what this look took over a larger
 With `--whole` a line also has what the same act takes as a program of its own, with its opening, how much memory that has, and what plain C
 over libsqlite3 (`plain_store.c`, `plain_register.c`) takes for it over the same database without opening it. With `--assert` it fails if
 one takes longer. The last line is `N passed, M failed`.
+
+Shows: a station that keeps its database open (`run`), over registers of 10 and 100 MiB and of 1,000 and 10,000 files: what each command, request
+and session takes of the processor (`--large` for 1 GiB and 100,000 too; `--whole` for these, and also with its opening, its memory, and compared
+with plain C). It fails where one takes three times as long over the larger register, or where the time of a list grows more than three times as
+much as the number of its entries. A session may take 50 ms more for 100,000 answered responses, however many files it has: its one look for a
+response that is due passes them, and a line says what that takes. With a program that read each row of a file to count its octets, the lists failed
 """
 
 import argparse

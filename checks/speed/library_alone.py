@@ -9,6 +9,10 @@ twice: with the octets of the session (`plain_store.c`), and the statements alon
 without the opening, except those of the opening itself; each is the least of N runs (default: 3), which take turns. The station is `run`,
 which keeps its database open. Files of short records have `--rows` of them (default: 20,000). With `--assert` it fails if the ratio of the
 station's time to the library's exceeds its bound. The last line is `N passed, M failed`.
+
+Shows: by hand, since it builds a program: the station, the toolchain's library alone (`library_store.rattle`, which has the statements of the store
+and no crate of ours) and plain C at the same files, each without its opening, and the opening itself. With `--assert` it fails where the station
+takes more times as long as the library than its bound says
 """
 
 import argparse

@@ -6,6 +6,11 @@
 Two registers have a received file and a waiting one, of some 200,000 octets each: one in V, in records of one octet, and the other in U. Over each,
 `run` lists its files several times. The first time it reads each record, and afterwards it knows the numbers of octets. So each later list
 may take MOST times the processor time that it takes beside blocks. A line has both times. Another says what each opening took. The last line is `N passed, M failed`.
+
+Shows: two stations that keep their databases open, each with a received and a waiting file of some 200,000 octets: over the one in V, in records of
+one octet, and over the other in U. Each list is asked for five times. It fails where one takes more than three times the processor time that it
+takes beside blocks, and 5 ms, but for the first that reads the records. With a program that counted the octets of such a file for each list, all
+failed
 """
 
 import sqlite3

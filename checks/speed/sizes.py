@@ -7,6 +7,10 @@
 A file goes from one station to the other: it is submitted and sent at the car maker, received at the supplier and fetched there. The octets
 out of each are the input of the other, and what is fetched has to be what was submitted. A file with one more octet or record is refused,
 submitted or offered. The reported memory of a program is at least that of this script. The last line is `N passed, M failed`.
+
+Shows: a file of 67,108,864 octets goes from one station to another; an octet or a record more is refused, submitted or offered; 1,000 partners and
+one more; texts of 999 octets; the greatest buffer and credit (`--whole` for each format, 1,000,000 records and 10,000 files). It prints what each
+takes
 """
 
 import argparse

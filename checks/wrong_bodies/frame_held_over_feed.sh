@@ -1,5 +1,7 @@
 #!/bin/bash
 # Tries the edit of checks/wrong_bodies/oftp_codec/frame_held_over_feed.md on a copy of what it needs: the borrow checker must refuse it. As a control, the same edit with the frame used before `feed` must pass the borrow checker.
+#
+# Shows: a program that feeds the deframer while a frame is borrowed doesn't compile
 set -euo pipefail
 root=$(cd "$(dirname "$0")/../.." && pwd)
 room=$(mktemp -d)

@@ -41,6 +41,8 @@ were refused, their number, and the day. A crate that has changed since, in more
 to be tried again. The sum doesn't cover the crates below: a contract there can change what refuses an edit, and so can another toolchain.
 That is why the trial of the day tries each crate again in turn. It takes some minutes: a crate whose edits take longer is tried in parts,
 another each time. The last line is `N passed, M failed`.
+
+Shows: every wrong body fits the text that it changes and names its refusal, and all those of a crate were refused at the sources that it has now
 """
 
 import datetime

@@ -6,7 +6,7 @@ pub const PAGE: &str = r###"<!doctype html>
 <head>
 <meta charset="utf-8">
 <meta http-equiv="Content-Security-Policy" content="default-src 'none'; connect-src 'self'; img-src data:;
-  script-src 'sha256-Vz13qG2Ndcn9mNvXNFrQmwPUQqM5GNeW5QRtNcA/rCQ='; style-src 'sha256-O8+gAOTZHPTMl4rNdZludEQsA1D0u5KulhgydGi1zgY=';
+  script-src 'sha256-1GhLplKUTwcTgCCMgyKGFs0OkUwFutxd0NvIx/QReFo='; style-src 'sha256-O8+gAOTZHPTMl4rNdZludEQsA1D0u5KulhgydGi1zgY=';
   base-uri 'none'; form-action 'none'; require-trusted-types-for 'script'; trusted-types 'none'">
 <meta name="viewport" content="width=device-width, initial-scale=1">
 <meta name="color-scheme" content="light dark">
@@ -234,7 +234,7 @@ const CLOSING_SEEN = 10 * MINUTE;
 const AHEAD = 14 * HOUR;
 // How many numbers of files stand in one sentence.
 const NAMED = 5;
-// What the commands to copy begin with and name, unless somebody enters something else: an installation as docs/OPERATING.md makes it.
+// What the commands to copy begin with and name, unless somebody enters something else: an installation as docs/howto/install.md makes it.
 const PATHS = { program: "sudo -u oftp oftp_station", database: "/var/lib/oftp/station.db", book: "/etc/oftp/book.toml" };
 
 // ---- texts
