@@ -24,7 +24,7 @@ and docs/evidence/claims.md is what the table generates
 """
 
 import csv
-import io
+import itertools
 import re
 import subprocess
 import sys
@@ -49,7 +49,12 @@ ID = re.compile(r"(?:P\d+(?:\.\d+)?|[CD]\d+|[a-z_]+\.\d+)")
 NAMED_ID = re.compile(r"\[(P\d+(?:\.\d+)?|[CD]\d+|[a-z_]+\.\d+)\]")
 CLAUSE = re.compile(r"\bensures\*?(?: (\w+))? \{")
 QUOTED_FILE = re.compile(r"\b(oftp_\w+/(?:src|specs)/[\w/]+\.(?:rt|antt))")
-PARTS = {"P": "Promises", "C": "Calls of the program", "D": "Definitions"}
+SECTIONS = {"P": "Promises", "C": "Calls of the program", "D": "Definitions"}
+HEAD = """# The claims
+
+`checks/claims.py --write` makes this page of [claims.csv](../claims.csv); it isn't edited by hand.
+[PROOF-MAP.md](../PROOF-MAP.md#how-to-read-a-claim) says how a claim is read, and proved again.
+"""
 
 
 def claims():
@@ -231,27 +236,37 @@ def rendered(claim):
     return f"{claim['sentence']}{premise} *{kind}*: {contract(claim)}."
 
 
+def section(claim):
+    """The heading below which a claim stands on the page."""
+    return SECTIONS.get(re.match(r"[PCD]?", claim["id"])[0], "Layers")
+
+
+def listed(group):
+    return "".join(f"- **{claim['id']}** {rendered(claim)}\n" for claim in group)
+
+
+def part_of_page(heading, group):
+    """What the page has of the claims below a heading: each promise with its points, each layer, or a list."""
+    if heading == SECTIONS["P"]:
+        for name, (first, *points) in grouped(group, family):
+            yield f"### {name}\n\n{rendered(first)}\n" + (f"\n{listed(points)}" if points else "")
+    elif heading == "Layers":
+        for crate, its in grouped(group, lambda claim: claim["crate"]):
+            yield f"### {crate}\n\n{listed(its)}"
+    else:
+        yield listed(group)
+
+
+def grouped(table, key):
+    return [(name, list(group)) for name, group in itertools.groupby(table, key)]
+
+
 def page(table):
     """The text of docs/evidence/claims.md."""
-    out = io.StringIO()
-    out.write("# The claims\n\n")
-    out.write("`checks/claims.py --write` makes this page of [claims.csv](../claims.csv); it isn't edited by hand. ")
-    out.write("[PROOF-MAP.md](../PROOF-MAP.md#how-to-read-a-claim) says how a claim is read, and proved again.\n")
-    part, last = None, None
-    for claim in table:
-        own = PARTS.get(re.match(r"P|C|D|", claim["id"])[0], "Layers")
-        if own != part:
-            out.write(f"\n## {own}\n")
-        heading = claim["id"] if own == "Promises" else claim["crate"]
-        if own == "Promises" and family(claim) == claim["id"]:
-            out.write(f"\n### {heading}\n\n{rendered(claim)}\n")
-        else:
-            begins = own != part if own != "Layers" else claim["crate"] != last
-            if own == "Layers" and begins:
-                out.write(f"\n### {heading}\n")
-            out.write(("\n" if begins or (own == "Promises" and family(claim) == last_id) else "") + f"- **{claim['id']}** {rendered(claim)}\n")
-        part, last, last_id = own, claim["crate"], claim["id"]
-    return out.getvalue()
+    parts = [HEAD]
+    for heading, group in grouped(table, section):
+        parts += [f"## {heading}\n", *part_of_page(heading, group)]
+    return "\n".join(parts)
 
 
 def check():
@@ -290,9 +305,9 @@ def shown(claim):
             continue
         for begin, end in heads(text, name):
             found = [it for clause, it in clauses_of(text, begin, end) if clause in wanted or not wanted]
-            if found:
+            if found or not wanted:
                 yield f"\n{path.relative_to(ROOT)}:{text.count(chr(10), 0, begin) + 1}: {name}"
-                yield from (f"    {it}" for it in found)
+                yield from (f"    {it}" for it in found or ["no clause of its own: that of its trait, or none"])
                 yield from (word for it in found for word in words_of(text, it))
 
 
