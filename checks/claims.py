@@ -223,11 +223,11 @@ def contract(claim):
     path = f"crates/{claim['crate']}/{claim['file']}"
     if is_spec(claim):
         return ", ".join(f"`{name}`" for name, _ in items(claim)) + f", {path}"
-    listed = []
+    named = []
     for name, clauses in items(claim):
         of = ", ".join(f"`{clause}`" for clause in clauses)
-        listed.append(f"{of} of `{name}`" if of else f"`{name}`")
-    return "; ".join(listed) + f", {path}"
+        named.append(f"{of} of `{name}`" if of else f"`{name}`")
+    return "; ".join(named) + f", {path}"
 
 
 def rendered(claim):
@@ -323,7 +323,7 @@ def words_of(text, clause):
 def asked(table, names):
     """The claims of these ids, with their points, and of these crates."""
     for name in names:
-        found = [claim for claim in table if name in (claim["id"], family(claim), claim["crate"]) and not (name.startswith("oftp_") and claim["id"][0] in "PCD")]
+        found = [claim for claim in table if name in (claim["id"], family(claim), claim["crate"])]
         if not found:
             sys.exit(f"docs/claims.csv has no claim {name}")
         yield from found
