@@ -60,7 +60,7 @@ REASONS = {
 EXAMPLES = [("receiving/standards_example_in.row", "in"), ("sending/standards_example_out.row", "out")]
 # The definitions of the numbers of the reasons that the station gives.
 NUMBERS = [("SFNA", "start_number"), ("EFNA", "end_number"), ("ESID", "session_number")]
-# The words that are shorter here (docs/DECISIONS.md).
+# The words that are shorter here, as docs/COMMANDS.md says.
 OF_FILES = {"file size is too big": "file size too big", "unspecified reason": "unspecified"}
 SHORTER = {
     "SFNA": OF_FILES,
