@@ -3,9 +3,7 @@
 # dispatch note goes one way and a schedule the other. During the schedule the supplier's station is killed, and the next call continues where it
 # stopped. End-to-End Responses go back both ways, and the register is shown over HTTP. It prints each command and its output.
 #
-# Shows: two stations that keep their databases open, one of which is killed; the units of examples/service as systemd reads them, where it is
-# installed, the exposure of each service, which is below 3, the options that are shown for the station's unit, and the names of units for codes
-# that have to be escaped: none is started
+# Shows: two stations that keep their databases open, one of which is killed within a file, and what their operators do
 set -euo pipefail
 root=$(cd "$(dirname "$0")/.." && pwd)
 if [ -z "${OFTP_STATION-}" ]; then
@@ -88,7 +86,9 @@ serve() {
 
 # Whether the files of the supplier's database have half a megabyte of the schedule.
 is_within() {
-    [ "$(cat supplier.db supplier.db-wal | wc -c)" -gt 700000 ]
+    local sizes
+    mapfile -t sizes < <(stat -c %s supplier.db supplier.db-wal)
+    [ $((${sizes[0]:-0} + ${sizes[1]:-0})) -gt 700000 ]
 }
 
 # Kills the station that was started last during the schedule.
@@ -103,9 +103,9 @@ for name in supplier carmaker; do
         -e 's/^buffer = 128/buffer = 1024/; s/^credit = 2/credit = 8/' "$root/examples/$name/book.toml" > "$name.toml"
 done
 printf 'DESADV %05d\r\n' {1..400} > dispatch_note
-seq -f 'DELFOR %09.0f' 1 120000 > schedule
+seq -f 'DELFOR %09.0f' 1 900000 > schedule
 
-say 'Both stations run. Their operators hand files in meanwhile, a dispatch note and a schedule of 2 MB.'
+say 'Both stations run. Their operators hand files in meanwhile, a dispatch note and a schedule of 15 MB.'
 serve carmaker --port "$carmaker_port"
 serve supplier --port "$supplier_port"
 give submit --db supplier.db --book supplier.toml --dataset DISPATCH.1 --date 20240201 --time 0700000001 --to O0177CARMAKER --format U dispatch_note

@@ -10,8 +10,7 @@
 # out. With `--allocations` the rows below are played over a database too, and requests and reports, with N allocations of each refused, or all.
 #
 # Shows: where there is a C compiler: each allocation is refused in turn of a book that is read, of two sessions, of one with a trace and, in the
-# gate, of tests; and 40 allocations of each request and report. `each_allocation_refused.sh --allocations all` refuses each one: of four rows over
-# a database too, with its opening, and of requests and reports
+# gate, of tests. With `--allocations all` those of four rows over a database too, with its opening, and of requests and reports
 set -euo pipefail
 how=
 allocations=

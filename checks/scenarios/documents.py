@@ -9,18 +9,18 @@ its table of reports the columns that are printed. Its keys of the JSON objects 
 the program. README.md and the table of docs/ARCHITECTURE.md name all crates, and its picture has each above those that it uses. The blocks
 below README's heading "A day .." and below "The first day" of the tutorial are typed as they are, each in a folder of its own, with
 free ports: what follows a `$` prints the lines below it. So are the second partner and the second plant of docs/howto, after the
-first day. Without stunnel the first day ends before it, and these are left out. README's three lines for a service
-are typed too, in a folder that takes the place of /usr/local and /etc, without systemd. So are the change of the year of docs/howto/days.md,
-with two stations between which something is open at first, and its restore. Each folder that a unit of examples/service needs is made
-there, what reads a service's database is given as its user, and the book for a service leads to the tunnel. Each speed of README.md stands
-in docs/PERFORMANCE.md. If `rt` is installed, the documents name its logic. With `--verify`, what docs/PROOF-MAP.md shows of `rt ci` is typed
-too, at the top of the repository, and ends as shown. That is a proof of a small crate: 21 seconds, or 3 where it has passed before. The last
-line is `N passed, M failed`.
+first day. Without stunnel the first day ends before it, and these are left out. README's two lines for an installation make and name a package,
+and the lines for one by hand are typed in a folder that takes the place of /usr/local and /etc. So are the change of the year of
+docs/howto/days.md, with two stations between which something is open at first, and the restore. Each folder that a unit needs is made there, what
+reads a service's database is given as its user, and the book for a service leads to the tunnel. Each speed of README.md stands in
+docs/PERFORMANCE.md. If `rt` is installed, the documents name its logic. With `--verify`, what docs/PROOF-MAP.md shows of `rt ci` is typed too, at
+the top of the repository, and ends as shown. That is a proof of a small crate: 21 seconds, or 3 where it has passed before. The last line is
+`N passed, M failed`.
 
 Shows: the commands and options of docs/COMMANDS.md are those of the program, its reasons those of oftp_wire, its keys of a partner book those that
 a book needs, and its columns and keys of lists those that are printed. README's day and the first day of the tutorial, through TLS too where
-stunnel is installed, go as they are shown, and then so do the second partner and the second plant of docs/howto; so do README's installation of
-a service, the trial of a restore, and its change of the year, between two stations that still owe each other something at first;
+stunnel is installed, go as they are shown, and then so do the second partner and the second plant of docs/howto; so do README's package,
+an installation by hand, the trial of a restore, and the change of the year, between two stations that still owe each other something at first;
 examples/two_stations.sh prints what README shows of it. CHANGELOG.md has the program's version. docs/howto makes each folder that a unit needs, and
 gives what reads a service's database as its user; the book of examples/service leads to the tunnel. With `--verify`, as in the gate, what
 docs/PROOF-MAP.md shows of `rt ci` ends as shown. Each speed of README.md stands in docs/PERFORMANCE.md, and the picture of docs/ARCHITECTURE.md has
@@ -29,6 +29,7 @@ each crate above those that it uses. The documents name the crates that there ar
 
 import argparse
 import contextlib
+import fnmatch
 import json
 import os
 import re
@@ -221,18 +222,33 @@ def example_prints_what_is_shown():
     expect(lost, [], "what README shows and the example doesn't print")
 
 
+def package_is_installed_as_shown():
+    """README's two lines for an installation: the first makes a package, and the second names it. Here it is one for trials, in another folder."""
+    build, install = blocks_below(README, "Installing", 1)[0]
+    if not shutil.which("dpkg-deb"):
+        print("NOT TRIED without dpkg-deb: the package of README.md")
+        return
+    with tempfile.TemporaryDirectory() as room:
+        words = [ROOT / build, "--unproved", "--to", room]
+        subprocess.run(words, env={**os.environ, "OFTP_STATION": str(PROGRAM)}, capture_output=True, timeout=LONG, check=True)
+        made = [it.name for it in Path(room).iterdir()]
+    program, verb, path = install.split()
+    expect((program, verb, Path(path).parent.name), ("apt-get", "install", "out"), "the second line of README's installation")
+    expect(fnmatch.filter(made, Path(path).name), made, "the package that README.md names")
+
+
 def service_is_installed_as_shown():
-    """README's lines for a service, without systemd: each unit that is enabled was copied."""
+    """The lines of docs/howto/install.md for an installation by hand, without systemd: each unit that is enabled was copied."""
+    shown = [typed(block) for block in blocks_below(HOWTO / "install.md", "By hand", 3)]
     with Typist() as typist:
         for folder in ("crates/oftp_station/out", "usr/local/bin", "etc/systemd/system"):
             (typist.path / folder).mkdir(parents=True)
         (typist.path / "crates/oftp_station/out/oftp_station").symlink_to(PROGRAM)
         (typist.path / "bin/systemctl").symlink_to("/bin/true")
-        for block in blocks_below(README, "As a service", 1):
-            for command, wanted in typed(block):
-                typist.type(re.sub(r" /(usr|etc)/", r" \1/", command), wanted)
-                for unit in re.findall(r"[\w@-]+\.service", command):
-                    expect((typist.path / "etc/systemd/system" / unit).is_file(), True, f"the unit {unit} of README.md")
+        for command, wanted in [it for lines in shown for it in lines if it[0].startswith(("install -m 755 ", "cp ", "systemctl "))]:
+            typist.type(re.sub(r" /(usr|etc)/", r" \1/", command), wanted)
+            for unit in re.findall(r"[\w@-]+\.service", command):
+                expect((typist.path / "etc/systemd/system" / unit).is_file(), True, f"the unit {unit} of docs/howto/install.md")
 
 
 def first_day_goes_as_shown():
@@ -431,7 +447,7 @@ def verification_ends_as_shown():
 
 CASES = [
     *(commands_are_told, options_are_told, version_is_told, crates_are_told, reasons_are_told, keys_are_told, columns_are_told),
-    *(day_goes_as_shown, first_day_goes_as_shown, example_prints_what_is_shown, service_is_installed_as_shown),
+    *(day_goes_as_shown, first_day_goes_as_shown, example_prints_what_is_shown, package_is_installed_as_shown, service_is_installed_as_shown),
     *(folders_of_units_are_made, database_is_read_as_its_user, book_of_service_leads_to_tunnel, year_ends_as_shown, restore_is_tried_as_shown, kit_is_told),
     *(picture_is_in_order, speeds_are_measured),
 ]

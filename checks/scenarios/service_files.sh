@@ -3,6 +3,9 @@
 # of a unit for a partner gives back the partner's code. The options that are shown for the station's unit are options of `run`. The last line is
 # `N passed, M failed`.
 # No unit is started: docs/DECISIONS.md says why.
+#
+# Shows: the units of examples/service as systemd reads them, where it is installed, the exposure of each service, which is below 3, the options that
+# are shown for the station's unit, and the names of units for codes that have to be escaped: none is started
 set -euo pipefail
 root=$(cd "$(dirname "$0")/../.." && pwd)
 service=$root/examples/service

@@ -3,10 +3,7 @@
 # the program took, and fails if the memory exceeds the bound: a session's memory doesn't grow with the session. The program is that of OFTP_STATION,
 # or else the one that was last proved.
 #
-# Shows: 64 MiB of frames within 8 MiB of memory; what a file in memory takes, and that one which passes the limit ends its session. The second
-# fails where a file takes more than one and a half times its size in memory, where an octet of it costs twice what an octet of a sixteenth of it
-# does, or where it takes more than 50 times as long as a plain copy of the session's octets (125 times in small windows). The start of the program
-# isn't counted
+# Shows: 64 MiB of frames within 8 MiB of memory
 set -euo pipefail
 bound=8192
 root=$(cd "$(dirname "$0")/../.." && pwd)

@@ -8,6 +8,10 @@ one of a sixteenth, or takes more than BOUNDS times as long as a plain copy of t
 doesn't end the session. What the program takes for a session without a file is subtracted before times are compared.
 
 It takes the program of OFTP_STATION, or else the one that was last proved. The last line is then `N passed, M failed`.
+
+Shows: what a file in memory takes, and that one which passes the limit ends its session. It fails if a file takes more than one and a half times its
+size in memory, if an octet of it costs twice what an octet of a sixteenth of it does, or if it takes more than 50 times as long as a plain copy of the
+session's octets (125 times in small windows). The start of the program isn't counted
 """
 
 import os

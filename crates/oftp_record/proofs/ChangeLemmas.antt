@@ -6,7 +6,7 @@ use Rattle.std.proofs.lemmas.Nat.{be_bytes_8}
 use Rattle.std.specs.Int.{w32, w64, from_be_bytes, to_be_bytes}
 use Rattle.std.specs.List.{AllByRecursion}
 use Rattle.sha2.specs.Sha256.{sha256}
-use Rattle.oftp_record.specs.Changes.{EndsWithOtherDigest, IsChangedAt, IsGuardedByDigest, TellsChange}
+use Rattle.oftp_record.specs.Changes.{EndsWithOtherDigest, IsChangedBehind, IsGuardedByDigest, TellsChange}
 use Rattle.oftp_record.specs.Entries.{IsEntry, Noted, entry_body, entry_digest, entry_header, entry_length, entry_octets, kind_number}
 use Rattle.oftp_record.specs.Next.{Changed, IsNext}
 use Rattle.oftp_record.specs.Records.{last_digest, record_octets}
@@ -294,14 +294,13 @@ module _ (before rest : List ℕ) (e : Noted) (is : IsEntry e) (at v : ℕ) (sma
   ]
 
 -- the entries before it are read, and then the change is told
-pub octet_told : (before octets rest : List ℕ) (entries : List Noted) (e : Noted) (at : ℕ) → AllByRecursion IsEntry entries → IsEntry e
-    → IsChangedAt (entry_octets e (last_digest before entries)) octets at
-    → (IsGuardedByDigest (entry_length e) at → EndsWithOtherDigest (last_digest before entries) octets)
-    → TellsChange before (record_octets before entries ++ (octets ++ rest)) entries
-octet_told before octets rest entries e at each is changed guard =
+pub octet_told : (before octets rest : List ℕ) (entries : List Noted) (e : Noted) → AllByRecursion IsEntry entries → IsEntry e
+    → IsChangedBehind before entries e octets → TellsChange before (record_octets before entries ++ (octets ++ rest)) entries
+octet_told before octets rest entries e each is behind =
     let last = last_digest before entries in
-    let found = told last rest e is at changed.octet changed.small changed.other (omega (arith, changed.within, octets_length e last))
-    (λ place. subst (EndsWithOtherDigest last) changed.is (guard place)) in
+    let changed = behind.changed in
+    let found = told last rest e is behind.at changed.octet changed.small changed.other (omega (arith, changed.within, octets_length e last))
+    (λ place. subst (EndsWithOtherDigest last) changed.is (behind.told place)) in
     record {
       sign = found.sign;
       read = read_before before (octets ++ rest) entries (Changed found.sign) each

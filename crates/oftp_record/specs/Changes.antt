@@ -1,9 +1,9 @@
 -- An octet of an entry that was changed, and that it is told.
 use Rattle.std.specs.Prelude.{◌≡◌, ◌≢◌, ℕ, ◌-◌, ◌<◌, ◌≤◌, ◌⊎◌, List, ◌++◌, length, take, drop, slice_index, slice_set}
 use Rattle.sha2.specs.Sha256.{sha256}
-use Rattle.oftp_record.specs.Entries.{Noted}
+use Rattle.oftp_record.specs.Entries.{Noted, entry_length, entry_octets}
 use Rattle.oftp_record.specs.Next.{Changed}
-use Rattle.oftp_record.specs.Records.{IsRead}
+use Rattle.oftp_record.specs.Records.{IsRead, last_digest}
 use Rattle.oftp_record.specs.declared.chain.TheConstants.{DIGEST_LEN}
 use Rattle.oftp_record.specs.declared.header.TheConstants.{COUNT_AT, HEADER_LEN, KIND_AT}
 use Rattle.oftp_record.specs.declared.next.Alteration.{Alteration}
@@ -24,6 +24,12 @@ IsGuardedByDigest count at = (KIND_AT ≤ at) × (at < count - DIGEST_LEN) × ((
 abbrev pub EndsWithOtherDigest : List ℕ → List ℕ → Type 0
 EndsWithOtherDigest before octets =
     drop (length octets - DIGEST_LEN) octets ≡ sha256 (take (length octets - DIGEST_LEN) octets ++ before) → ⊥
+
+-- these are the octets of an entry behind these entries, but for one octet; if the digest alone guards that, it is another than it should be
+pub record IsChangedBehind (before : List ℕ) (entries : List Noted) (entry : Noted) (octets : List ℕ) : Type 0 where
+  pub at : ℕ
+  pub changed : IsChangedAt (entry_octets entry (last_digest before entries)) octets at
+  pub told : IsGuardedByDigest (entry_length entry) at → EndsWithOtherDigest (last_digest before entries) octets
 
 -- the octets are read as these entries, and then it is told that something was changed
 pub record TellsChange (before octets : List ℕ) (entries : List Noted) : Type 0 where

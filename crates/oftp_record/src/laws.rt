@@ -2,10 +2,10 @@
 
 ghost use Rattle.std.specs.Prelude.{◌≡◌, ◌<◌, ℕ, List, [], ◌∷◌, ◌++◌, drop, length};
 ghost use Rattle.std.specs.List.{AllByRecursion};
-ghost use Rattle.oftp_record.specs.Changes.{EndsWithOtherDigest, IsChangedAt, IsGuardedByDigest, TellsChange};
+ghost use Rattle.oftp_record.specs.Changes.{IsChangedBehind, TellsChange};
 ghost use Rattle.oftp_record.specs.Entries.{IsEntry, Noted, entry_digest, entry_length, entry_octets};
 ghost use Rattle.oftp_record.specs.Next.{Changed, Ends, IsNext, Next, Whole};
-ghost use Rattle.oftp_record.specs.Records.{IsCutRead, IsRead, IsStop, last_digest, record_octets};
+ghost use Rattle.oftp_record.specs.Records.{IsCutRead, IsRead, IsStop, record_octets};
 ghost use Rattle.oftp_record.specs.declared.next.Alteration.TheVariants.{Digest};
 
 /// Octets are read in one way. The function does nothing; its contract is the theorem.
@@ -38,9 +38,8 @@ pub fn written_is_read()
 pub fn change_is_told()
     // The entries before the one with the changed octet are read, and then the change is told. An octet of the word, the version, the count or the
     // digest is told always.
-    ensures octet { (before octets rest : List ℕ) (entries : List Noted) (entry : Noted) (at : ℕ) → AllByRecursion IsEntry entries → IsEntry entry
-        → IsChangedAt (entry_octets entry (last_digest before entries)) octets at
-        → (IsGuardedByDigest (entry_length entry) at → EndsWithOtherDigest (last_digest before entries) octets)
+    ensures octet { (before octets rest : List ℕ) (entries : List Noted) (entry : Noted) → AllByRecursion IsEntry entries → IsEntry entry
+        → IsChangedBehind before entries entry octets
         → TellsChange before (record_octets before entries ++ (octets ++ rest)) entries }
     // An entry behind which there was another digest.
     ensures place { (before other rest : List ℕ) (entry : Noted) → IsEntry entry → (entry_digest entry other ≡ entry_digest entry before → ⊥)
