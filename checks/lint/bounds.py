@@ -105,8 +105,9 @@ def verified():
 
 
 MINUTES = verified()
-# Those that docs/PROMISES.md names as a command that verifies a promise.
-NAMED = set(re.findall(r"`rt ci (oftp_\w+)`", (ROOT / "docs/PROMISES.md").read_text(encoding="utf-8")))
+CLAIMS = (ROOT / "docs/claims.csv").read_text(encoding="utf-8")
+# Those of the claims P1 to P17. docs/PERFORMANCE.md has how long it takes to prove them.
+NAMED = {crate for name, crate in re.findall(r"(?m)^P(\d+)(?:\.\d+)?,.*,(oftp_\w+),(?:src|specs)/", CLAIMS) if int(name) < 18}
 MEASURED = {it: minutes for it, minutes in MINUTES.items() if it in NAMED}
 
 N = rf"([\d,]+|{'|'.join(WORDS)})"
@@ -144,21 +145,21 @@ BOUNDS = [
     ("CHANGELOG.md", rf"{N} of the eighteen commands", (COMMANDS,)),
     ("docs/ARCHITECTURE.md", rf"the {N} commands, their fields", (COMMANDS,)),
     ("docs/GLOSSARY.md", rf"one of the {N} messages", (COMMANDS,)),
-    ("docs/PROMISES.md", rf"each of the {N} commands, as data", (COMMANDS,)),
-    ("docs/PROOF-MAP.md", rf"The {N}\s+commands are there", (COMMANDS,)),
+    ("docs/claims.csv", rf"each of the {N} commands, as data", (COMMANDS,)),
+    ("docs/claims.csv", rf"The {N}\s+commands are there", (COMMANDS,)),
     ("docs/GLOSSARY.md", rf"one of the {N} ways in which the register changes", (CHANGES,)),
-    ("docs/PROMISES.md", rf"each of the {N} changes makes of it", (CHANGES,)),
-    ("docs/PROOF-MAP.md", rf"each of the {N} changes in one transaction", (CHANGES,)),
+    ("docs/claims.csv", rf"each of the {N} changes makes of a register", (CHANGES,)),
+    ("docs/claims.csv", rf"each of the {N} changes in one transaction", (CHANGES,)),
     ("docs/howto/troubleshooting.md", rf"The station's own are {N} tables", (TABLES,)),
-    ("docs/PROMISES.md", rf"the rows of the {N} tables", (TABLES,)),
-    ("docs/PROOF-MAP.md", rf"the {N} tables are made in one transaction", (TABLES,)),
-    ("docs/PROMISES.md", rf"the contracts of {N} calls of crates/oftp_durable", (DURABLE,)),
+    ("docs/claims.csv", rf"the rows of the {N} tables", (TABLES,)),
+    ("docs/claims.csv", rf"the {N} tables are made in one transaction", (TABLES,)),
+    ("docs/claims.csv", rf"the contracts of {N} calls of crates/oftp_durable", (DURABLE,)),
     ("docs/CONTRIBUTING.md", rf"three of its {N} clauses", (TAKE,)),
     ("docs/PROMISES.md", rf"a frame of more than {N} octets is refused", (LONGEST_FRAME,)),
     ("docs/COMMANDS.md", rf"about {N} buffers are made at once", (TURNS,)),
     ("docs/ARCHITECTURE.md", rf"until {N} exchange buffers of a file", (TURNS,)),
     ("docs/DECISIONS.md", rf"pauses after {N} turns", (TURNS,)),
-    ("docs/PROMISES.md", rf"named here {N} to {N} minutes of a processor", (min(MEASURED.values()), max(MEASURED.values()))),
+    ("docs/PROOF-MAP.md", rf"crates of P1 to P17 this takes {N} to {N} minutes of a processor", (min(MEASURED.values()), max(MEASURED.values()))),
     *(("docs/PERFORMANCE.md", rf"\b{N}\s+for {crate}\b", (minutes,)) for crate, minutes in MEASURED.items()),
 ]
 

@@ -11,21 +11,20 @@ below README's heading "A day .." and below "The first day" of the tutorial are 
 free ports: what follows a `$` prints the lines below it. So are the second partner and the second plant of docs/howto, after the
 first day. Without stunnel the first day ends before it, and these are left out. README's two lines for an installation make and name a package,
 and the lines for one by hand are typed in a folder that takes the place of /usr/local and /etc. So are the change of the year of
-docs/howto/days.md, with two stations between which something is open at first, and the restore. Each folder that a unit needs is made there, what reads a service's database is given as its user, and the book for a service leads to the tunnel. Each speed of README.md stands
-in docs/PERFORMANCE.md. The definitions that docs/PROMISES.md quotes are in the crates, and each promise there is verified by `rt ci` of a
-crate that there is, or by the gate. If `rt` is installed, the documents name its logic. With `--verify`, what docs/PROMISES.md shows of
-`rt ci` is typed too, at the top of the repository, and ends as shown. That is a proof of a small crate: 21 seconds, or 3 where it has passed
-before. The last line is `N passed, M failed`.
+docs/howto/days.md, with two stations between which something is open at first, and the restore. Each folder that a unit needs is made there, what
+reads a service's database is given as its user, and the book for a service leads to the tunnel. Each speed of README.md stands in
+docs/PERFORMANCE.md. If `rt` is installed, the documents name its logic. With `--verify`, what docs/PROOF-MAP.md shows of `rt ci` is typed too, at
+the top of the repository, and ends as shown. That is a proof of a small crate: 21 seconds, or 3 where it has passed before. The last line is
+`N passed, M failed`.
 
 Shows: the commands and options of docs/COMMANDS.md are those of the program, its reasons those of oftp_wire, its keys of a partner book those that
 a book needs, and its columns and keys of lists those that are printed. README's day and the first day of the tutorial, through TLS too where
 stunnel is installed, go as they are shown, and then so do the second partner and the second plant of docs/howto; so do README's package,
 an installation by hand, the trial of a restore, and the change of the year, between two stations that still owe each other something at first;
 examples/two_stations.sh prints what README shows of it. CHANGELOG.md has the program's version. docs/howto makes each folder that a unit needs, and
-gives what reads a service's database as its user; the book of examples/service leads to the tunnel. Each promise of docs/PROMISES.md is verified by
-`rt ci` of a crate that there is; with `--verify`, as in the gate, what is shown of `rt ci` ends as shown. Each speed of README.md stands in
-docs/PERFORMANCE.md, each definition that docs/PROMISES.md quotes is that of a crate, and the picture of docs/ARCHITECTURE.md has each crate above
-those that it uses. The documents name the crates that there are and the toolchain's logic
+gives what reads a service's database as its user; the book of examples/service leads to the tunnel. With `--verify`, as in the gate, what
+docs/PROOF-MAP.md shows of `rt ci` ends as shown. Each speed of README.md stands in docs/PERFORMANCE.md, and the picture of docs/ARCHITECTURE.md has
+each crate above those that it uses. The documents name the crates that there are and the toolchain's logic
 """
 
 import argparse
@@ -57,7 +56,7 @@ HOWTO = ROOT / "docs/howto"
 # All guides in one text, of which some checks ask.
 GUIDES = "\n".join(it.read_text(encoding="utf-8") for it in sorted(HOWTO.glob("*.md")))
 ARCHITECTURE = ROOT / "docs/ARCHITECTURE.md"
-PROMISES = ROOT / "docs/PROMISES.md"
+PROOF_MAP = ROOT / "docs/PROOF-MAP.md"
 PERFORMANCE = ROOT / "docs/PERFORMANCE.md"
 # A command's line of the table: its name, and the rest.
 LINE = re.compile(r"^\| `\./oftp_station ([a-z]+)((?:[^`|]|\\\|)*)` \|", re.M)
@@ -76,8 +75,6 @@ MORE_KEYS = re.compile(r"Files also have ([^.]*), and responses that were receiv
 REPLY = re.compile(r"^ask GET /(\w+)[/\d]* HTTP/1\.1\n200 (.*)$", re.M)
 # A time or a rate.
 SPEED = re.compile(r"\b([\d.,]+)(?: \|)? (ms|s|MB/s)\b")
-# How a promise is verified.
-VERIFIED = re.compile(r"\*Verify\*:\s+(.*?)(?:\. |\.$)", re.S | re.M)
 
 
 def said(*words):
@@ -422,16 +419,9 @@ def kit_is_told():
         return
     version = subprocess.run(["rt", "version"], capture_output=True, text=True, check=True).stdout.split()
     logic = version[version.index("logic") + 1]
-    for name in ("README.md", "docs/PROOF-MAP.md", "docs/PERFORMANCE.md"):
+    for name in ("README.md", "docs/THEOREM.md", "docs/PERFORMANCE.md"):
         named = set(re.findall(r"logic ([0-9a-f]{16})", (ROOT / name).read_text(encoding="utf-8")))
         expect(named, {logic}, f"the toolchain of {name}")
-
-
-def definitions_are_quoted():
-    """The definitions that docs/PROMISES.md quotes are in the crates as they are there."""
-    specs = " ".join(" ".join(it.read_text(encoding="utf-8").split()) for it in ROOT.glob("crates/*/specs/*.antt"))
-    for block in blocks_below(PROMISES, "The headline, phrase by phrase", 2):
-        expect(" ".join(" ".join(block).split()) in specs, True, f"specs/ of a crate has the definition that docs/PROMISES.md quotes: {block[0]}")
 
 
 def speeds_are_measured():
@@ -441,23 +431,13 @@ def speeds_are_measured():
     expect(told - set(SPEED.findall(PERFORMANCE.read_text(encoding="utf-8"))), set(), "the speeds of README.md that docs/PERFORMANCE.md doesn't have")
 
 
-def promises_are_verified():
-    """Each promise is verified by `rt ci` of crates that there are, or by the gate."""
-    crates = set(re.findall(r"^(\w+):", (ROOT / "crates.txt").read_text(encoding="utf-8"), re.M))
-    text = part_of(PROMISES, "Promises")
-    told = VERIFIED.findall(text)
-    expect(len(told), text.count("\n### P") - 1, "the promises of docs/PROMISES.md, without the last, that say how they are verified")
-    commands = {command for it in told for command in re.findall(r"`([^`]+)`", it)}
-    expect(commands - {".ci/run", *(f"rt ci {crate}" for crate in crates)}, set(), "other commands that verify a promise of docs/PROMISES.md")
-
-
 def verification_ends_as_shown():
-    """What docs/PROMISES.md shows of `rt ci` ends as shown, typed at the top of the repository by a reader, so CI isn't set: where it is, `rt`
+    """What docs/PROOF-MAP.md shows of `rt ci` ends as shown, typed at the top of the repository by a reader, so CI isn't set: where it is, `rt`
     takes no names. How many passed may differ."""
     if not shutil.which("rt"):
-        print("NOT TRIED without rt: how a promise is verified")
+        print("NOT TRIED without rt: how a claim is proved again")
         return
-    block = next(it for it in blocks_below(PROMISES, "Promises", 1) if it[0].startswith("$ rt "))
+    block = next(it for it in blocks_below(PROOF_MAP, "How to read a claim", 1) if it[0].startswith("$ rt "))
     environment = {name: value for name, value in os.environ.items() if name != "CI"}
     for command, wanted in typed(block):
         done = subprocess.run(command.split(), cwd=ROOT, env=environment, capture_output=True, text=True, timeout=600, check=False)
@@ -469,7 +449,7 @@ CASES = [
     *(commands_are_told, options_are_told, version_is_told, crates_are_told, reasons_are_told, keys_are_told, columns_are_told),
     *(day_goes_as_shown, first_day_goes_as_shown, example_prints_what_is_shown, package_is_installed_as_shown, service_is_installed_as_shown),
     *(folders_of_units_are_made, database_is_read_as_its_user, book_of_service_leads_to_tunnel, year_ends_as_shown, restore_is_tried_as_shown, kit_is_told),
-    *(picture_is_in_order, definitions_are_quoted, speeds_are_measured, promises_are_verified),
+    *(picture_is_in_order, speeds_are_measured),
 ]
 
 
