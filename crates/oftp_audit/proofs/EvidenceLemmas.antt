@@ -1,5 +1,5 @@
 -- No change takes evidence away.
-use Rattle.std.proofs.Common.{◌≡◌, ◌⊎◌, ℕ, zero, suc, ◌==◌, ◌||◌, Bool, true, false, cond, List, [], ◌∷◌, ◌++◌, map, take, fold, Option, None, Some, is_some, Result, Ok, Err, refl, ap, sym, ◌∙◌, subst, inl, inr}
+use Rattle.std.proofs.Common.{◌≡◌, ℕ, zero, suc, ◌==◌, ◌||◌, true, List, [], ◌∷◌, ◌++◌, map, fold, Option, None, Some, Result, Ok, Err, refl, ap, sym, ◌∙◌, subst, inl, inr}
 use Rattle.std.proofs.lemmas.Bool.{cases_Bool, cond-true, cond-false, cond_both, eq-eqb, eqb-true, or_cases}
 use Rattle.oftp_register.specs.declared.change.Cause.{Cause}
 use Rattle.oftp_register.specs.declared.change.Change.{Change}
@@ -14,13 +14,13 @@ use Rattle.oftp_register.specs.declared.entry.OutgoingState.TheVariants.{Waiting
 use Rattle.oftp_register.specs.declared.entry.ResponseKind.{ResponseKind}
 use Rattle.oftp_register.specs.declared.entry.ResponseKind.TheVariants.{EndResponse, NegativeEndResponse}
 use Rattle.oftp_register.specs.Register.{Register, Issued, Incoming, Outgoing, Received, same_identity}
-use Rattle.oftp_register.specs.Changes.{answered, apply, apply_all, at_number, begun, closed, closing, filed, given_up, go_on_by, gone_on, handed, if_open, if_unanswered, is_closing, is_waiting, issued, issued_on, kept, mapped, marked, new_incoming, new_outgoing, on_incoming, on_outgoing, refused, reopened, sent, sent_as, sent_of, settled, started, started_in, submitted}
+use Rattle.oftp_register.specs.Changes.{answered, apply, at_number, closed, closing, filed, given_up, go_on_by, gone_on, handed, if_open, if_unanswered, is_closing, is_waiting, issued, issued_on, kept, mapped, marked, new_incoming, new_outgoing, on_incoming, on_outgoing, refused, reopened, sent, sent_as, settled, started, started_in, submitted}
 use Rattle.oftp_register.proofs.AdditionLemmas.{filed_ok, submitted_ok}
-use Rattle.oftp_register.proofs.IncomingLemmas.{begun_ok, gone_on_ok, if_open_ok, issued_on_ok, sent_of_ok}
+use Rattle.oftp_register.proofs.IncomingLemmas.{gone_on_ok, if_open_ok, issued_on_ok, sent_of_ok}
 use Rattle.oftp_register.proofs.NameLemmas.{same_identity-true}
 use Rattle.oftp_register.proofs.NumberLemmas.{mapped_ok, one_result}
 use Rattle.oftp_register.proofs.OutgoingLemmas.{allowed_ok}
-use Rattle.oftp_audit.specs.Evidence.{EvidenceStays, KeepsEach, KeepsEvidence, KeepsIncoming, KeepsIssued, KeepsOutgoing, KeepsReceived, KeepsResponse, KeepsWhole, content_in, content_out, may_become, may_dispatch, was_delivered, was_handed, was_refused, was_returned}
+use Rattle.oftp_audit.specs.Evidence.{EvidenceStays, KeepsEach, KeepsEvidence, KeepsIncoming, KeepsIssued, KeepsOutgoing, KeepsReceived, KeepsResponse, KeepsWhole, may_become, may_dispatch, was_delivered, was_handed, was_refused, was_returned}
 
 -- ---- an entry keeps what it has
 

@@ -1,5 +1,5 @@
 -- What an audit tells of entries, and what holds of them.
-use Rattle.std.proofs.Common.{◌≡◌, ◌↔◌, ℕ, zero, suc, ◌==◌, ◌&&◌, ◌||◌, Bool, true, false, List, [], ◌∷◌, length, Option, None, Some, refl, ap, sym, ◌∙◌, subst, arith}
+use Rattle.std.proofs.Common.{◌≡◌, ℕ, ◌==◌, ◌||◌, Bool, true, false, List, [], ◌∷◌, length, Option, None, Some, refl, ap, sym, ◌∙◌, subst, arith}
 use Rattle.std.proofs.lemmas.Bool.{eq-eqb, eqb-true}
 use Rattle.std.proofs.lemmas.Slice.Eq.{bytes_eq-Decides}
 use Rattle.std.specs.Str.{bytes_eq}
@@ -14,8 +14,8 @@ use Rattle.oftp_register.specs.Register.{Issued, Incoming, Outgoing, Received, s
 use Rattle.oftp_register.specs.Verdicts.{same_format}
 use Rattle.oftp_register.proofs.ByIdentityLemmas.{same_self}
 use Rattle.oftp_register.proofs.NameLemmas.{same_identity-true}
-use Rattle.oftp_audit.specs.Evidence.{Content, KeepsIncoming, KeepsIssued, KeepsOutgoing, KeepsReceived, KeepsResponse, KeepsWhole, content_in, content_out, may_become, may_dispatch}
-use Rattle.oftp_audit.specs.Losses.{is_open, lost_of_row, may_come, unless}
+use Rattle.oftp_audit.specs.Evidence.{Content, KeepsIncoming, KeepsOutgoing, KeepsReceived, KeepsResponse, KeepsWhole, content_in, content_out, may_become, may_dispatch}
+use Rattle.oftp_audit.specs.Losses.{is_open, may_come, unless}
 use Rattle.oftp_audit.specs.Passing.{AuditIsExact, IncomingPasses, OutgoingPasses, ReceivedPasses, ResponsePasses, RowsPass, WholeRowsPass}
 use Rattle.oftp_audit.specs.declared.loss.Loss.{Loss}
 use Rattle.oftp_audit.specs.declared.loss.Loss.TheVariants as loss

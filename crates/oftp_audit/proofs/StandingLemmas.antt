@@ -1,21 +1,21 @@
 -- An audit finds an entry sound exactly if the register's own invariant holds of it.
-use Rattle.std.proofs.Common.{◌≡◌, ℕ, zero, suc, ◌<◌, ◌≤◌, ◌+◌, ◌-◌, ◌==◌, ◌&&◌, not, Bool, true, false, cond, nat_le, nat_lt, List, [], ◌∷◌, length, All, Option, None, Some, is_some, refl, ap, sym, ◌∙◌, subst, arith}
+use Rattle.std.proofs.Common.{◌≡◌, ℕ, suc, ◌<◌, ◌≤◌, ◌+◌, ◌-◌, ◌==◌, ◌&&◌, not, true, false, cond, nat_le, nat_lt, List, [], ◌∷◌, length, All, Option, None, Some, is_some, refl, ap, sym, ◌∙◌, arith}
 use Rattle.std.proofs.lemmas.Bool.{and_from, and_parts, cond_both, eq-eqb, eqb-true, le-leb, leb-true, lt-ltb, ltb-true, ne_eqb}
 use Rattle.std.proofs.lemmas.List.Elements.{All-cons, All-head, All-nil, All-tail}
 use Rattle.std.specs.Option.{option_map}
 use Rattle.oftp_vfile.specs.declared.format.Format.{Format}
 use Rattle.oftp_vfile.specs.declared.format.Format.TheVariants.{Fixed, Variable, Unstructured, Text}
 use Rattle.oftp_vfile.specs.declared.format.TheConstants.{BLOCK, LONGEST_RECORD, MOST_ROWS}
-use Rattle.oftp_vfile.specs.VirtualFile.{AreBlocks, AreRows, IsLongest}
+use Rattle.oftp_vfile.specs.VirtualFile.{AreBlocks, IsLongest}
 use Rattle.oftp_register.specs.declared.entry.IncomingState.{IncomingState}
 use Rattle.oftp_register.specs.declared.entry.IncomingState.TheVariants.{Open, Whole}
 use Rattle.oftp_register.specs.declared.entry.ResponseKind.{ResponseKind}
 use Rattle.oftp_register.specs.declared.entry.ResponseKind.TheVariants.{EndResponse, NegativeEndResponse}
 use Rattle.oftp_register.specs.LookUps.{issued_response}
 use Rattle.oftp_register.specs.Register.{Issued, Incoming, Outgoing, Received}
-use Rattle.oftp_register.specs.Soundness.{AreFullRows, FitsState, IsAnsweredWhole, IsResponse, IsSoundAnswer, IsSoundIncoming, IsSoundOutgoing, IsSoundReceived}
-use Rattle.oftp_audit.specs.Losses.{allows, is_blank, is_full, is_last, is_open, may_have, may_say, unless, unsound_in_row}
-use Rattle.oftp_audit.specs.Passing.{AnswerPasses, IncomingStands, LengthsPass, OutgoingStands, ReceivedStands, SoundnessIsExact, shape_in, shape_out}
+use Rattle.oftp_register.specs.Soundness.{FitsState, IsAnsweredWhole, IsResponse, IsSoundAnswer, IsSoundIncoming, IsSoundOutgoing, IsSoundReceived}
+use Rattle.oftp_audit.specs.Losses.{allows, is_blank, is_full, is_last, is_open, may_have, may_say}
+use Rattle.oftp_audit.specs.Passing.{AnswerPasses, IncomingStands, LengthsPass, OutgoingStands, ReceivedStands, SoundnessIsExact}
 use Rattle.oftp_audit.specs.declared.loss.Loss.TheVariants as loss
 use Rattle.oftp_audit.specs.declared.rows.Shape.{Shape}
 use Rattle.oftp_audit.proofs.LossLemmas.{holds, told}

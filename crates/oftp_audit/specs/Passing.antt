@@ -4,12 +4,11 @@ use Rattle.std.specs.Option.{option_map}
 use Rattle.oftp_register.specs.declared.change.Change.{Change}
 use Rattle.oftp_register.specs.declared.entry.IncomingState.{IncomingState}
 use Rattle.oftp_register.specs.declared.entry.IncomingState.TheVariants.{Open, Whole}
-use Rattle.oftp_register.specs.declared.entries.IssuedResponse.{IssuedResponse}
 use Rattle.oftp_register.specs.Register.{Register, Issued, Incoming, Outgoing, Received}
 use Rattle.oftp_register.specs.Changes.{apply_all}
 use Rattle.oftp_register.specs.LookUps.{incoming_entry, issued_response, outgoing_entry, received_entry}
-use Rattle.oftp_register.specs.Soundness.{AreFit, IsSound, IsSoundAnswer, IsSoundIncoming, IsSoundOutgoing, IsSoundReceived}
-use Rattle.oftp_audit.specs.Evidence.{KeepsEach, KeepsEvidence, KeepsIncoming, KeepsOutgoing, KeepsReceived}
+use Rattle.oftp_register.specs.Soundness.{AreFit, IsSound, IsSoundIncoming, IsSoundOutgoing, IsSoundReceived}
+use Rattle.oftp_audit.specs.Evidence.{KeepsEach, KeepsIncoming, KeepsOutgoing, KeepsReceived}
 use Rattle.oftp_audit.specs.Losses.{lost_of_incoming, lost_of_issued, lost_of_outgoing, lost_of_received, lost_of_row, unsound_in_incoming, unsound_in_issued, unsound_in_outgoing, unsound_in_received, unsound_in_row}
 use Rattle.oftp_audit.specs.declared.loss.Loss.{Loss}
 use Rattle.oftp_audit.specs.declared.rows.Shape.{Shape}

@@ -75,7 +75,7 @@ impl Loss {
             Loss::UnfitCount => "has too many rows",
             Loss::UnfitMark => "has a mark above its rows",
             Loss::UnfitLength => "has a length that the format doesn't allow",
-            Loss::UnfitResponse => "answers a file that isn't whole",
+            Loss::UnfitResponse => "has a response, and isn't whole",
             Loss::UnfitWords => "has a reason, a creator or a text, and is an EERP",
             Loss::Unread => "has a value that no entry has",
             Loss::Stray => "belongs to no entry",
