@@ -1,0 +1,4 @@
+pub mod EvidenceLemmas
+pub mod LossLemmas
+pub mod StandingLemmas
+pub mod PassingLemmas

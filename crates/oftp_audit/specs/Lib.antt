@@ -1,0 +1,3 @@
+pub mod Evidence
+pub mod Losses
+pub mod Passing
