@@ -1,0 +1,21 @@
+//! What a trace and `show` tell of commands: each field by its name in RFC 5024 (section 5.3), and of faulty octets which field is at fault,
+//! what it has and what it may have.
+//!
+//! The places of the fields are those of oftp_codec's tables (`specs/Names.antt`), so there is no second list of them. A password is never
+//! told, and no content of a file.
+#![tactic(auto)]
+
+mod counting;
+mod faults;
+mod fields;
+mod kind;
+mod shown;
+mod tables;
+mod telling;
+
+pub use counting::{DataCount, Gathered, Sender, gather};
+pub use faults::MOST_TOLD;
+pub use fields::{FieldForm, FieldSheet, NamedField};
+pub use kind::CommandKind;
+pub use tables::fields_of;
+pub use telling::{Telling, tell};
