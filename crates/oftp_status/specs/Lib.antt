@@ -1,0 +1,12 @@
+pub mod Ages
+pub mod Health
+pub mod Metrics
+pub mod Objects
+pub mod Pictures
+pub mod Pieces
+pub mod PlainLines
+pub mod Replies
+pub mod Settled
+pub mod Stamps
+pub mod Subjects
+pub mod Tallies
