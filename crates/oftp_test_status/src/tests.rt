@@ -213,8 +213,8 @@ fn judge(
 ) -> Result<(), Fail> {
     let (counted, stored) = (counters(alloc)?, files(alloc)?);
     let limits = Limits {
-        warn: warn * HOUR,
-        critical: critical * HOUR,
+        warn: warn.saturating_mul(HOUR),
+        critical: critical.saturating_mul(HOUR),
     };
     let terms = Terms { limits, overdues };
     let verdict = verdict_on(alloc, &picture(&counted, &stored), terms)?;
