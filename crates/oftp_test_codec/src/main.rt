@@ -10,6 +10,7 @@ mod octets;
 mod requests;
 mod streams;
 mod takers;
+mod told;
 mod values;
 mod words;
 
@@ -45,6 +46,8 @@ fn answer(rt: &HostRuntime, line: &mut Line) -> io::Result<()> {
         "typed" => requests::answer(rt, line),
         "event" => events::line(rt, line),
         "events" => events::words(rt),
+        "tell" => told::command(rt, &line.octets(rt.alloc())?),
+        "notes" => told::notes(rt),
         call => answer_of_wire(rt, call, line),
     }
 }
