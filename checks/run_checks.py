@@ -93,7 +93,6 @@ CHECKS = [
         "what the documents say of the commands, the days that they show, and how a promise is verified",
         quick="python3 checks/scenarios/documents.py",
     ),
-    Check("alarms", "python3 checks/scenarios/alarms.py", "the alarms and the dashboard of examples/monitoring"),
     Check("octets", "python3 checks/scenarios/spell_examples.py", "the octets of examples/, against the rows that spell them"),
     Check("power losses", "python3 checks/faults/power_losses.py", "what a loss of power leaves of the files that commands make and move", wants_cc=True),
     Check("far partners", "python3 checks/scenarios/far_partners.py", "partners who are called, and who call, at a distance"),
@@ -130,7 +129,6 @@ WANTED = {
     "a browser": (["chromium"], ["chromium", "fonts-dejavu-core"]),
     "man": (["man"], ["man-db"]),
     "debootstrap": (["debootstrap"], ["debootstrap"]),
-    "promtool": (["promtool"], ["prometheus"]),
     "the text of RFC 5024": (["/usr/share/doc/RFC/informational/rfc5024.txt.gz"], ["doc-rfc-informational"]),
 }
 # How a check begins the line of what it couldn't try.
