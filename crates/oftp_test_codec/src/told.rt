@@ -1,9 +1,18 @@
 //! What a trace tells of a command, and notes.
 
-use oftp_notes::{DatabaseCause, Note, RefusalNote, SessionEnd};
+use oftp_notes::{DatabaseCause, Note, RefusalNote};
 use oftp_telling::{Telling, tell};
-use oftp_wire::Count;
 use std::io;
+
+/// Notes: one whose path has a character that can't be seen, one of a refusal, and one of nothing.
+const NOTES: [Note<'static>; 3] = [
+    Note::Database {
+        path: "/var/lib/a\u{202e}b.db",
+        cause: DatabaseCause::IsHeld(4711),
+    },
+    Note::Refused(RefusalNote::NoFile(12)),
+    Note::Memory,
+];
 
 /// Prints what is told of the octets of a command.
 pub fn command(rt: &HostRuntime, octets: &[u8]) -> io::Result<()> {
@@ -14,20 +23,11 @@ pub fn command(rt: &HostRuntime, octets: &[u8]) -> io::Result<()> {
     }
 }
 
-/// Prints a note of each kind that has a text of its own.
+/// Prints the notes. Each ends by its own line feed.
 pub fn notes(rt: &HostRuntime) -> io::Result<()> {
-    let held = Note::Database {
-        path: "/var/lib/a\u{202e}b.db",
-        cause: DatabaseCause::IsHeld(4711),
-    };
-    print_note(rt, &held)?;
-    print_note(rt, &Note::Refused(RefusalNote::NoFile(12)))?;
-    print_note(rt, &Note::End(SessionEnd::Partner(Count::new(4))))?;
-    print_note(rt, &Note::Memory)
-}
-
-// Prints a note. It ends by its own line feed.
-fn print_note(rt: &HostRuntime, note: &Note<'_>) -> io::Result<()> {
-    let line = note.to_line(rt.alloc())?;
-    print!(rt; "  {line}")
+    for note in &NOTES {
+        let line = note.to_line(rt.alloc())?;
+        print!(rt; "  {line}")?;
+    }
+    Ok(())
 }
