@@ -45,11 +45,11 @@ COLUMNS = ["id", "sentence", "premise", "crate", "file", "clause", "command"]
 GATE = ".ci/run"
 PROVES = "rt check --only "
 # An id: a promise, a call of the program, a definition, or a claim of a layer, each with its number; a promise may have points.
-ID = re.compile(r"(?:P\d+(?:\.\d+)?|[CD]\d+|[a-z_]+\.\d+)")
-NAMED_ID = re.compile(r"\[(P\d+(?:\.\d+)?|[CD]\d+|[a-z_]+\.\d+)\]")
+ID = re.compile(r"(?:P\d+(?:\.\d+)?|[CM]\d+|[a-z_]+\.\d+)")
+NAMED_ID = re.compile(r"\[(P\d+(?:\.\d+)?|[CM]\d+|[a-z_]+\.\d+)\]")
 CLAUSE = re.compile(r"\bensures\*?(?: (\w+))? \{")
 QUOTED_FILE = re.compile(r"\b(oftp_\w+/(?:src|specs)/[\w/]+\.(?:rt|antt))")
-SECTIONS = {"P": "Promises", "C": "Calls of the program", "D": "Definitions"}
+SECTIONS = {"P": "Promises", "C": "Calls of the program", "M": "Definitions"}
 HEAD = """# The claims
 
 `checks/claims.py --write` makes this page of [claims.csv](../claims.csv); it isn't edited by hand.
@@ -122,7 +122,7 @@ def is_spec(claim):
 
 
 def is_definition(claim):
-    return claim["id"].startswith("D")
+    return claim["id"].startswith("M")
 
 
 def lost_in(claim):
@@ -238,7 +238,7 @@ def rendered(claim):
 
 def section(claim):
     """The heading below which a claim stands on the page."""
-    return SECTIONS.get(re.match(r"[PCD]?", claim["id"])[0], "Layers")
+    return SECTIONS.get(re.match(r"[PCM]?", claim["id"])[0], "Layers")
 
 
 def listed(group):
