@@ -59,7 +59,6 @@ pub fn operate<O: Office>(
     // The headline.
     ensures leaves { HasLeft O.view life.new.began life.new.acts life.new.over life.new.office }
 {
-    // Nobody reads this line: the program prints one of what this returns.
     let mut line = Port::new(io::sink(), 0);
     match life.order(alloc, book, call, &mut line) {
         Ok(told) => Ok(outcome_of(verb_of(call), told)),
