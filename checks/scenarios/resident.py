@@ -696,8 +696,8 @@ def who_comes_at_the_last_job(room):
 
 
 def callers_in_their_order(room):
-    """Callers who come during a session and are ready to be let in are served in the order in which they came, and one who isn't keeps none of
-    those behind him waiting."""
+    """Callers who are let in during a session are served in the order in which they were, and one who isn't keeps none of those behind him
+    waiting."""
     octets = ONE_OCTET.joined("in")
     names = [b"ASN.%04d" % number for number in range(1, 9)]
     with Resident(room, "--admission", "600") as service, contextlib.ExitStack() as stack, service.caller() as first:
@@ -705,8 +705,8 @@ def callers_in_their_order(room):
         heard(first, OPENED)
         stack.enter_context(service.caller()).sendall(SSID[:10])
         callers = [stack.enter_context(service.caller()) for _ in names]
-        # The last one says all first.
-        for caller, name in reversed([*zip(callers, names)]):
+        # A busy station may hear one before the next has said anything.
+        for caller, name in zip(callers, names):
             caller.sendall(octets.replace(b"ASN.0001", name))
             caller.shutdown(socket.SHUT_WR)
         first.sendall(NOTHING_WAITING.joined("in")[len(SSID) :])
