@@ -5,9 +5,15 @@
     checks/evidence.py --check      compares them with what it would write
 
 The pages are: what each check shows (from the head of each script), which wrong bodies a promise names and what refuses each (from the edits), each
-statement about `run` with what shows it, two ways through the code, the breaks that checks have noticed, the bounds, what a tool's wrong bodies found, and what was measured.
+statement about `run` with what shows it, each sentence of what an operator is promised, two ways through the code, the breaks that checks have
+noticed, the bounds, what a tool's wrong bodies found, and what was measured.
 What no script knows is in tables beside the pages, docs/evidence/*.csv and docs/measured/*.csv. A wrong body that isn't there, a check without a
-script and a table that no page shows fail. The last line is `N passed, M failed`, in pages.
+script and a table that no page shows fail.
+
+In operations.csv `shown_by` has places with ` | ` between them. A place is a file, or a file with names of it: `FILE: NAME + NAME`. A name is a
+function of a check that something calls, a row or a line, a test, a function with a contract, or a clause of one (`FUNCTION.CLAUSE`). In another
+file it is a line. `nothing: WHY` stands where nothing shows a sentence. `--check` fails where a file or a name isn't there. The last line is
+`N passed, M failed`, in pages and in places of that table.
 """
 
 import ast
@@ -29,6 +35,14 @@ MEASURED = ROOT / "docs/measured"
 WRITTEN = "Written by `checks/evidence.py`; an edit here is lost.\n"
 EDIT = re.compile(r"\b(\w+_\w+) \((oftp_\w+)(, gate)?\)")
 SCRIPT = re.compile(r"(?:checks|examples)/[\w/]+\.(?:py|sh)")
+NOTHING = "nothing"
+# What a name in a file of each kind is, for a sentence that the file shows.
+NAMED = {
+    ".py": r"^ *def {name}\(",
+    ".sh": r"^{name}\(\) ",
+    ".lines": r"^(?:line|bad) {name}$",
+    ".schedule": r"^row {name}$",
+}
 # The folders of checks that no table of checks lists, with what makes one of them fail.
 BY_ITSELF = {
     "lint": "The texts: each fails where the tree isn't as a document or a rule says",
@@ -126,6 +140,73 @@ def page_of_run():
     )
 
 
+def places_of(shown_by):
+    """Where a sentence is shown: each file with the names in it."""
+    for place in shown_by.split(" | "):
+        path, _, names = place.partition(": ")
+        yield path, names.split(" + ") if names and path != NOTHING else []
+
+
+def has_contract(text, name):
+    """Whether a crate's source has a function with a contract, or with this clause, or a test of this name."""
+    function, _, clause = name.rpartition("::")[2].partition(".")
+    head = r"(?:(?!\bfn\b)[\s\S])*?"
+    clause = rf"{re.escape(clause)} " if clause else r"(?:\w+ )?"
+    if re.search(rf"\bfn {function}\b{head}\bensures\*? {clause}\{{", text):
+        return True
+    return not name.rpartition(".")[0] and re.search(rf"#\[test\]\s+(?:pub )?fn {function}\b", text)
+
+
+def is_named(path, name):
+    """Whether a file has what a sentence names of it. A function of a check counts where something calls it."""
+    text = path.read_text(encoding="utf-8")
+    if path.suffix == ".rt":
+        return has_contract(text, name)
+    pattern = NAMED.get(path.suffix, r"^\s*{name}$").format(name=re.escape(name))
+    calls = len(re.findall(rf"\b{re.escape(name)}\b", text)) if path.suffix in (".py", ".sh") else 2
+    return re.search(pattern, text, re.M) and calls > 1
+
+
+def judged_places():
+    """Each place of the table of operations: its sentence, and what isn't there of it, or None."""
+    for part, sentence, shown_by in table(EVIDENCE / "operations.csv")[1:]:
+        for path, names in places_of(shown_by):
+            if path == NOTHING:
+                continue
+            file = ROOT / path
+            if not file.is_file():
+                yield f"{part}: {sentence}", f"there is no {path}"
+                continue
+            lost = [it for it in names if not is_named(file, it)]
+            yield f"{part}: {sentence}", f"{path} hasn't {', '.join(lost)}" if lost else None
+
+
+def told_place(path, names):
+    """A place as the page has it."""
+    quoted = [f"`{it}`" if re.fullmatch(r"[\w:.]+", it) else f"“{it}”" for it in names]
+    return f"{path}: {', '.join(quoted)}" if quoted else path
+
+
+def page_of_operations():
+    """Each sentence of what an operator is promised, part by part, with what shows it."""
+    rows = table(EVIDENCE / "operations.csv")[1:]
+    parts, unshown = [], [["Part", "Sentence", "Why nothing shows it"]]
+    for part in dict.fromkeys(it[0] for it in rows):
+        shown_rows = [["Sentence", "What shows it"]]
+        for _, sentence, shown_by in (it for it in rows if it[0] == part):
+            if shown_by.startswith(f"{NOTHING}: "):
+                unshown.append([part, sentence, shown_by.partition(": ")[2]])
+            else:
+                shown_rows.append([sentence, "; ".join(told_place(*it) for it in places_of(shown_by))])
+        parts.append(f"## {part}\n\n{markdown(shown_rows)}")
+    told = (
+        "A sentence says one thing that can be wrong by itself. Only what the program does stands here. Of a check the function is named, of rows the\n"
+        "row or the line, of a crate the function whose contract says it, with its clause. `checks/evidence.py --check` looks for each name in its file."
+    )
+    more = f"## What nothing shows\n\n{markdown(unshown)}" if unshown[1:] else ""
+    return "\n".join([f"# What an operator is promised, and what shows it\n\n{WRITTEN}\n{told}\n", *parts, more]).rstrip("\n") + "\n"
+
+
 def page_of_ways():
     """The ways of an octet and of a submission through the code, call by call."""
     parts = [f"# Two ways through the code\n\n{WRITTEN}\nEach line is called by one above it; paths are below crates/.\n"]
@@ -141,8 +222,8 @@ def page_of_edges():
     bounds = [["Bound", "One below, at it, and one above"], *table(EVIDENCE / "bounds.csv")[1:]]
     return (
         f"# Breaks that were noticed, and bounds\n\n{WRITTEN}\n## Breaks\n\nEach check was seen to fail with a copy of the checked program that has one "
-        f"break: octets of its machine code\nwere changed, or a library in front of the C library changed a call (library), or the program was that of\n"
-        f"the sources before (before).\n\n{markdown(breaks)}\n## Bounds\n\n{markdown(bounds)}"
+        f"break: octets of its machine code\nwere changed, or a library in front of the C library changed a call (library), or a script in front of the\n"
+        f"program changed its words or its files (script), or the program was that of the sources before (before).\n\n{markdown(breaks)}\n## Bounds\n\n{markdown(bounds)}"
     )
 
 
@@ -186,6 +267,7 @@ MADE = {
     EVIDENCE / "checks.md": page_of_checks,
     EVIDENCE / "wrong_bodies.md": page_of_wrong_bodies,
     EVIDENCE / "run.md": page_of_run,
+    EVIDENCE / "operations.md": page_of_operations,
     EVIDENCE / "ways.md": page_of_ways,
     EVIDENCE / "edges.md": page_of_edges,
     EVIDENCE / "measured.md": page_of_measurements,
@@ -208,8 +290,13 @@ def check():
         print(f"{path.relative_to(ROOT)} isn't what `checks/evidence.py --write` writes")
     for path in lost:
         print(f"{path.relative_to(ROOT)} is shown by no page")
-    print(f"{len(MADE) - len(stale)} passed, {len(stale) + len(lost)} failed")
-    return 1 if stale or lost else 0
+    places = list(judged_places())
+    astray = [it for it in places if it[1]]
+    for sentence, why in astray:
+        print(f"operations.csv: {sentence}: {why}")
+    failed = len(stale) + len(lost) + len(astray)
+    print(f"{len(MADE) - len(stale) + len(places) - len(astray)} passed, {failed} failed")
+    return 1 if failed else 0
 
 
 def main():

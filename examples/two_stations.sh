@@ -1,6 +1,6 @@
 #!/bin/bash
-# A supplier and a car maker as two stations on this machine, each a `run` that keeps its own database open and is asked by the commands beside it. A
-# dispatch note goes one way and a schedule the other. During the schedule the supplier's station is killed, and the next call continues where it
+# A supplier and a car maker as two stations on this machine. Each is a `run` that keeps its own database open, and commands ask it. A dispatch note
+# goes to the car maker, and a schedule to the supplier. During the schedule the supplier's station is killed, and the next call continues where it
 # stopped. End-to-End Responses go back both ways, and the register is shown over HTTP. It prints each command and its output.
 #
 # Shows: two stations that keep their databases open, one of which is killed within a file, and what their operators do

@@ -52,10 +52,13 @@ check_whole() {
     if [ -e whole ]; then cmp answer whole || fail 'another answer'; fi
 }
 
+# The line of a session that gave up for want of memory.
+gave_up='> ESID 08 resources not available: ESIDCMD="F" ESIDREAS=08 ESIDREASL=000 ESIDREAST="" ESIDCR="\u{d}"'
+
 # Checks that the trace has no other lines than the whole one, beside those of the error.
 check_trace() {
     if [ ! -e trace ]; then return; fi
-    if cut -d ' ' -f 2- trace | grep -vxF -f whole_trace -f err -e '> ESID 08 resources not available' > other_lines; then
+    if cut -d ' ' -f 2- trace | grep -vxF -f whole_trace -f err -e "$gave_up" > other_lines; then
         fail "another line in the trace: $(head -n 1 other_lines)"
     fi
 }

@@ -10,8 +10,8 @@ is. Behind each call the folders and the tables are looked at, by stock sqlite3.
 released is there. Of `offer`: each file is in one place, and the register has none twice. Some calls of `offer` are given a record length that
 no file has: each file in `refused` has its whole line then, and a line without its file is that of one in `taken`. What is refused is put into the
 folder again. Behind the last call each file that was to be collected is there once, and released once where that was asked for; each file that was
-offered is in the register once and is put away, and no line is left; and one more call does nothing. It goes on behind its time until enough of
-each were killed. The seed is printed, and at a failure all that is left is kept in a folder. The last line is `N passed, M failed`.
+offered is in the register once and is put away, and no line is left; and one more call does nothing but tell what it leaves. It goes on behind its
+time until enough of each were killed. The seed is printed, and at a failure all that is left is kept in a folder. The last line is `N passed, M failed`.
 
 Shows: `collect`, and `offer` over two folders with files of the same names and times, killed by SIGKILL at random moments for 20 s (`--minutes N`
 for longer), alone and beside a station, which is killed too, again and again until a call comes to an end. After each call no file is half,
@@ -54,6 +54,8 @@ GONE = [b"fault: 3 office\n", b"fault: 6 store 1\n"]
 # What incoming files are called, with the name that each has in the folder.
 NAMES = {"A/B": "A+B", "..": "..", "-.&()": "-.&()", "A": "A", "SCHEDULE.1": "SCHEDULE.1", "Z" * 26: "Z" * 26}
 OTHERS = {"lower.case": b"A", "NAME_WITH_A_LINE": b"B", ".HIDDEN": b"C"}
+# What `offer` says of them each time.
+LEFT = b"left: NAME_WITH_A_LINE: no dataset name\nleft: lower.case: no dataset name\n"
 # What refuses each file, since no length is a multiple of 3, and the line for it.
 IN_THREES = ("--format", "F", "--longest", "3")
 IN_NONE = b"refused: 5 field\n"
@@ -269,7 +271,7 @@ class Trials:
             expect(shown(registered(self.tables())), shown(offered), "what the register has, by the beginnings of the contents")
         for folder, words in zip(folders, commands):
             done = subprocess.run(words, capture_output=True, timeout=LONG, check=False)
-            expect((done.returncode, done.stdout, done.stderr), (0, b"", b""), "one more call")
+            expect((done.returncode, done.stdout, done.stderr), (0, LEFT, b""), "one more call")
             expect(sorted(path.name for path in folder.iterdir() if path.is_file()), sorted(OTHERS), "the files of others")
         for entry in self.tables()["out_file"]:
             name = f"{entry['no']:07}_{entry['dataset']}_{entry['date']}_{entry['time']}_{CARMAKER}"

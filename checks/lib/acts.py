@@ -21,6 +21,7 @@ OPTIONS = {
     "migrate": ["--db"],
     "check": ["--book"],
     "submit": ["--db", "--book"],
+    "resend": ["--db", "--book"],
     "release": ["--db", "--book"],
     "refuse": ["--db", "--book"],
     "fetch": ["--db"],

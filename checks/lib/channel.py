@@ -7,7 +7,7 @@ octet for its outlet and its length in four, and then the octet 0, the kind of i
 
 import struct
 
-KINDS = {"submit": 1, "release": 2, "refuse": 3, "call": 4, "report": 5, "unanswered": 6, "outgoing": 7, "fetch": 8, "holds": 9, "backup": 10, "init": 11}
+KINDS = {"submit": 1, "release": 2, "refuse": 3, "call": 4, "report": 5, "unanswered": 6, "outgoing": 7, "fetch": 8, "holds": 9, "backup": 10, "init": 11, "stop": 12, "reload": 13, "resend": 14, "status": 15, "health": 16, "settled": 17}
 REPORTS = {"in": 1, "out": 2, "issued": 3, "received": 4}
 
 # Which outlet the pieces of an answer are for.
@@ -16,7 +16,7 @@ OUTPUT, CONTENT = 1, 2
 ENDS = {
     **{1: "listed", 2: "same", 3: "other", 10: "done: init", 11: "done: migrate", 12: "ok: {} partners", 13: "done: backup", 14: "end: own {:02}"},
     **{15: "end: partner {:02}", 16: "end: input", 17: "done: submit {}", 18: "done: release {}", 19: "done: refuse {}", 20: "done: fetch {}"},
-    **{31: "fault: 5 book {}", 32: "fault: 6 store {}", 33: "fault: 7 file", 34: "fault: 8 socket"},
+    **{22: "done: stop", 23: "done: reload", 31: "fault: 5 book {}", 32: "fault: 6 store {}", 33: "fault: 7 file", 34: "fault: 8 socket"},
 }
 REFUSED, RUN = 21, 30
 REFUSALS = ["duplicate", "unknown", "state", "limit", "field"]
@@ -54,9 +54,14 @@ def fields_of(command, book, content, words):
         return [book, number(int(words[0])), number(int(words[1])), words[2].encode()]
     if command == "call":
         # Five minutes of patience, a day, and no trace.
-        return [book, words[0].encode(), number(300), number(86_400), b"\0"]
+        return [words[0].encode(), number(300), number(86_400), b"\0"]
     if command == "report":
         return [bytes([REPORTS[words[0]]])]
+    if command == "resend":
+        options = options_in(words)
+        return [book, number(int(words[-1])), options["--date"].encode(), options["--time"].encode()]
+    if command == "stop":
+        return [b"\1" if "--now" in words else b"\0"]
     if command == "fetch":
         return [number(int(words[0]))]
     return []

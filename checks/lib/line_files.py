@@ -5,6 +5,7 @@ Each line runs in a folder of its own, and the result says why it differs from w
 
 import calendar
 import os
+import re
 import resource
 import shlex
 import subprocess
@@ -14,17 +15,19 @@ from pathlib import Path
 
 import tables
 from acts import check_left
-from program import PROGRAM
+from program import PROGRAM, ROOT
 from row_files import ROWS, Bad, Remains, Row, octets_of
 from services import free_port
 
 LINES = ROWS / "lines"
 SECONDS = 30
 BAD = 2
+# The line that says which sources the program was built from.
+SOURCES = re.search(r'"(sources \w+)"', (ROOT / "crates/oftp_station/src/sources.rt").read_text(encoding="utf-8"))[1]
 DATABASE = ("db", "db-wal")
 # What a station that keeps the database open has in its folder, and the commands that ask it.
 HELD = {*DATABASE, "db-station"}
-ASKING = ("init", "submit", "offer", "release", "refuse", "fetch", "collect", "report", "backup", "call")
+ASKING = ("init", "submit", "offer", "release", "refuse", "fetch", "collect", "report", "backup", "call", "resend")
 # The words before a text that is taken literally.
 TEXTS = ("line", "bad", "out", "err")
 
@@ -55,6 +58,8 @@ class Given:
             self.most = int(rest[0])
         elif first in ("out", "err"):
             setattr(self, first, f"{getattr(self, first)}{text}\n")
+        elif first == "sources":
+            self.out += f"{SOURCES}\n"
         elif first == "help" and rest:
             self.err = (LINES / f"help_of_{rest[0]}.txt").read_text(encoding="utf-8")
         elif first == "help":

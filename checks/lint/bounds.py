@@ -125,7 +125,7 @@ BOUNDS = [
     ("docs/COMMANDS.md", rf"A command has {N} seconds to send its request, and {N}\s+seconds without progress", (LIMITS["ASKING"], LIMITS["ASKING"])),
     ("docs/COMMANDS.md", rf"one for each {N} octets", (LIMITS["SHARE"],)),
     ("docs/COMMANDS.md", rf"hears nothing more while {N} MiB", (LIMITS["BACKLOG"] // MIB,)),
-    ("docs/COMMANDS.md", rf"Where answers of {N} MiB or more wait to be taken", (LIMITS["HELD"] // MIB,)),
+    ("docs/COMMANDS.md", rf"If answers of {N} MiB or more wait to be taken", (LIMITS["HELD"] // MIB,)),
     ("docs/COMMANDS.md", rf"within {N} seconds, or within `--patience`", (DIALING,)),
     ("docs/COMMANDS.md", rf"can't begin within {N} seconds", (LIMITS["STANDING"],)),
     ("docs/COMMANDS.md", rf"\(`--sessions`, `--requests`\) is 1 by default, and {N}\s+at most", (CALLERS,)),
@@ -172,7 +172,7 @@ def number(told):
 def main():
     failed = 0
     for name, pattern, wanted in BOUNDS:
-        text = (ROOT / name).read_text(encoding="utf-8")
+        text = " ".join((ROOT / name).read_text(encoding="utf-8").split())
         found = [tuple(number(it) for it in match.groups()) for match in re.finditer(pattern, text)]
         if not found or any(it != wanted for it in found):
             failed += 1

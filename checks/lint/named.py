@@ -6,7 +6,7 @@
 - Each relative link leads to a file, and to a heading of it if it names one.
 - Each path below crates/, checks/, rows/, examples/ and docs/ exists, also if `crates/` is left out before a crate's folder. So does each
   source or script that is named without its folder. Words in capitals are placeholders in a path, and `*` is anything.
-- Each word `oftp_..` is a crate, or the program.
+- Each word `oftp_..` is a crate, the program, or a metric that it tells.
 - In a table with a column `File` and a column `Function`, the file of each line has that function, or each of several with commas between
   them. Names that are followed by a file, in brackets or after a comma, occur in it.
 - Each name in code type with an underscore, `::` or a capital letter occurs in a file that isn't a document.
@@ -108,7 +108,8 @@ def lost_paths(text):
 
 
 def lost_crates(text):
-    crates = {it.name for it in (ROOT / "crates").iterdir()} | PROGRAMS
+    told = (ROOT / "crates/oftp_status/src/prometheus.rt").read_text(encoding="utf-8")
+    crates = {it.name for it in (ROOT / "crates").iterdir()} | PROGRAMS | set(re.findall(r"# TYPE (oftp_\w+)", told))
     for name in CRATE.findall(text):
         yield name, name in crates or name.endswith("_")
 

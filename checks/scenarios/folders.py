@@ -212,6 +212,11 @@ def two_stations_that_collect(room):
     expect(within(room / "in"), kept, "the files")
 
 
+def left_of(names):
+    """The lines of files that `offer` leaves, since their names are no dataset names."""
+    return "".join(f"left: {name}: no dataset name\n" for name in sorted(names))
+
+
 def subfolder_of_another(room):
     """A subfolder that is a link, or another user's, is a fault, and nothing is taken."""
     kinds = ["a link", "a pipe", "a file"] + (["another user's"] if os.geteuid() == 0 else [])
@@ -232,7 +237,8 @@ def subfolder_of_another(room):
                 place.mkdir()
                 os.chown(place, USER, USER)
             told = run(here / "database", "offer", "--to", CARMAKER, "--from", folder)
-            expect(told, (1, "", "fault: 7 file\n"), f"offer where {name} is {kind}")
+            left = left_of([name]) if kind == "a file" else ""
+            expect(told, (1, left, "fault: 7 file\n"), f"offer where {name} is {kind}")
             expect((folder / "INV.0").exists(), True, f"whether the file is there where {name} is {kind}")
             expect(contents_sent(here / "database"), [], f"what is handed in where {name} is {kind}")
 
@@ -383,7 +389,8 @@ def folder_of_others(room):
     (folder / "INV.1").write_bytes(b"OFFERED")
     expect(run(database, "collect", "--to", folder, "--release")[0], 0, "collect")
     status, out, err = run(database, "offer", "--to", CARMAKER, "--from", folder)
-    expect((status, out, err), (0, "done: offer 1 INV.1\n", ""), "offer")
+    others = [*wanted, *(f"other_{number}" for number in range(FILES_OF_OTHERS))]
+    expect((status, out, err), (0, left_of(others) + "done: offer 1 INV.1\n", ""), "offer")
     expect(all((folder / name).read_bytes() == octets for name, octets in wanted.items()), True, "whether the files are there")
     expect(len(os.listdir(folder)), FILES_OF_OTHERS + 1 + 3 + 3, "how many names the folder has")
     expect(contents_sent(database), [b"OFFERED"], "what is handed in")
@@ -398,7 +405,8 @@ def folder_that_a_reader_locks(room):
         fcntl.flock(file, fcntl.LOCK_EX)
     name = next(iter(wanted))
     expect(run(database, "collect", "--to", folder, "--release"), (0, f"done: collect 1 {name}\n", ""), "collect")
-    expect(run(database, "offer", "--to", CARMAKER, "--from", folder), (0, "done: offer 1 INV.0\n", ""), "offer")
+    told = run(database, "offer", "--to", CARMAKER, "--from", folder)
+    expect(told, (0, left_of([name]) + "done: offer 1 INV.0\n", ""), "offer")
     expect((contents_sent(database), issued(database)), (octets, [1]), "what is handed in and released")
     for file in held:
         os.close(file)

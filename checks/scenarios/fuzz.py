@@ -17,7 +17,7 @@ There are three kinds of lives. In the first one the octets are given to `feed` 
 In the second one the book is that of services that run from life to life: partners call that `listen` over a socket, and that `http` gets a
 request between two acts.
 
-The third one is lived by one `run`, from its first act to its last. Partners call it, and it is asked to call them. The octets come in pieces.
+The third one is lived by one `run`, from its first act to its last. Partners call it, and it is asked to call them, and to read another book. The octets come in pieces.
 Between two pieces reports, fetches and requests have to show what the model has at that moment: once the station has said all that it has
 to, and also before, where it may be any of several. Orders (submissions, releases and refusals) have to wait for the session's end, and to be
 done then, in their order, unless the command is gone. An order beside a caller who isn't let in yet is done at once. Some sessions are cut
@@ -225,6 +225,10 @@ class Life:
     def change_book(self):
         self.take_book(draw_book(self.chance))
 
+    def calling_book(self):
+        """The book by which partners are called."""
+        return self.book
+
     def look_up_between(self):
         """What is asked between two acts beside them."""
 
@@ -253,8 +257,8 @@ class Life:
         """Whom the station calls, as it does in a share of the sessions; the book; and the octets of the partner."""
         chance = self.chance
         code = chance.choice([*PARTNERS] + [*PARTNERS][:1] * 4)
-        called = code if code in self.book["partners"] and chance.random() < share else None
-        book = self.book if called else self.served
+        called = code if code in self.calling_book()["partners"] and chance.random() < share else None
+        book = self.calling_book() if called else self.served
         partner = Partner(chance, model.Session(book, self.register.copied(), called), code, PARTNERS)
         frames = [oftp.frame(command) for command in partner.talk()]
         for _ in range(chance.choice([0, 0, 0, 0, 0, 1, 1, 3])):
@@ -446,7 +450,7 @@ class ResidentLife(Life):
             self.address = f"127.0.0.1:{self.post.getsockname()[1]}"
             self.take_book(draw_book(self.chance))
             book = self.room / "served"
-            book.write_text(model.text_of(self.served))
+            book.write_text(model.text_of(self.served, self.address))
             words = ["--http-port", str(self.requests)]
             self.station = stack.enter_context(StayingStation(self.room, self.have_tasks_done, *words, book=book, port=port))
             self.station.begin()
@@ -457,10 +461,18 @@ class ResidentLife(Life):
             self.look_up_without()
 
     def change_book(self):
-        """The operator takes another one, and calls by it. The station serves callers by the one that it read first."""
+        """The operator takes another one. The station may read it too; if not, it calls and serves callers by the one that it has."""
         served = self.served
         super().change_book()
-        self.served = served
+        if self.chance.random() < 0.5:
+            self.served = served
+            return
+        (self.room / "served").write_text(model.text_of(self.served, self.address))
+        self.told.append("    which the station reads")
+        expect(self.give("reload", "--db", "database").stdout, b"done: reload\n", "reload")
+
+    def calling_book(self):
+        return self.served
 
     def have_tasks_done(self, station):
         """What changes nothing: a session, and a request."""

@@ -11,8 +11,8 @@ it is installed again, removed and purged: the data stay, unless whoever is aske
 Shows: the package of packaging/: the same octets twice; its files, modes, fields and units; a page for each command with its options, printed
 without a warning; completions of each command and option in bash; that without `--unproved` it is built from the program alone that was proved from
 these sources; what lintian says, where it is installed. Where debootstrap makes a Debian in a folder, it is installed there, the first day is typed
-as its user, zsh completes, and it is installed again, removed and purged: the data stay, unless the question of the purge is answered by yes. That
-its scripts start and stop services of a systemd that runs is shown by nothing here
+as its user, zsh completes, and it is installed again, removed and purged: the data stay, unless the question of the purge is answered by yes. Its
+units are started by booted.py
 """
 
 import argparse
@@ -31,12 +31,13 @@ from pathlib import Path
 
 sys.path.insert(0, str(Path(__file__).resolve().parents[1] / "lib"))
 
+from guest import DATA, Package, built, made_folder
 from program import PROGRAM, ROOT
 from services import LONG, NotTried, Wrong, expect
-from typist import Typist, blocks_below, typed
+from typist import blocks_below, typed
 
-BUILD = ROOT / "packaging/build"
 SERVICE = ROOT / "examples/service"
+MONITORING = ROOT / "examples/monitoring"
 TUTORIAL = ROOT / "docs/tutorials/first-delivery.md"
 PLACES = {".service": "usr/lib/systemd/system", ".timer": "usr/lib/systemd/system", ".path": "usr/lib/systemd/system"}
 DOCUMENTS = "usr/share/doc/oftp-station"
@@ -44,8 +45,6 @@ USAGE = re.compile(r"^  oftp_station (\w+)(.*)$", re.M)
 OPTION = re.compile(r"--[a-z][a-z-]*")
 # What the folder needs beside a least Debian: what makes the user and the folders, and a shell whose completions are tried.
 WANTED = ["systemd-standalone-sysusers", "systemd-standalone-tmpfiles", "zsh"]
-# The folders that a purge asks about.
-DATA = ["var/lib/oftp", "var/backups/oftp", "etc/oftp"]
 QUESTION = "INPUT high oftp-station/remove_data"
 # What has zsh say in a file that its prompt is there, complete a line by the tabulator, and write there what the line is then.
 ZSH = """autoload -U compinit; compinit -u
@@ -77,39 +76,6 @@ def options_of(name):
     return set(OPTION.findall(said(name, "--help")))
 
 
-def built(to, *words, root=ROOT, **how):
-    """Builds the package, and returns its path."""
-    environment = {**os.environ, "OFTP_STATION": str(PROGRAM)}
-    given = [root / "packaging/build", "--to", to, *words]
-    done = subprocess.run(given, env=environment, capture_output=True, text=True, timeout=600, check=False, **how)
-    if done.returncode:
-        raise Wrong(f"packaging/build {' '.join(words)}: {done.stderr}")
-    return Path(done.stdout.splitlines()[-1])
-
-
-class Package:
-    """The package, and its files in a folder."""
-
-    def __init__(self, room):
-        self.room = room
-        self.path = built(room, "--unproved")
-        self.tree = room / "tree"
-        subprocess.run(["dpkg-deb", "--raw-extract", self.path, self.tree], check=True, timeout=LONG)
-
-    def files(self):
-        """The paths of its files, without those that dpkg reads."""
-        return {str(it.relative_to(self.tree)) for it in self.tree.rglob("*") if it.is_file() and "DEBIAN" not in it.relative_to(self.tree).parts}
-
-    def text(self, name):
-        return (self.tree / name).read_text(encoding="utf-8")
-
-    def fields(self):
-        return dict(re.findall(r"^(\S+): (.*)$", self.text("DEBIAN/control"), re.M))
-
-    def units(self):
-        return [it for it in (self.tree / "usr/lib/systemd/system").iterdir()]
-
-
 def is_the_same_twice(package):
     """The same program and sources give the same octets."""
     again = built(package.room / "again", "--unproved")
@@ -128,6 +94,7 @@ def has_its_files(package):
     wanted |= {f"{DOCUMENTS}/{name}" for name in ("README.md", "SECURITY.md", "copyright", "changelog.gz")}
     wanted |= {f"{DOCUMENTS}/docs/{it.relative_to(ROOT / 'docs')}" for it in (ROOT / "docs").rglob("*.*")}
     wanted |= {f"{DOCUMENTS}/examples/service/{name}" for name in ("book.toml", "stunnel.conf", "logrotate.conf")}
+    wanted |= {f"{DOCUMENTS}/examples/monitoring/{it.name}" for it in MONITORING.iterdir()}
     expect((package.files() - wanted, wanted - package.files()), (set(), set()), "files that it has beside them, and that it lacks")
     expect((package.tree / "usr/bin/oftp_station").read_bytes() == PROGRAM.read_bytes(), True, "whether the program is that which was tried")
 
@@ -166,7 +133,7 @@ def has_its_units(package):
     for unit in package.units():
         text = unit.read_text(encoding="utf-8")
         expect(re.findall(r"/usr/local\S*|/etc/systemd\S*", text), [], f"places of {unit.name} that the package doesn't have")
-        programs = re.findall(r"^ExecStart=/(\S+)", text, re.M)
+        programs = re.findall(r"^ExecStart=.*?/(usr/bin/oftp[\w-]*)", text, re.M)
         expect([it for it in programs if it not in package.files()], [], f"programs of {unit.name} that the package doesn't have")
         expect(bool(programs), unit.suffix == ".service", f"whether {unit.name} starts a program")
         pages = [f"usr/share/man/man{number}/{name}.{number}.gz" for name, number in re.findall(r"^Documentation=man:(\S+)\((\d)\)$", text, re.M)]
@@ -220,7 +187,7 @@ def completes_in_bash(package):
     for name in commands():
         expect(completed(package, name, "--"), options_of(name), f"the options of {name}")
     for words, wanted in (
-        (("re",), {"release", "refuse", "report"}),
+        (("re",), {"release", "refuse", "reload", "report", "resend"}),
         (("submit", "--format", ""), {"F", "V", "U", "T"}),
         (("feed", "--role", "r"), {"responder"}),
         (("report", "--db", "database", ""), {"in", "out", "issued", "received"}),
@@ -280,74 +247,9 @@ def pleases_lintian(package):
     expect((done.returncode, done.stdout + done.stderr), (0, ""), "what lintian says")
 
 
-class Guest(Typist):
-    """A Debian in a folder, in which the package is installed. What is typed is the station's user's, in a folder `day` within its own."""
-
-    def __init__(self, root):
-        self.root, self.path = root, root / "var/lib/oftp/day"
-        self.ports, self.services = {}, []
-        self.environment = {"PATH": "/usr/sbin:/usr/bin:/sbin:/bin", "LC_ALL": "C.UTF-8", "DEBIAN_FRONTEND": "noninteractive", "TERM": "dumb"}
-
-    def __enter__(self):
-        self.give("install", "-d", "-o", "oftp", "-g", "oftp", "/var/lib/oftp/day")
-        return self
-
-    def within(self, *words, user="root"):
-        """The words that run a command there, with its own /proc, which is gone with it."""
-        script = 'mount -t proc proc "$1/proc" && exec chroot --userspec="$0" "$@"'
-        return ["unshare", "--mount", "--propagation", "private", "bash", "-c", script, f"{user}:{user}", self.root, *words]
-
-    def words(self, command):
-        return self.within("bash", "-c", f"cd /var/lib/oftp/day || exit\n{command}", user="oftp")
-
-    def try_(self, *words, user="root", stdin="", **more):
-        """Runs a command there, and returns its status and both outputs."""
-        how = {"env": {**self.environment, **more}, "input": stdin, "capture_output": True, "text": True, "timeout": 600, "check": False}
-        done = subprocess.run(self.within(*words, user=user), **how)
-        return done.returncode, done.stdout, done.stderr
-
-    def give(self, *words, **how):
-        """The same for a command that has to end well. It returns what it printed."""
-        status, out, err = self.try_(*words, **how)
-        expect(status, 0, f"{words}, which said {out}{err}")
-        return out + err
-
-    def is_there(self, *names):
-        return [(self.root / name).exists() for name in names]
-
-    def install(self, package):
-        shutil.copy(package.path, self.root / "package.deb")
-        return self.give("dpkg", "--install", "/package.deb")
-
-    def data(self):
-        """The contents of all files in the folders of the data, by their paths."""
-        files = [it for name in DATA for it in (self.root / name).rglob("*") if it.is_file()]
-        return {str(it): it.read_bytes() for it in files}
-
-
-def made_folder(room):
-    """A least Debian in a folder."""
-    if os.geteuid() != 0:
-        raise NotTried("the superuser: the package in a folder of its own")
-    if not shutil.which("debootstrap"):
-        raise NotTried("debootstrap: the package in a folder of its own")
-    release = dict(re.findall(r"^(\w+)=\"?([^\"\n]*)", Path("/etc/os-release").read_text(encoding="utf-8"), re.M))
-    suite = release["VERSION_CODENAME"] if release.get("ID") == "debian" else "stable"
-    root = room / "debian"
-    words = ["debootstrap", "--variant=minbase", f"--include={','.join(WANTED)}", suite, root]
-    done = subprocess.run(words, capture_output=True, text=True, timeout=1200, check=False)
-    if done.returncode:
-        last = (done.stdout + done.stderr).splitlines()[-1:]
-        raise NotTried(f"a Debian that debootstrap can make: the package in a folder of its own ({' '.join(last)})")
-    guest = Guest(root)
-    if guest.try_("true")[0]:
-        raise NotTried("a mount namespace: the package in a folder of its own")
-    return guest
-
-
 def is_installed(package):
     """It is installed, used, installed again, removed and purged, and the data go only where that is said."""
-    guest = made_folder(package.room)
+    guest = made_folder(package.room, WANTED)
     guest.install(package)
     makes_user_and_folders(guest)
     first_day_goes_as_shown(guest)

@@ -704,6 +704,9 @@ def filter_is_kept(browser, _picture):
         named = [it.file["no"] for it in found["out"] if it.partner == partner and it.file["dataset"].startswith("DISPATCH.1")]
         expect(numbers_of(tab), named, "files of a partner and a name")
         set_value(tab, "partner", "")
+        set_value(tab, "name", "Week 5")
+        about = [it.file["no"] for it in found["out"] if "week 5" in it.file["description"]]
+        expect((numbers_of(tab), bool(about)), (about, True), "files of a description")
         set_value(tab, "name", "")
         for state in page_lists.STATES["out"]:
             set_value(tab, "state", state)

@@ -184,8 +184,10 @@ def two_at_once(room):
     site = Site(room, [GOOD, BAD], WORKS)
     with started(site) as first:
         until_there(room / "begun")
+        begin = time.monotonic()
         status, out, err = site.process()
         expect((status, out, "another one is at work" in err), (1, "", True), f"the second, which told {err!r}")
+        expect(time.monotonic() - begin >= 9, True, "whether the second has waited for ten seconds")
         with started(site) as third:
             time.sleep(0.5)
             expect(third.poll(), None, "whether the third waits")

@@ -610,9 +610,7 @@ def outgoing_files_within_a_session(room):
 def what_waits_for_the_end(room):
     """What refuses a file, copies the database or calls waits for the end of a session too."""
     copy = room / "copy"
-    with socket.create_server(("127.0.0.1", 0)) as partner, Resident(room) as service, service.caller() as caller:
-        partner.settimeout(LONG)
-        book = book_with(room, f"127.0.0.1:{partner.getsockname()[1]}")
+    with calling(room) as (partner, service, book), service.caller() as caller:
         play(service, ONE_OCTET)
         caller.sendall(SSID)
         heard(caller, OPENED)
@@ -647,12 +645,15 @@ def many_changes_behind_a_session(room):
 
 def called_one_after_another(room):
     """A partner is connected only once the session of the call before is over, however many are to be called."""
-    with contextlib.ExitStack() as stack, Resident(room) as service:
-        partners = [stack.enter_context(socket.create_server(("127.0.0.1", 0))) for _ in range(3)]
-        asked = []
-        for partner in partners:
-            book = book_with(room, f"127.0.0.1:{partner.getsockname()[1]}")
-            asked.append(stack.enter_context(service.asked("call", CARMAKER, book=book.read_bytes())))
+    codes = [CARMAKER, "O0188CARMAKER", "O0199CARMAKER"]
+    own, first = BOOK.read_text().split("[[partner]]")
+    with contextlib.ExitStack() as stack:
+        partners = [stack.enter_context(socket.create_server(("127.0.0.1", 0))) for _ in codes]
+        book = room / "book"
+        texts = [first.replace(CARMAKER, code).replace("3305", str(it.getsockname()[1])) for code, it in zip(codes, partners)]
+        book.write_text("[[partner]]".join([own, *texts]))
+        service = stack.enter_context(Resident(room, book=book))
+        asked = [stack.enter_context(service.asked("call", code)) for code in codes]
         for number, partner in enumerate(partners):
             partner.settimeout(LONG)
             called = stack.enter_context(partner.accept()[0])
@@ -949,6 +950,16 @@ def book_with(room, address):
     return book
 
 
+@contextlib.contextmanager
+def calling(room, *words, host="127.0.0.1"):
+    """Who is called, and a station with a book that has the address."""
+    with socket.create_server(("127.0.0.1", 0)) as partner:
+        partner.settimeout(LONG)
+        book = book_with(room, f"{host}:{partner.getsockname()[1]}")
+        with Resident(room, *words, book=book) as service:
+            yield partner, service, book
+
+
 def call(service, book, *words, partner=CARMAKER):
     words = [PROGRAM, "call", "--db", service.database, "--book", book, "--partner", partner, *words]
     return subprocess.Popen(words, stdout=subprocess.PIPE, stderr=subprocess.PIPE)
@@ -966,14 +977,13 @@ def calls(room):
     """`call` has the station call: a partner who is there, one who leaves, one who is silent, and nobody."""
     session = session_of("calling/initiator_alone")
     trace = room / "trace"
-    with socket.create_server(("127.0.0.1", 0)) as partner, Resident(room) as service:
-        partner.settimeout(LONG)
-        book = book_with(room, f"localhost:{partner.getsockname()[1]}")
+    with calling(room, host="localhost") as (partner, service, book):
         with call(service, book, "--trace", trace) as program:
             converse(partner.accept()[0], session)
             expect(told(program), (0, session.end[1].encode(), b""), "the call")
         expect(service.line() + "\n", f"session {CARMAKER} out: {session.end[1]}", "the line")
-        told_of = [line.split(" ", 1)[1] for line in trace.read_text().splitlines()]
+        # Of a command what it says in words, without its fields.
+        told_of = [re.sub("^([<>][^:]*):.*", r"\1", line.split(" ", 1)[1]) for line in trace.read_text().splitlines()]
         wanted = {"< SSRM", "> SSID from O0013SUPPLIER", session.end[1].strip()}
         expect((told_of[:1], told_of[-1:], wanted - set(told_of)), (["< SSRM"], [session.end[1].strip()], set()), "the trace")
         with call(service, book) as program:
@@ -983,7 +993,7 @@ def calls(room):
         with call(service, book, "--patience", "1") as program, partner.accept()[0]:
             expect(told(program), (1, b"", b"fault: 1 read\n"), "the call of a silent partner")
         expect(service.line(), f"session {CARMAKER} out: fault: 1 read", "the line")
-    with Resident(room) as service:
+    with Resident(room, book=book) as service:
         with call(service, book) as program:
             expect(told(program), (1, b"", b"fault: 8 socket\n"), "the call of nobody")
         expect(service.line(), f"session {CARMAKER} out: fault: 8 socket", "the line")
@@ -998,16 +1008,17 @@ def call_of_ipv6(room):
     """A partner whose address is one of IPv6 is called there."""
     port = port_of_ipv6("a call of a partner")
     session = session_of("calling/initiator_alone")
-    with socket.create_server(("::1", port), family=socket.AF_INET6) as partner, Resident(room) as service:
+    book = book_with(room, f"[::1]:{port}")
+    with socket.create_server(("::1", port), family=socket.AF_INET6) as partner, Resident(room, book=book) as service:
         partner.settimeout(LONG)
-        with call(service, book_with(room, f"[::1]:{port}")) as program:
+        with call(service, book) as program:
             converse(partner.accept()[0], session)
             expect(told(program), (0, session.end[1].encode(), b""), "the call")
         expect(service.line() + "\n", f"session {CARMAKER} out: {session.end[1]}", "the line")
 
 
 def book_of_a_call(room):
-    """`call` reads the book itself, and a station at its start: a change holds for the partner's calls only once the station is started again."""
+    """`call` uses the book of the station: a change holds, for calls of either side, once the station has read its book again."""
     port, book, theirs, folder = free_port(), room / "book", room / "theirs", room / "partner"
     folder.mkdir()
     theirs.write_text((ROOT / "examples/carmaker/book.toml").read_text().replace("127.0.0.1:3306", f"127.0.0.1:{port}"))
@@ -1019,12 +1030,15 @@ def book_of_a_call(room):
         with Resident(room, book=book, port=port) as service:
             book.write_text(right)
             with call(service, book) as program:
-                expect(told(program), (0, b"end: partner 00\n", b""), "the call by the new book")
-            expect(service.line(), f"session {CARMAKER} out: end: partner 00", "its line")
+                expect(told(program), (0, b"end: own 04\n", b""), "the call by the old book")
+            expect(service.line(), f"session {CARMAKER} out: end: own 04", "its line")
             done = subprocess.run(back, capture_output=True, timeout=LONG, check=False)
             expect((done.returncode, done.stdout), (0, b"end: partner 04\n"), "the partner's call, by the old book")
             expect(service.line(), "session - in: end: own 04", "its line")
-        with Resident(room, book=book, port=port) as service:
+            expect(given(service, "reload"), (0, b"done: reload\n", b""), "reload")
+            with call(service, book) as program:
+                expect(told(program), (0, b"end: partner 00\n", b""), "the call by the new book")
+            expect(service.line(), f"session {CARMAKER} out: end: partner 00", "its line")
             done = subprocess.run(back, capture_output=True, timeout=LONG, check=False)
             expect((done.returncode, done.stdout), (0, b"end: partner 00\n"), "the partner's call by the new book")
             expect(service.line(), f"session {CARMAKER} in: end: own 00", "its line")
@@ -1033,9 +1047,7 @@ def book_of_a_call(room):
 def traced(room):
     """The trace has each session with its end: of a partner, of one who isn't let in, and of one who is called. It has no password."""
     trace, session = room / "trace", session_of("calling/initiator_alone")
-    with socket.create_server(("127.0.0.1", 0)) as partner, Resident(room, "--trace", trace) as service:
-        partner.settimeout(LONG)
-        book = book_with(room, f"127.0.0.1:{partner.getsockname()[1]}")
+    with calling(room, "--trace", trace) as (partner, service, book):
         play(service, ONE_OCTET)
         play(service, WRONG, "-")
         with call(service, book) as program:
@@ -1051,9 +1063,7 @@ def traced(room):
 def call_that_is_a_job(room):
     """A session with a partner who is called is a job, as one with a caller is."""
     session = session_of("calling/initiator_alone")
-    with socket.create_server(("127.0.0.1", 0)) as partner, Resident(room, "--jobs", "2") as service:
-        partner.settimeout(LONG)
-        book = book_with(room, f"127.0.0.1:{partner.getsockname()[1]}")
+    with calling(room, "--jobs", "2") as (partner, service, book):
         for number in range(2):
             expect(service.program.poll(), None, f"whether it ended after {number} jobs")
             with call(service, book) as program:
@@ -1065,12 +1075,14 @@ def call_that_is_a_job(room):
 
 def partner_who_does_not_answer(room):
     """Connecting to a partner whose machine doesn't answer delays nobody."""
-    with socket.socket() as partner, socket.socket() as other, Resident(room) as service:
+    with contextlib.ExitStack() as stack:
+        partner, other = (stack.enter_context(socket.socket()) for _ in range(2))
         partner.bind(("127.0.0.1", 0))
         # With one who waits to be accepted the queue is full, and whoever comes next isn't answered.
         partner.listen(0)
         other.connect(partner.getsockname())
         book = book_with(room, f"127.0.0.1:{partner.getsockname()[1]}")
+        service = stack.enter_context(Resident(room, book=book))
         begin = time.monotonic()
         with call(service, book, "--patience", str(PATIENT)) as program:
             time.sleep(0.5)
@@ -1235,9 +1247,10 @@ def two_whose_clocks_meet(room):
 def callers_who_stop_no_call(room):
     """Callers who aren't let in, or have left, don't have a call given up whose partner doesn't answer yet."""
     session = session_of("calling/initiator_alone")
-    with socket.create_server(("127.0.0.1", 0)) as partner, Resident(room) as service, contextlib.ExitStack() as stack:
+    with socket.create_server(("127.0.0.1", 0)) as partner, contextlib.ExitStack() as stack:
         partner.settimeout(LONG)
         book = book_with(room, f"127.0.0.1:{partner.getsockname()[1]}")
+        service = stack.enter_context(Resident(room, book=book))
         program = stack.enter_context(call(service, book))
         called = partner.accept()[0]
         for said in (b"", WRONG.joined("in"), SSID[:10]):
@@ -1299,7 +1312,8 @@ def partner_of_a_lesser_code_who_calls(room):
 
 
 def clock(room):
-    """The station calls a partner by itself once something waits for it, and not before, and tries one that isn't there at the next turn alone."""
+    """The station calls a partner by itself once something waits for it, and not before. It waits twice as long behind each call of one that isn't
+    there."""
     file = room / "file"
     file.write_bytes(b"ABC")
     with socket.create_server(("127.0.0.1", 0)) as partner:
@@ -1319,8 +1333,9 @@ def clock(room):
             expect(service.line(), f"session {CARMAKER} out: end: input", "the line")
             for _ in range(3):
                 expect(service.line(), f"session {CARMAKER} out: fault: 8 socket", "the line")
-            if time.monotonic() - begin < 2:
-                raise Wrong("it called three times within two seconds")
+            # The calls come after 2, 4 and 8 seconds.
+            if time.monotonic() - begin < 10:
+                raise Wrong("it called three times within ten seconds")
 
 
 def greet_and_leave(connection, *frames):
@@ -1687,9 +1702,10 @@ def commands_that_are_interrupted(room):
 
 def killed_within_a_command(room):
     """A command whose station is killed within it says so, and doesn't say that anything is done."""
-    with socket.create_server(("127.0.0.1", 0)) as partner, Resident(room) as service:
+    with socket.create_server(("127.0.0.1", 0)) as partner:
         partner.settimeout(LONG)
-        with call(service, book_with(room, f"127.0.0.1:{partner.getsockname()[1]}")) as program, partner.accept()[0]:
+        book = book_with(room, f"127.0.0.1:{partner.getsockname()[1]}")
+        with Resident(room, book=book) as service, call(service, book) as program, partner.accept()[0]:
             service.program.kill()
             expect(told(program), (1, b"", b"fault: 3 office\n"), "the call")
 

@@ -1,11 +1,11 @@
 #!/bin/bash
 # Checks the units of examples/service by systemd-analyze, if that is installed: systemd reads them, each service's exposure is below 3, and the name
-# of a unit for a partner gives back the partner's code. The options that are shown for the station's unit are options of `run`. The last line is
-# `N passed, M failed`.
-# No unit is started: docs/DECISIONS.md says why.
+# of a unit for a partner gives back the partner's code. The options that are shown for the station's unit are options of `run`, and the unit of a
+# call has `--fail`. The last line is `N passed, M failed`.
+# They are started by booted.py.
 #
 # Shows: the units of examples/service as systemd reads them, where it is installed, the exposure of each service, which is below 3, the options that
-# are shown for the station's unit, and the names of units for codes that have to be escaped: none is started
+# are shown for the station's unit, `--fail` in that of a call, and the names of units for codes that have to be escaped
 set -euo pipefail
 root=$(cd "$(dirname "$0")/../.." && pwd)
 service=$root/examples/service
@@ -64,6 +64,11 @@ passes_options() {
     [ "$count" -ge 3 ]
 }
 
+# The unit of a call fails where its session ends otherwise than by 00.
+fails_with_its_session() {
+    grep -q '^ExecStart=.* call .* --fail\( \|$\)' "$service/oftp-call@.service"
+}
+
 # The command that the comment of a unit for partners gives for a code names an instance of it, whose %I is that code, and the service passes %I on.
 leads_to_partner() {
     local name=$1 kind=$2 code=$3 command unit
@@ -80,6 +85,7 @@ if command -v systemd-analyze > /dev/null; then
         if [ "${unit##*.}" = service ]; then count is_confined "${unit##*/}"; fi
     done
     count passes_options
+    count fails_with_its_session
     for code in O0177CARMAKER O0177-CAR 'O0013/VAN' 'O.13-(A&B)/C'; do
         count leads_to_partner oftp-call timer "$code"
         count leads_to_partner oftp-process path "$code"

@@ -290,8 +290,13 @@ def kinds_of(octets):
     return [oftp.read(frame[4:])[0] for frame in oftp.frames_of(octets)]
 
 
+def summed(kinds):
+    """Kinds of commands of one side, where DATA that follow another one are left out."""
+    return [kind for before, kind in zip([None, *kinds], kinds) if (before, kind) != ("DATA", "DATA")]
+
+
 def traced(room):
-    """A trace has a line for each command of both directions and one for the end, with the time, but no password."""
+    """A trace has a line for each command of both directions and one for the end, with the time, but no password. DATA are summed up."""
     trace = room / "trace"
     rows = ["receiving/file_in_one_session", "opening/wrong_password"]
     with Service(room, "listen", "--sessions", "3", "--trace", trace) as service:
@@ -305,14 +310,14 @@ def traced(room):
     told = trace.read_text()
     if re.search("PW|PASS", told):
         raise Wrong("a password is in the trace")
-    lines = [re.fullmatch(r"20\d\d-\d\d-\d\dT\d\d:\d\d:\d\d(?:\.\d+)?Z (?:([<>]) )?(.*)", line) for line in told.splitlines()]
+    lines = [re.fullmatch(r"20\d\d-\d\d-\d\dT\d\d:\d\d:\d\d\.\d{6}Z (?:([<>]) )?(.*)", line) for line in told.splitlines()]
     sessions = "\n".join(f"{line[1]} {line[2]}" for line in lines).split("\nNone end: ")
     expect(len(sessions), 4, "how many sessions are traced")
     for row, session in zip(rows, sessions):
         steps, _ = steps_of(row)
         for mark, side in ("<", "in"), (">", "out"):
-            found = [line.split()[1].rstrip(",") for line in session.splitlines() if line.startswith(mark)]
-            expect(found, kinds_of(b"".join(octets for way, octets in steps if way == side)), f"{row}: {side}")
+            found = [line.split()[1].rstrip(",:") for line in session.splitlines() if line.startswith(mark)]
+            expect(summed(found), summed(kinds_of(b"".join(octets for way, octets in steps if way == side))), f"{row}: {side}")
     expect("< fault at octet 0: no stream header begins so" in sessions[2], True, "the fault is told")
 
 

@@ -374,7 +374,7 @@ def traced(room):
         wanted += [f"{'<' if side == 'in' else '>'} {oftp.read(octets[4:])[0]}" for side, octets in session.steps]
         wanted.append(session.end[1].strip())
     lines = [line.split(" ", 1)[1] for line in trace.read_text().splitlines()]
-    found = [" ".join(line.split()[:2]).rstrip(",") if line[0] in "<>" else line for line in lines]
+    found = [" ".join(line.split()[:2]).rstrip(",:") if line[0] in "<>" else line for line in lines]
     expect(found, [*wanted, "> SSRM", SILENCE], "the trace")
 
 

@@ -139,19 +139,25 @@ def readers(crowd):
         client.sendall(b"GET / HTTP/1.1\r\n\r\n")
 
 
-def calls(crowd):
-    """Ten partners at a machine that doesn't answer: with one who waits to be accepted its queue is full."""
-    machine, other = crowd.keep(socket.socket()), crowd.keep(socket.socket())
+CODES = [f"O0177CALLED{number}" for number in range(CALLED)]
+
+
+def book_of_calls(room, stack):
+    """A book with ten partners more, at a machine that doesn't answer: with one who waits to be accepted its queue is full."""
+    machine, other = stack.enter_context(socket.socket()), stack.enter_context(socket.socket())
     machine.bind(("127.0.0.1", 0))
     machine.listen(0)
     other.connect(machine.getsockname())
-    text = (row_files.ROWS / "books/usual.toml").read_text(encoding="utf-8")
-    own = text[: text.index("[[partner]]")]
     address = f"127.0.0.1:{machine.getsockname()[1]}"
-    codes = [f"O0177CALLED{number}" for number in range(CALLED)]
-    partners = [f"[[partner]]\ncode = '{code}'\nexpects = 'CARPW'\nsends = 'SUPPW'\nmode = 'B'\naddress = '{address}'\n" for code in codes]
-    for code in codes:
-        crowd.keep(crowd.service.asked("call", code, book=(own + "\n".join(partners)).encode()))
+    partners = [f"[[partner]]\ncode = '{code}'\nexpects = 'CARPW'\nsends = 'SUPPW'\nmode = 'B'\naddress = '{address}'\n" for code in CODES]
+    book = Path(room) / "book"
+    book.write_text("\n".join([(row_files.ROWS / "books/usual.toml").read_text(encoding="utf-8"), *partners]), encoding="utf-8")
+    return book
+
+
+def calls(crowd):
+    for code in CODES:
+        crowd.keep(crowd.service.asked("call", code))
 
 
 CROWDS = {
@@ -230,9 +236,10 @@ def least(act, crowd, bound):
 
 def measure(name, make, idle):
     """Does each act beside a crowd, and yields its name, its time and its bound."""
-    with tempfile.TemporaryDirectory() as room:
+    with tempfile.TemporaryDirectory() as room, contextlib.ExitStack() as machines:
         http = free_port()
-        with Resident(Path(room), "--http-port", str(http), "--admission", "120", "--patience", "120") as service:
+        book = book_of_calls(room, machines)
+        with Resident(Path(room), "--http-port", str(http), "--admission", "120", "--patience", "120", book=book) as service:
             crowd = Crowd(service, http)
             with contextlib.ExitStack() as last:
                 partner = last.enter_context(service.caller())

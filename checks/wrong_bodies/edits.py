@@ -104,8 +104,9 @@ class Function:
 
 def plain(name, parameters=()):
     """A type or a trait as rattle prints it: the last part of its path, with its type arguments after it. Theirs follow, but for parameters."""
+    name = re.sub(r"'\w+", "", name)
     name = re.sub(r"(?<=<)(.*)<(.*)>(?=>)", lambda it: it[1] + "".join(word for word in re.findall(r"\w+", it[2]) if word not in parameters), name)
-    return re.sub(r"\W", "", re.sub(r"\w+::|\bmut\b|\bdyn\b|'\w+", "", name))
+    return re.sub(r"\W", "", re.sub(r"\w+::|\bmut\b|\bdyn\b", "", name))
 
 
 def owner_of(kind, head):

@@ -66,8 +66,8 @@ LEDGER = ROOT / "checks" / "wrong_bodies" / "ledger.txt"
 PARTS = ("src", "specs", "proofs")
 # What a line of comment begins with, by the suffix of a file.
 COMMENTS = {".rt": "//", ".antt": "--"}
-# After this many processor seconds the trial of the day begins no other check.
-DAY = 300
+# After this many processor seconds the trial of the day begins no other check, and so many edits at most are in one of its checks.
+DAY, PART = 300, 12
 # What a proof reports if an edit removed a name that it cites, and what then depends on that proof.
 TAKEN_AWAY = re.compile(r"has no field|is not in scope|has no `|was not admitted|that depend on `")
 
@@ -345,9 +345,10 @@ def record(edit, words):
 
 
 def of_the_day(rounds):
-    """The rounds of the crate of the day, each of which comes first in turn."""
-    at = today().toordinal() // len(crates_with_edits()) % len(rounds)
-    return rounds[at:] + rounds[:at]
+    """The rounds of the crate of the day in parts, each of which comes first in turn: a round of a large crate takes half an hour."""
+    parts = [it[at : at + PART] for it in rounds for at in range(0, len(it), PART)]
+    at = today().toordinal() // len(crates_with_edits()) % len(parts)
+    return parts[at:] + parts[:at]
 
 
 def try_crate(crate, jobs, is_recording=False, named=(), is_of_the_day=False):

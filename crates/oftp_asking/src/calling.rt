@@ -8,35 +8,37 @@ use oftp_outcomes::{Fault, Outcome};
 use oftp_requests::{Backend, outcome_in};
 use std::io::{self, Write};
 
-/// Has the station call a partner of this book for one session. The lines of its trace are written as they come.
+/// Has the station call a partner of its book for one session. The lines of its trace are written as they come.
 ///
 /// # Errors
 /// [`Fault::File`] if the trace can't be opened; those of the session; [`Fault::Run`] if the station is gone; [`Fault::MEMORY`].
-pub fn call(
-    rt: &HostRuntime,
-    line: &Call<'_>,
-    book: &[u8],
-    station: &mut Beside<'_>,
-) -> Result<Outcome, Fault> {
+pub fn call(rt: &HostRuntime, line: &Call<'_>, station: &mut Beside<'_>) -> Result<Outcome, Fault> {
     let trace = open_trace(
         rt,
         line.terms.trace,
         &[line.files.book],
         Some(line.files.database),
     )?;
-    let mut lines = TraceLines {
-        trace: trace.as_ref(),
+    call_traced(line, trace.as_ref(), station)
+}
+
+/// Has the station call a partner, with this trace if there is one.
+fn call_traced<'t>(
+    line: &Call<'_>,
+    trace: Option<&'t Trace<'t>>,
+    station: &mut Beside<'_>,
+) -> Result<Outcome, Fault> {
+    let tracing = match trace {
+        Some(_) => Tracing::Kept,
+        None => Tracing::None,
     };
     let request = Request::Call {
-        book,
         partner: line.partner,
         patience: line.terms.patience,
         longest: line.terms.longest,
-        tracing: match &trace {
-            Some(_) => Tracing::Kept,
-            None => Tracing::None,
-        },
+        tracing,
     };
+    let mut lines = TraceLines { trace };
     let asked = station.ask(&request, &mut lines);
     outcome_in(asked)
 }

@@ -12,7 +12,7 @@ use Rattle.oftp_channel.specs.declared.codes.RequestKind.TheVariants as kinds
 -- the kinds by the octets that encode them, from 0 on; 0 encodes none
 abbrev kinds_by_code : List RequestKind
 kinds_by_code = kinds.Init ∷ kinds.Submit ∷ kinds.Release ∷ kinds.Refuse ∷ kinds.Call ∷ kinds.Report ∷ kinds.Unanswered ∷ kinds.Outgoing ∷ kinds.Fetch ∷ kinds.Holds
-    ∷ kinds.Backup ∷ kinds.Init ∷ []
+    ∷ kinds.Backup ∷ kinds.Init ∷ kinds.Stop ∷ kinds.Reload ∷ kinds.Resend ∷ kinds.Status ∷ kinds.Health ∷ kinds.Settled ∷ []
 
 kind_again : (kind : RequestKind) → get_or kinds_by_code (request_code kind) kinds.Init ≡ kind
 kind_again kinds.Submit = refl
@@ -26,6 +26,12 @@ kind_again kinds.Fetch = refl
 kind_again kinds.Holds = refl
 kind_again kinds.Backup = refl
 kind_again kinds.Init = refl
+kind_again kinds.Stop = refl
+kind_again kinds.Reload = refl
+kind_again kinds.Resend = refl
+kind_again kinds.Status = refl
+kind_again kinds.Health = refl
+kind_again kinds.Settled = refl
 
 one_kind : (kind other : RequestKind) → request_code kind ≡ request_code other → kind ≡ other
 one_kind kind other e = sym (kind_again kind) ∙ ap (λ (n : ℕ). get_or kinds_by_code n kinds.Init) e ∙ kind_again other
@@ -35,7 +41,7 @@ no_request (requests.Operate book (operator.Submit s)) is refused = refused book
     s.format s.longest is.dataset is.date is.time is.to is.description is.longest refl
 no_request (requests.Operate book (operator.Release number)) is refused = refused book.now number refl
 no_request (requests.Operate book (operator.Refuse number reason text)) is refused = refused book.now text.now number reason is refl
-no_request (requests.Call book partner patience longest tracing) is refused = refused book.now partner.now patience longest tracing is refl
+no_request (requests.Call partner patience longest tracing) is refused = refused partner.now patience longest tracing is refl
 no_request (requests.Report kind) is refused = refused kind refl
 no_request requests.Unanswered is refused = refused refl
 no_request (requests.Outgoing to) is refused = refused to.now is refl
@@ -43,6 +49,12 @@ no_request (requests.Fetch number) is refused = refused number refl
 no_request (requests.Holds number content) is refused = refused number content.now refl
 no_request requests.Backup is refused = refused refl
 no_request requests.Init is refused = refused refl
+no_request (requests.Stop haste) is refused = refused haste refl
+no_request requests.Reload is refused = refused refl
+no_request (requests.Resend book number date time) is refused = refused book.now date.now time.now number is.0 is.1 refl
+no_request (requests.Status form) is refused = refused form refl
+no_request (requests.Health warn critical) is refused = refused warn critical refl
+no_request requests.Settled is refused = refused refl
 
 pub first : {A : Type 0} (x y : A) (xs ys : List A) → x ∷ xs ≡ y ∷ ys → (x ≡ y) × (xs ≡ ys)
 first x y xs ys e = (cc, cc)

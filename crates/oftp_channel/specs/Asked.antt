@@ -10,6 +10,10 @@ use Rattle.oftp_engine.specs.declared.operating.Operator.TheVariants as operator
 use Rattle.oftp_engine.specs.declared.submitting.Submission.{Submission}
 use Rattle.oftp_listing.specs.declared.reports.ReportKind.{ReportKind}
 use Rattle.oftp_listing.specs.declared.reports.ReportKind.TheVariants as reports
+use Rattle.oftp_channel.specs.declared.asking.Form.{Form}
+use Rattle.oftp_channel.specs.declared.asking.Form.TheVariants as forms
+use Rattle.oftp_channel.specs.declared.asking.Haste.{Haste}
+use Rattle.oftp_channel.specs.declared.asking.Haste.TheVariants as hastes
 use Rattle.oftp_channel.specs.declared.asking.Request.{Request}
 use Rattle.oftp_channel.specs.declared.asking.Request.TheVariants as requests
 use Rattle.oftp_channel.specs.declared.asking.Tracing.{Tracing}
@@ -54,6 +58,12 @@ request_code kinds.Fetch = 8
 request_code kinds.Holds = 9
 request_code kinds.Backup = 10
 request_code kinds.Init = 11
+request_code kinds.Stop = 12
+request_code kinds.Reload = 13
+request_code kinds.Resend = 14
+request_code kinds.Status = 15
+request_code kinds.Health = 16
+request_code kinds.Settled = 17
 
 -- the octet that encodes a format: its letter, F, V, U or T (RFC 5024, section 5.3.3)
 abbrev pub format_code : Format → ℕ
@@ -74,6 +84,16 @@ abbrev pub tracing_code : Tracing → ℕ
 tracing_code tracings.None = 0
 tracing_code tracings.Kept = 1
 
+-- the octet that encodes when a station ends
+abbrev pub haste_code : Haste → ℕ
+haste_code hastes.InTurn = 0
+haste_code hastes.AtOnce = 1
+
+-- the octet that encodes how a station's status is told
+abbrev pub form_code : Form → ℕ
+form_code forms.Lines = 0
+form_code forms.Json = 1
+
 -- the kind of the request for an operator's call
 abbrev pub call_kind : Operator → RequestKind
 call_kind (operator.Submit submission) = kinds.Submit
@@ -82,7 +102,7 @@ call_kind (operator.Refuse number reason text) = kinds.Refuse
 
 abbrev pub request_kind : Request → RequestKind
 request_kind (requests.Operate book call) = call_kind call
-request_kind (requests.Call book partner patience longest tracing) = kinds.Call
+request_kind (requests.Call partner patience longest tracing) = kinds.Call
 request_kind (requests.Report kind) = kinds.Report
 request_kind requests.Unanswered = kinds.Unanswered
 request_kind (requests.Outgoing to) = kinds.Outgoing
@@ -90,6 +110,12 @@ request_kind (requests.Fetch number) = kinds.Fetch
 request_kind (requests.Holds number content) = kinds.Holds
 request_kind requests.Backup = kinds.Backup
 request_kind requests.Init = kinds.Init
+request_kind (requests.Stop haste) = kinds.Stop
+request_kind requests.Reload = kinds.Reload
+request_kind (requests.Resend book number date time) = kinds.Resend
+request_kind (requests.Status form) = kinds.Status
+request_kind (requests.Health warn critical) = kinds.Health
+request_kind requests.Settled = kinds.Settled
 
 -- the fields of a submission, as words
 abbrev pub submission_fields : Submission → List (List ℕ)
@@ -105,7 +131,7 @@ call_fields (operator.Refuse number reason text) = number_word number ∷ number
 -- the fields of a request, as words
 abbrev pub request_fields : Request → List (List ℕ)
 request_fields (requests.Operate book call) = book.now ∷ call_fields call
-request_fields (requests.Call book partner patience longest tracing) = book.now ∷ partner.now ∷ number_word patience ∷ number_word longest
+request_fields (requests.Call partner patience longest tracing) = partner.now ∷ number_word patience ∷ number_word longest
     ∷ octet_word (tracing_code tracing) ∷ []
 request_fields (requests.Report kind) = octet_word (report_code kind) ∷ []
 request_fields requests.Unanswered = []
@@ -114,6 +140,12 @@ request_fields (requests.Fetch number) = number_word number ∷ []
 request_fields (requests.Holds number content) = number_word number ∷ content.now ∷ []
 request_fields requests.Backup = []
 request_fields requests.Init = []
+request_fields (requests.Stop haste) = octet_word (haste_code haste) ∷ []
+request_fields requests.Reload = []
+request_fields (requests.Resend book number date time) = book.now ∷ number_word number ∷ date.now ∷ time.now ∷ []
+request_fields (requests.Status form) = octet_word (form_code form) ∷ []
+request_fields (requests.Health warn critical) = number_word warn ∷ number_word critical ∷ []
+request_fields requests.Settled = []
 
 -- the words of a request: its kind, and then its fields in their order
 abbrev pub words_of : Request → List (List ℕ)
@@ -137,7 +169,7 @@ IsCallable (operator.Refuse number reason text) = IsUtf8 text.now
 -- A request that a command can make: its texts are UTF-8, and the length of its longest record has 32 bits.
 abbrev pub IsAskable : Request → Type 0
 IsAskable (requests.Operate book call) = IsCallable call
-IsAskable (requests.Call book partner patience longest tracing) = IsUtf8 partner.now
+IsAskable (requests.Call partner patience longest tracing) = IsUtf8 partner.now
 IsAskable (requests.Report kind) = Unit {0}
 IsAskable requests.Unanswered = Unit {0}
 IsAskable (requests.Outgoing to) = IsUtf8 to.now
@@ -145,3 +177,9 @@ IsAskable (requests.Fetch number) = Unit {0}
 IsAskable (requests.Holds number content) = Unit {0}
 IsAskable requests.Backup = Unit {0}
 IsAskable requests.Init = Unit {0}
+IsAskable (requests.Stop haste) = Unit {0}
+IsAskable requests.Reload = Unit {0}
+IsAskable (requests.Resend book number date time) = IsUtf8 date.now × IsUtf8 time.now
+IsAskable (requests.Status form) = Unit {0}
+IsAskable (requests.Health warn critical) = Unit {0}
+IsAskable requests.Settled = Unit {0}

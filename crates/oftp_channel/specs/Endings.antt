@@ -67,7 +67,7 @@ store_number stores.Store = 1
 store_number stores.Memory = 2
 store_number stores.WrongSchema = 3
 
--- an end of a session. The kinds of outcomes are 10 to 21.
+-- an end of a session. The kinds of outcomes are 10 to 23.
 abbrev pub end_label : End → Label
 end_label (ends.Own reason) = labelled 14 (session_number reason)
 end_label (ends.Partner number) = labelled 15 number
@@ -86,6 +86,8 @@ outcome_label outcomes.Initiated = bare 10
 outcome_label outcomes.Migrated = bare 11
 outcome_label (outcomes.Checked count) = labelled 12 count
 outcome_label outcomes.BackedUp = bare 13
+outcome_label outcomes.Stopped = bare 22
+outcome_label outcomes.Reloaded = bare 23
 outcome_label (outcomes.Ended end) = end_label end
 outcome_label (outcomes.Done verb number) = labelled (verb_kind verb) number
 outcome_label (outcomes.Refused why) = labelled 21 (refusal_number why)

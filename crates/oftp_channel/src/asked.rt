@@ -4,12 +4,13 @@ ghost use Rattle.std.specs.Prelude.{◌≡◌, [], None, IfSome};
 ghost use Rattle.oftp_channel.specs.Asked.{IsAskable, read_words, request_fields, request_kind, submission_fields, words_of};
 ghost use Rattle.oftp_channel.specs.InsideAsked.{IsFor, IsNoRequest, IsNoSubmission};
 ghost use Rattle.oftp_channel.specs.declared.asking.Request.{Request};
-ghost use Rattle.oftp_channel.specs.declared.codes.RequestKind.TheVariants.{Call, Fetch, Holds, Outgoing, Refuse, Release, Report, Submit};
+ghost use Rattle.oftp_channel.specs.declared.codes.RequestKind.TheVariants.{Call, Fetch, Health, Holds, Outgoing, Refuse, Release, Report, Resend, Status, Stop, Submit};
 
 use crate::asking::Request;
 use crate::codes::RequestKind;
 use crate::fields::{
-    format_in, kind_in, number_in, report_in, small_number_in, text_in, tracing_in,
+    form_in, format_in, haste_in, kind_in, number_in, report_in, small_number_in, text_in,
+    tracing_in,
 };
 use crate::stamp::stamp_in;
 use oftp_engine::{Operator, Submission};
@@ -45,6 +46,12 @@ fn request_in<'a>(kind: RequestKind, fields: &'a [Vec<u8>]) -> Option<Request<'a
         RequestKind::Holds => holds_in(fields),
         RequestKind::Backup => alone(Request::Backup, fields),
         RequestKind::Init => alone(Request::Init, fields),
+        RequestKind::Stop => stop_in(fields),
+        RequestKind::Reload => alone(Request::Reload, fields),
+        RequestKind::Resend => resend_in(fields),
+        RequestKind::Status => status_in(fields),
+        RequestKind::Health => health_in(fields),
+        RequestKind::Settled => alone(Request::Settled, fields),
     }
 }
 
@@ -124,11 +131,10 @@ fn call_in<'a>(fields: &'a [Vec<u8>]) -> Option<Request<'a>>
     ensures some { IfSome result (IsFor Call (read_words fields.now)) }
     ensures none { result ≡ None → IsNoRequest Call (read_words fields.now) }
 {
-    let [book, partner, patience, longest, tracing] = fields else {
+    let [partner, patience, longest, tracing] = fields else {
         return None;
     };
     Some(Request::Call {
-        book,
         partner: text_in(partner)?,
         patience: number_in(patience)?,
         longest: number_in(longest)?,
@@ -180,6 +186,58 @@ fn holds_in<'a>(fields: &'a [Vec<u8>]) -> Option<Request<'a>>
     Some(Request::Holds {
         no: number_in(no)?,
         content,
+    })
+}
+
+// The request to end that has these fields.
+fn stop_in<'a>(fields: &'a [Vec<u8>]) -> Option<Request<'a>>
+    ensures some { IfSome result (IsFor Stop (read_words fields.now)) }
+    ensures none { result ≡ None → IsNoRequest Stop (read_words fields.now) }
+{
+    let [haste] = fields else {
+        return None;
+    };
+    Some(Request::Stop(haste_in(haste)?))
+}
+
+// The request to submit a file again that has these fields.
+fn resend_in<'a>(fields: &'a [Vec<u8>]) -> Option<Request<'a>>
+    ensures some { IfSome result (IsFor Resend (read_words fields.now)) }
+    ensures none { result ≡ None → IsNoRequest Resend (read_words fields.now) }
+{
+    let [book, no, date, time] = fields else {
+        return None;
+    };
+    Some(Request::Resend {
+        book,
+        no: number_in(no)?,
+        date: text_in(date)?,
+        time: text_in(time)?,
+    })
+}
+
+// The request for how the station stands that has these fields.
+fn status_in<'a>(fields: &'a [Vec<u8>]) -> Option<Request<'a>>
+    ensures some { IfSome result (IsFor Status (read_words fields.now)) }
+    ensures none { result ≡ None → IsNoRequest Status (read_words fields.now) }
+{
+    let [form] = fields else {
+        return None;
+    };
+    Some(Request::Status(form_in(form)?))
+}
+
+// The request for the verdict on the station that has these fields.
+fn health_in<'a>(fields: &'a [Vec<u8>]) -> Option<Request<'a>>
+    ensures some { IfSome result (IsFor Health (read_words fields.now)) }
+    ensures none { result ≡ None → IsNoRequest Health (read_words fields.now) }
+{
+    let [warn, critical] = fields else {
+        return None;
+    };
+    Some(Request::Health {
+        warn: number_in(warn)?,
+        critical: number_in(critical)?,
     })
 }
 

@@ -4,7 +4,7 @@ ghost use Rattle.std.specs.Prelude.{◌≡◌, ◌≤◌, ◌↔◌, ◌∷◌, 
 ghost use Rattle.oftp_io.specs.Ports.{Sent};
 ghost use Rattle.oftp_channel.specs.Asked.{call_fields, call_kind, number_word, octet_word, octets_in, request_code, submission_fields, tracing_code, words_of, written_words};
 ghost use Rattle.oftp_channel.specs.Requests.{IsRequest, spelled_request};
-ghost use Rattle.oftp_channel.specs.declared.codes.RequestKind.TheVariants.{Call, Holds, Refuse, Release, Submit};
+ghost use Rattle.oftp_channel.specs.declared.codes.RequestKind.TheVariants.{Call, Health, Holds, Refuse, Release, Resend, Submit};
 
 use crate::codes::{RequestKind, format_code, report_code};
 use crate::request::{Word, words_fit, write_words};
@@ -26,6 +26,24 @@ pub enum Tracing {
     None,
 }
 
+/// When a station ends that is told to.
+#[derive(Clone, Copy, Debug, PartialEq, Eq, Drop)]
+pub enum Haste {
+    /// Once the session that goes on has ended.
+    InTurn,
+    /// Now: the session that goes on is cut off.
+    AtOnce,
+}
+
+/// How a station's status is told.
+#[derive(Clone, Copy, Debug, PartialEq, Eq, Drop)]
+pub enum Form {
+    /// In lines for people.
+    Lines,
+    /// As JSON.
+    Json,
+}
+
 /// What a command asks of the station that has its database open. The texts and contents are borrowed.
 #[derive(Clone, Copy, Drop)]
 pub enum Request<'a> {
@@ -36,10 +54,8 @@ pub enum Request<'a> {
         /// The call.
         call: Operator<'a>,
     },
-    /// To call a partner for a session.
+    /// To call a partner of the station's book for a session.
     Call {
-        /// The text of the book that has the partner.
-        book: &'a [u8],
         /// The code of the partner.
         partner: &'a str,
         /// The most seconds without an octet of the partner.
@@ -74,6 +90,32 @@ pub enum Request<'a> {
     Backup,
     /// Whether the database is open.
     Init,
+    /// To end.
+    Stop(Haste),
+    /// To read the book again.
+    Reload,
+    /// To submit the content of an outgoing file again, by a book.
+    Resend {
+        /// The text of the book.
+        book: &'a [u8],
+        /// The file's number.
+        no: u64,
+        /// The date stamp of the new file.
+        date: &'a str,
+        /// Its time stamp.
+        time: &'a str,
+    },
+    /// How the station stands.
+    Status(Form),
+    /// For the verdict on the station.
+    Health {
+        /// The age in seconds above which something is a warning.
+        warn: u64,
+        /// The age in seconds above which something is critical.
+        critical: u64,
+    },
+    /// For the files that are still open.
+    Settled,
 }
 
 /// Whether a request can be sent: its words are within the limits of [`words_fit`].
@@ -112,12 +154,11 @@ impl<'a> Request<'a> {
         match *self {
             Request::Operate { book, call } => operator_words(book, call),
             Request::Call {
-                book,
                 partner,
                 patience,
                 longest,
                 tracing,
-            } => call_words(book, partner, patience, longest, tracing),
+            } => call_words(partner, patience, longest, tracing),
             Request::Report(kind) => {
                 two_words(RequestKind::Report, Word::Octet(report_code(kind)))
             }
@@ -129,6 +170,17 @@ impl<'a> Request<'a> {
             Request::Holds { no, content } => holds_words(no, content),
             Request::Backup => one_word(RequestKind::Backup),
             Request::Init => one_word(RequestKind::Init),
+            Request::Stop(haste) => two_words(RequestKind::Stop, Word::Octet(haste.code())),
+            Request::Reload => one_word(RequestKind::Reload),
+            Request::Resend {
+                book,
+                no,
+                date,
+                time,
+            } => resend_words(book, no, date, time),
+            Request::Status(form) => two_words(RequestKind::Status, Word::Octet(form.code())),
+            Request::Health { warn, critical } => health_words(warn, critical),
+            Request::Settled => one_word(RequestKind::Settled),
         }
     }
 }
@@ -158,24 +210,51 @@ fn holds_words<'a>(no: u64, content: &'a [u8]) -> ArrayVec<Word<'a>, MOST_IN_ONE
     ])
 }
 
+// The words of the request for the verdict on a station.
+fn health_words<'a>(warn: u64, critical: u64) -> ArrayVec<Word<'a>, MOST_IN_ONE>
+    ensures { written_words result.items ≡ octet_word (request_code Health) ∷ number_word warn ∷ number_word critical ∷ [] }
+{
+    listed(&[
+        Word::Octet(RequestKind::Health.code()),
+        Word::Number(warn),
+        Word::Number(critical),
+    ])
+}
+
 // The words of the request for a call.
 fn call_words<'a>(
-    book: &'a [u8],
     partner: &'a str,
     patience: u64,
     longest: u64,
     tracing: Tracing,
 ) -> ArrayVec<Word<'a>, MOST_IN_ONE>
-    ensures { written_words result.items ≡ octet_word (request_code Call) ∷ book.now ∷ partner.now ∷ number_word patience
-        ∷ number_word longest ∷ octet_word (tracing_code tracing) ∷ [] }
+    ensures { written_words result.items ≡ octet_word (request_code Call) ∷ partner.now ∷ number_word patience ∷ number_word longest
+        ∷ octet_word (tracing_code tracing) ∷ [] }
 {
     listed(&[
         Word::Octet(RequestKind::Call.code()),
-        Word::Octets(book),
         Word::Octets(partner.as_bytes()),
         Word::Number(patience),
         Word::Number(longest),
         Word::Octet(tracing.code()),
+    ])
+}
+
+// The words of the request to submit a file again.
+fn resend_words<'a>(
+    book: &'a [u8],
+    no: u64,
+    date: &'a str,
+    time: &'a str,
+) -> ArrayVec<Word<'a>, MOST_IN_ONE>
+    ensures { written_words result.items ≡ octet_word (request_code Resend) ∷ book.now ∷ number_word no ∷ date.now ∷ time.now ∷ [] }
+{
+    listed(&[
+        Word::Octet(RequestKind::Resend.code()),
+        Word::Octets(book),
+        Word::Number(no),
+        Word::Octets(date.as_bytes()),
+        Word::Octets(time.as_bytes()),
     ])
 }
 

@@ -3,11 +3,13 @@
 ghost use Rattle.std.specs.Prelude.{◌≡◌, None, IfSome};
 ghost use Rattle.oftp_vfile.specs.declared.format.Format.{Format};
 ghost use Rattle.oftp_listing.specs.declared.reports.ReportKind.{ReportKind};
-ghost use Rattle.oftp_channel.specs.Asked.{format_code, report_code, request_code, tracing_code};
+ghost use Rattle.oftp_channel.specs.Asked.{form_code, format_code, haste_code, report_code, request_code, tracing_code};
+ghost use Rattle.oftp_channel.specs.declared.asking.Form.{Form};
+ghost use Rattle.oftp_channel.specs.declared.asking.Haste.{Haste};
 ghost use Rattle.oftp_channel.specs.declared.asking.Tracing.{Tracing};
 ghost use Rattle.oftp_channel.specs.declared.codes.RequestKind.{RequestKind};
 
-use crate::asking::Tracing;
+use crate::asking::{Form, Haste, Tracing};
 use oftp_listing::ReportKind;
 use oftp_vfile::Format;
 
@@ -25,6 +27,12 @@ pub(crate) enum RequestKind {
     Holds,
     Backup,
     Init,
+    Stop,
+    Reload,
+    Resend,
+    Status,
+    Health,
+    Settled,
 }
 
 impl RequestKind {
@@ -44,6 +52,12 @@ impl RequestKind {
             RequestKind::Holds => 9,
             RequestKind::Backup => 10,
             RequestKind::Init => 11,
+            RequestKind::Stop => 12,
+            RequestKind::Reload => 13,
+            RequestKind::Resend => 14,
+            RequestKind::Status => 15,
+            RequestKind::Health => 16,
+            RequestKind::Settled => 17,
         }
     }
 
@@ -64,6 +78,36 @@ impl RequestKind {
             9 => Some(RequestKind::Holds),
             10 => Some(RequestKind::Backup),
             11 => Some(RequestKind::Init),
+            12 => Some(RequestKind::Stop),
+            13 => Some(RequestKind::Reload),
+            14 => Some(RequestKind::Resend),
+            15 => Some(RequestKind::Status),
+            16 => Some(RequestKind::Health),
+            17 => Some(RequestKind::Settled),
+            _ => None,
+        }
+    }
+}
+
+impl Form {
+    // The octet that encodes it.
+    pub(crate) fn code(self) -> u8
+        ensures { result ≡ form_code self }
+    {
+        match self {
+            Form::Lines => 0,
+            Form::Json => 1,
+        }
+    }
+
+    // The form that an octet encodes.
+    pub(crate) fn of_code(code: u8) -> Option<Form>
+        ensures one { IfSome result (λ form. form_code form ≡ code) }
+        ensures none { result ≡ None → (form : Form) → form_code form ≡ code → ⊥ }
+    {
+        match code {
+            0 => Some(Form::Lines),
+            1 => Some(Form::Json),
             _ => None,
         }
     }
@@ -88,6 +132,30 @@ impl Tracing {
         match code {
             0 => Some(Tracing::None),
             1 => Some(Tracing::Kept),
+            _ => None,
+        }
+    }
+}
+
+impl Haste {
+    // The octet that encodes it.
+    pub(crate) fn code(self) -> u8
+        ensures { result ≡ haste_code self }
+    {
+        match self {
+            Haste::InTurn => 0,
+            Haste::AtOnce => 1,
+        }
+    }
+
+    // The haste that an octet encodes.
+    pub(crate) fn of_code(code: u8) -> Option<Haste>
+        ensures one { IfSome result (λ haste. haste_code haste ≡ code) }
+        ensures none { result ≡ None → (haste : Haste) → haste_code haste ≡ code → ⊥ }
+    {
+        match code {
+            0 => Some(Haste::InTurn),
+            1 => Some(Haste::AtOnce),
             _ => None,
         }
     }

@@ -3,12 +3,14 @@
 ghost use Rattle.std.specs.Prelude.{◌≡◌, ◌<◌, ◌^◌, ℕ, None, IfSome};
 ghost use Rattle.oftp_vfile.specs.declared.format.Format.{Format};
 ghost use Rattle.oftp_listing.specs.declared.reports.ReportKind.{ReportKind};
-ghost use Rattle.oftp_channel.specs.Asked.{format_code, number_word, octet_word, report_code, request_code, tracing_code};
+ghost use Rattle.oftp_channel.specs.Asked.{form_code, format_code, haste_code, number_word, octet_word, report_code, request_code, tracing_code};
 ghost use Rattle.oftp_channel.specs.InsideAsked.{IsNoNumber, IsNoText};
+ghost use Rattle.oftp_channel.specs.declared.asking.Form.{Form};
+ghost use Rattle.oftp_channel.specs.declared.asking.Haste.{Haste};
 ghost use Rattle.oftp_channel.specs.declared.asking.Tracing.{Tracing};
 ghost use Rattle.oftp_channel.specs.declared.codes.RequestKind.{RequestKind};
 
-use crate::asking::Tracing;
+use crate::asking::{Form, Haste, Tracing};
 use crate::codes::{RequestKind, format_of, report_of};
 use crate::inputs::long_of;
 use oftp_listing::ReportKind;
@@ -76,6 +78,22 @@ pub(crate) fn report_in(word: &[u8]) -> Option<ReportKind>
     ensures none { result ≡ None → (kind : ReportKind) → octet_word (report_code kind) ≡ word.now → ⊥ }
 {
     report_of(octet_in(word)?)
+}
+
+// The haste that a word stands for.
+pub(crate) fn haste_in(word: &[u8]) -> Option<Haste>
+    ensures some { IfSome result (λ haste. octet_word (haste_code haste) ≡ word.now) }
+    ensures none { result ≡ None → (haste : Haste) → octet_word (haste_code haste) ≡ word.now → ⊥ }
+{
+    Haste::of_code(octet_in(word)?)
+}
+
+// The form of a status that a word stands for.
+pub(crate) fn form_in(word: &[u8]) -> Option<Form>
+    ensures some { IfSome result (λ form. octet_word (form_code form) ≡ word.now) }
+    ensures none { result ≡ None → (form : Form) → octet_word (form_code form) ≡ word.now → ⊥ }
+{
+    Form::of_code(octet_in(word)?)
 }
 
 // The tracing that a word stands for.

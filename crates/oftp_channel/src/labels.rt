@@ -246,6 +246,8 @@ pub(crate) fn outcome_label(outcome: Outcome) -> Label
         Outcome::Migrated => Label::bare(11),
         Outcome::Checked(count) => Label::new(12, count as u64),
         Outcome::BackedUp => Label::bare(13),
+        Outcome::Stopped => Label::bare(22),
+        Outcome::Reloaded => Label::bare(23),
         Outcome::Ended(end) => end_label(end),
         Outcome::Done(verb, number) => Label::new(verb_kind(verb), number),
         Outcome::Refused(why) => Label::new(21, refusal_number(why)),
@@ -269,6 +271,8 @@ pub(crate) fn outcome_at(label: Label) -> Option<Outcome>
         12 => Some(Outcome::Checked(label.number as usize)),
         13 if label.number == 0 => Some(Outcome::BackedUp),
         21 => refusal_at(label.number).map(Outcome::Refused),
+        22 if label.number == 0 => Some(Outcome::Stopped),
+        23 if label.number == 0 => Some(Outcome::Reloaded),
         _ => None,
     }
 }

@@ -18,7 +18,7 @@ mod request;
 mod stamp;
 
 pub use answer::{AnswerPart, LONGEST_PIECE, Outlet, read_part, write_end, write_piece};
-pub use asking::{Request, Tracing, fits, write_request};
+pub use asking::{Form, Haste, Request, Tracing, fits, write_request};
 pub use coming::lacking;
 pub use ending::Ending;
 pub use fault::ReadFault;

@@ -1,6 +1,7 @@
 -- Worked command lines, in a table for each command: a line, and the command that it gives.
 use Rattle.std.proofs.Common.{◌≡◌, ◌==◌, ◌++◌, ℕ, Bool, List, Option, refl, [], ◌∷◌, Some, None, codes, false, if◌then◌else◌, map, true}
 use Rattle.clap.proofs.OnLiterals.{clap_on_literals}
+use Rattle.oftp_listing.specs.declared.reports.ReportKind.{ReportKind}
 use Rattle.oftp_listing.specs.declared.reports.ReportKind.TheVariants.{Incoming, Issued, Outgoing, Received}
 use Rattle.oftp_vfile.specs.declared.format.Format.{Format}
 use Rattle.oftp_vfile.specs.declared.format.Format.TheVariants as format
@@ -8,10 +9,11 @@ use Rattle.oftp_command_line.specs.Arguments.{taken}
 use Rattle.oftp_command_line.specs.FeedLine.{feed_app}
 use Rattle.oftp_command_line.specs.Files.{FilesSaid}
 use Rattle.oftp_command_line.specs.FolderLines.{collect_app, offer_app}
-use Rattle.oftp_command_line.specs.Line.{Said, line_named, line_of_words, said_backup, said_call, said_check, said_collect, said_feed, said_fetch, said_help, said_http, said_init, said_listen, said_migrate, said_offer, said_refuse, said_release, said_report, said_run, said_show, said_submit, said_version}
-use Rattle.oftp_command_line.specs.OperatorLines.{refuse_app, release_app, submit_app}
-use Rattle.oftp_command_line.specs.RegisterLines.{backup_app, fetch_app, report_app}
-use Rattle.oftp_command_line.specs.ServiceLines.{call_app, http_app, listen_app, run_app}
+use Rattle.oftp_command_line.specs.Line.{Said, line_named, line_of_words, said_audit, said_backup, said_call, said_check, said_collect, said_feed, said_fetch, said_health, said_help, said_http, said_init, said_listen, said_migrate, said_offer, said_refuse, said_release, said_reload, said_report, said_resend, said_run, said_settled, said_show, said_status, said_stop, said_submit, said_version}
+use Rattle.oftp_command_line.specs.OperatorLines.{refuse_app, release_app, resend_app, submit_app}
+use Rattle.oftp_command_line.specs.RegisterLines.{audit_app, backup_app, fetch_app, report_app}
+use Rattle.oftp_command_line.specs.ServiceLines.{call_app, http_app, listen_app, run_app, stop_app}
+use Rattle.oftp_command_line.specs.StandingLines.{health_app, status_app}
 use Rattle.oftp_command_line.specs.Terms.{EntranceSaid, TermsSaid}
 use Rattle.oftp_command_line.specs.declared.line.commands.feed.FeedRole.TheVariants.{Initiator, Responder}
 
@@ -43,7 +45,11 @@ AreRead examples = map (λ (e : Example). line_of_words e.0) examples ≡ map (�
 
 -- the database d and the book b
 abbrev d_and_b : FilesSaid
-d_and_b = record { database = codes "d"; book = codes "b" }
+d_and_b = record { database = codes "d"; book = codes "b"; events = None }
+
+-- the same, and events go to e
+abbrev e_beside : FilesSaid
+e_beside = record { database = codes "d"; book = codes "b"; events = Some (codes "e") }
 
 -- lines about the program itself
 program_lines : AreRead (
@@ -116,11 +122,25 @@ abbrev submit_asked : Format → ℕ → Said
 submit_asked f longest = said_submit (record {
   files = d_and_b;
   dataset = codes "n";
-  date = codes "20240131";
-  time = codes "1015300001";
+  date = Some (codes "20240131");
+  time = Some (codes "1015300001");
   to = codes "p";
   format = f;
   longest = longest;
+  description = [];
+  file = codes "f";
+})
+
+-- a submission with this date and time
+abbrev submit_at : Option (List ℕ) → Option (List ℕ) → Said
+submit_at date time = said_submit (record {
+  files = d_and_b;
+  dataset = codes "n";
+  date = date;
+  time = time;
+  to = codes "p";
+  format = format.Unstructured;
+  longest = 0;
   description = [];
   file = codes "f";
 })
@@ -134,8 +154,8 @@ submit_lines : AreRead (
     (said_submit (record {
       files = d_and_b;
       dataset = codes "n";
-      date = codes "e";
-      time = codes "t";
+      date = Some (codes "e");
+      time = Some (codes "t");
       to = codes "p";
       format = format.Variable;
       longest = 99999;
@@ -146,21 +166,64 @@ submit_lines : AreRead (
     ∷ asks (submit_line (codes " --format=F f --longest=+007")) (submit_asked format.Fixed 7)
     -- T is a format
     ∷ asks (submit_line (codes " --format=T f")) (submit_asked format.Text 0)
+    -- its events go to a file
+    ∷ asks (codes "submit --db=d --book=b --events=e --dataset=n --date=20240131 --time=1015300001 --to=p --format=U f")
+    (said_submit (record {
+      files = e_beside;
+      dataset = codes "n";
+      date = Some (codes "20240131");
+      time = Some (codes "1015300001");
+      to = codes "p";
+      format = format.Unstructured;
+      longest = 0;
+      description = [];
+      file = codes "f";
+    }))
     -- no format has this letter
     ∷ bad (submit_line (codes " --format=u f"))
     -- a length has an upper limit
     ∷ bad (submit_line (codes " --format=U f --longest=100000"))
     -- a length isn't negative
     ∷ bad (submit_line (codes " --format=U f --longest=-1"))
-    -- the date has no default
-    ∷ bad (codes "submit --db=d --book=b --dataset=n --time=1015300001 --to=p --format=U f")
+    -- the date and the time may be missing
+    ∷ asks (codes "submit --db=d --book=b --dataset=n --to=p --format=U f") (submit_at None None)
+    -- either of them may
+    ∷ asks (codes "submit --db=d --book=b --dataset=n --time=1 --to=p --format=U f") (submit_at None (Some (codes "1")))
+    -- so may the other
+    ∷ asks (codes "submit --db=d --book=b --dataset=n --date=2 --to=p --format=U f") (submit_at (Some (codes "2")) None)
+    -- the date has a value
+    ∷ bad (codes "submit --db=d --book=b --dataset=n --to=p --format=U f --date")
+    -- the dataset name has no default
+    ∷ bad (codes "submit --db=d --book=b --date=20240131 --time=1015300001 --to=p --format=U f")
     ∷ [])
 unfolding clap_on_literals submit_app line_named taken
 submit_lines = refl
 
 -- an offer to p, with this format and record length
 abbrev offer_asked : Format → ℕ → Said
-offer_asked f longest = said_offer (record { files = d_and_b; to = codes "p"; folder = codes "f"; format = f; longest = longest })
+offer_asked f longest = said_offer (record {
+  files = d_and_b;
+  to = codes "p";
+  folder = codes "f";
+  dataset = None;
+  description = [];
+  describes = false;
+  format = f;
+  longest = longest;
+})
+
+-- an offer to p of unstructured files, with this dataset name, description, and whether they are described by their names
+abbrev offer_named : Option (List ℕ) → List ℕ → Bool → Said
+offer_named dataset description describes = said_offer (record {
+  files = d_and_b;
+  to = codes "p";
+  folder = codes "f";
+  dataset = dataset;
+  description = description;
+  describes = describes;
+  format = format.Unstructured;
+  longest = 0;
+})
 
 -- lines of `offer`
 offer_lines : AreRead (
@@ -172,6 +235,18 @@ offer_lines : AreRead (
     ∷ asks (codes "offer --db=d --book=b --to=p --from=f --format=V --longest=99999") (offer_asked format.Variable 99999)
     -- T is a format
     ∷ asks (codes "offer --db=d --book=b --to=p --from=f --format=T") (offer_asked format.Text 0)
+    -- its events go to a file
+    ∷ asks (codes "offer --db=d --book=b --to=p --from=f --events=e")
+    (said_offer (record {
+      files = e_beside;
+      to = codes "p";
+      folder = codes "f";
+      dataset = None;
+      description = [];
+      describes = false;
+      format = format.Unstructured;
+      longest = 0;
+    }))
     -- no format has this letter
     ∷ bad (codes "offer --db=d --book=b --to=p --from=f --format=u")
     -- a length has an upper limit
@@ -184,11 +259,40 @@ offer_lines : AreRead (
     ∷ bad (codes "offer --db=d --to=p --from=f")
     -- it takes no word
     ∷ bad (codes "offer --db=d --book=b --to=p --from=f w")
-    -- it takes no dataset name
-    ∷ bad (codes "offer --db=d --book=b --to=p --from=f --dataset=n")
+    -- it takes a dataset name for each file
+    ∷ asks (codes "offer --db=d --book=b --to=p --from=f --dataset=n") (offer_named (Some (codes "n")) [] false)
+    -- it takes a description for each
+    ∷ asks (codes "offer --db=d --book=b --to=p --from=f --description=x") (offer_named None (codes "x") false)
+    -- with `--describe` it takes the name of each, beside a dataset name and a description
+    ∷ asks (codes "offer --describe --description=x --dataset=n --db=d --book=b --to=p --from=f") (offer_named (Some (codes "n")) (codes "x") true)
+    -- `--describe` takes no value
+    ∷ bad (codes "offer --db=d --book=b --to=p --from=f --describe=x")
+    -- an option's name is whole
+    ∷ bad (codes "offer --db=d --book=b --to=p --from=f --desc")
+    -- it takes no date
+    ∷ bad (codes "offer --db=d --book=b --to=p --from=f --date=20240131")
     ∷ [])
 unfolding clap_on_literals offer_app line_named taken
 offer_lines = refl
+
+-- lines of `resend`
+resend_lines : AreRead (
+    -- `resend` takes a number
+    asks (codes "resend --db=d --book=b 7") (said_resend (record { files = d_and_b; date = None; time = None; no = 7 }))
+    -- and a date and a time
+    ∷ asks (codes "resend --db=d --book=b --date 20240131 --time=1015300001 7")
+    (said_resend (record { files = d_and_b; date = Some (codes "20240131"); time = Some (codes "1015300001"); no = 7 }))
+    -- no file has the number 0
+    ∷ bad (codes "resend --db=d --book=b 0")
+    -- the last number is 9999999
+    ∷ bad (codes "resend --db=d --book=b 10000000")
+    -- the number is required
+    ∷ bad (codes "resend --db=d --book=b --date 20240131")
+    -- the book is required
+    ∷ bad (codes "resend --db=d 7")
+    ∷ [])
+unfolding clap_on_literals resend_app line_named taken
+resend_lines = refl
 
 -- lines of `release`
 release_lines : AreRead (
@@ -198,6 +302,8 @@ release_lines : AreRead (
     ∷ asks (codes "release --db=d --book=b 1") (said_release (record { files = d_and_b; no = 1 }))
     -- the last is 9999999
     ∷ asks (codes "release --db=d --book=b 9999999") (said_release (record { files = d_and_b; no = 9999999 }))
+    -- its events go to a file
+    ∷ asks (codes "release --db=d --book=b --events=e 7") (said_release (record { files = e_beside; no = 7 }))
     -- 0 is too small
     ∷ bad (codes "release --db=d --book=b 0")
     -- 10000000 is too large
@@ -218,6 +324,8 @@ refuse_lines : AreRead (
     asks (codes "refuse --db=d --book=b 7 99 x") (said_refuse (record { files = d_and_b; no = 7; reason = 99; text = codes "x" }))
     -- the first reason is 0, and the text may be empty
     ∷ (words_of (codes "refuse --db=d --book=b 7 0") ++ [] ∷ [], Some (said_refuse (record { files = d_and_b; no = 7; reason = 0; text = [] })))
+    -- its events go to a file
+    ∷ asks (codes "refuse --events e --db=d --book=b 7 99 x") (said_refuse (record { files = e_beside; no = 7; reason = 99; text = codes "x" }))
     -- a reason has two digits at most
     ∷ bad (codes "refuse --db=d --book=b 7 100 x")
     -- no file has the number 0
@@ -240,9 +348,19 @@ fetch_lines : AreRead (
 unfolding clap_on_literals fetch_app line_named taken
 fetch_lines = refl
 
--- files are collected in a folder, and released or not
+-- files are collected in a folder: those from a partner, with a pattern for their dataset names, and released or not
+abbrev collect_those : Option (List ℕ) → Option (List ℕ) → Bool → Said
+collect_those from dataset releases = said_collect (record {
+  files = d_and_b;
+  folder = codes "f";
+  from = from;
+  dataset = dataset;
+  releases = releases;
+})
+
+-- all files are collected, and released or not
 abbrev collect_asked : Bool → Said
-collect_asked releases = said_collect (record { files = d_and_b; folder = codes "f"; releases = releases })
+collect_asked releases = collect_those None None releases
 
 -- lines of `collect`
 collect_lines : AreRead (
@@ -252,6 +370,15 @@ collect_lines : AreRead (
     ∷ asks (codes "collect --db=d --book=b --to=f --release") (collect_asked true)
     -- options come in any order
     ∷ asks (codes "collect --release --to f --book b --db d") (collect_asked true)
+    -- it takes a partner
+    ∷ asks (codes "collect --db=d --book=b --to=f --from=p") (collect_those (Some (codes "p")) None false)
+    -- it takes a pattern, beside a partner and `--release`
+    ∷ asks (codes "collect --db=d --book=b --to=f --dataset=INV.* --release --from p") (collect_those (Some (codes "p")) (Some (codes "INV.*")) true)
+    -- a pattern may be given once
+    ∷ bad (codes "collect --db=d --book=b --to=f --dataset=* --dataset=?")
+    -- its events go to a file
+    ∷ asks (codes "collect --events=e --db=d --book=b --to=f")
+    (said_collect (record { files = e_beside; folder = codes "f"; from = None; dataset = None; releases = false }))
     -- `--release` takes no value
     ∷ bad (codes "collect --db=d --book=b --to=f --release=true")
     -- it takes no word
@@ -270,16 +397,42 @@ collect_lines : AreRead (
 unfolding clap_on_literals collect_app line_named taken
 collect_lines = refl
 
+-- a report of a kind, with this state, partner and first date, and whether it is told as JSON
+abbrev report_those : ReportKind → Option (List ℕ) → Option (List ℕ) → Option (List ℕ) → Bool → Said
+report_those kind state partner since json = said_report (record {
+  database = codes "d";
+  kind = kind;
+  state = state;
+  partner = partner;
+  since = since;
+  json = json;
+})
+
+-- a whole report of a kind
+abbrev report_asked : ReportKind → Said
+report_asked kind = report_those kind None None None false
+
 -- lines of `report`
 report_lines : AreRead (
     -- `report` takes a kind
-    asks (codes "report --db=d in") (said_report (record { database = codes "d"; kind = Incoming }))
+    asks (codes "report --db=d in") (report_asked Incoming)
     -- `out` is a kind
-    ∷ asks (codes "report --db=d out") (said_report (record { database = codes "d"; kind = Outgoing }))
+    ∷ asks (codes "report --db=d out") (report_asked Outgoing)
     -- `issued` is a kind
-    ∷ asks (codes "report --db=d issued") (said_report (record { database = codes "d"; kind = Issued }))
+    ∷ asks (codes "report --db=d issued") (report_asked Issued)
     -- `received` is a kind
-    ∷ asks (codes "report --db=d received") (said_report (record { database = codes "d"; kind = Received }))
+    ∷ asks (codes "report --db=d received") (report_asked Received)
+    -- it takes a state
+    ∷ asks (codes "report --db=d --state whole in") (report_those Incoming (Some (codes "whole")) None None false)
+    -- it takes a partner
+    ∷ asks (codes "report --db=d --partner=p out") (report_those Outgoing None (Some (codes "p")) None false)
+    -- it takes a date, beside the others and `--json`
+    ∷ asks (codes "report --json --since=20240131 --partner=p --state=s --db=d in")
+    (report_those Incoming (Some (codes "s")) (Some (codes "p")) (Some (codes "20240131")) true)
+    -- `--json` takes no value
+    ∷ bad (codes "report --db=d --json=in")
+    -- a state has a value
+    ∷ bad (codes "report --db=d in --state")
     -- a kind is in small letters
     ∷ bad (codes "report --db=d In")
     -- the kind is required
@@ -288,12 +441,58 @@ report_lines : AreRead (
 unfolding clap_on_literals report_app line_named taken
 report_lines = refl
 
+-- lines of `status`
+status_lines : AreRead (
+    -- `status` takes the database
+    asks (codes "status --db=d") (said_status (record { database = codes "d"; json = false }))
+    -- it takes `--json`
+    ∷ asks (codes "status --json --db d") (said_status (record { database = codes "d"; json = true }))
+    -- `--json` takes no value
+    ∷ bad (codes "status --db=d --json=true")
+    -- the database is required
+    ∷ bad (codes "status --json")
+    -- it takes no book
+    ∷ bad (codes "status --db=d --book=b")
+    ∷ [])
+unfolding clap_on_literals status_app line_named taken
+status_lines = refl
+
+-- lines of `health`
+health_lines : AreRead (
+    -- by default a day is overdue, and two are critical
+    asks (codes "health --db=d") (said_health (record { database = codes "d"; warn = 24; critical = 48 }))
+    -- all options in another order
+    ∷ asks (codes "health --critical 87600 --warn=0 --db=d") (said_health (record { database = codes "d"; warn = 0; critical = 87600 }))
+    -- an hour more is too many
+    ∷ bad (codes "health --db=d --critical=87601")
+    -- hours are digits
+    ∷ bad (codes "health --db=d --warn=1h")
+    -- the database is required
+    ∷ bad (codes "health --warn=1")
+    ∷ [])
+unfolding clap_on_literals health_app line_named taken
+health_lines = refl
+
+-- lines of `settled`
+settled_lines : AreRead (
+    -- `settled` takes the database
+    asks (codes "settled --db=d") (said_settled (codes "d"))
+    -- the database is required
+    ∷ bad (codes "settled")
+    -- it takes no word
+    ∷ bad (codes "settled --db=d in")
+    ∷ [])
+unfolding clap_on_literals line_named taken
+settled_lines = refl
+
 -- lines of `backup`
 backup_lines : AreRead (
     -- `backup` takes the database and a file
-    asks (codes "backup --db=d f") (said_backup (record { database = codes "d"; to = codes "f" }))
+    asks (codes "backup --db=d f") (said_backup (record { database = codes "d"; events = None; to = codes "f" }))
     -- they come in any order
-    ∷ asks (codes "backup f --db d") (said_backup (record { database = codes "d"; to = codes "f" }))
+    ∷ asks (codes "backup f --db d") (said_backup (record { database = codes "d"; events = None; to = codes "f" }))
+    -- its event goes to a file
+    ∷ asks (codes "backup --db=d --events=e f") (said_backup (record { database = codes "d"; events = Some (codes "e"); to = codes "f" }))
     -- the file is required
     ∷ bad (codes "backup --db=d")
     -- the database is required
@@ -305,6 +504,34 @@ backup_lines : AreRead (
     ∷ [])
 unfolding clap_on_literals backup_app line_named taken
 backup_lines = refl
+
+-- lines of `stop`
+stop_lines : AreRead (
+    -- `stop` takes the database
+    asks (codes "stop --db=d") (said_stop (record { database = codes "d"; now = false }))
+    -- with `--now` it cuts the session off
+    ∷ asks (codes "stop --now --db d") (said_stop (record { database = codes "d"; now = true }))
+    -- `--now` takes no value
+    ∷ bad (codes "stop --db=d --now=true")
+    -- the database is required
+    ∷ bad (codes "stop --now")
+    -- it takes no book
+    ∷ bad (codes "stop --db=d --book=b")
+    ∷ [])
+unfolding clap_on_literals stop_app line_named taken
+stop_lines = refl
+
+-- lines of `reload`
+reload_lines : AreRead (
+    -- `reload` takes the database
+    asks (codes "reload --db=d") (said_reload (codes "d"))
+    -- it takes no book, since the station has the path of its own
+    ∷ bad (codes "reload --db=d --book=b")
+    -- the database is required
+    ∷ bad (codes "reload")
+    ∷ [])
+unfolding clap_on_literals line_named taken
+reload_lines = refl
 
 -- lines of `show`
 show_lines : AreRead (
@@ -339,6 +566,20 @@ feed_lines : AreRead (
 unfolding clap_on_literals feed_app line_named taken
 feed_lines = refl
 
+-- lines of `audit`
+audit_lines : AreRead (
+    -- `audit` takes the database alone
+    asks (codes "audit --db=d") (said_audit (record { database = codes "d"; old = None }))
+    -- or with an older one
+    ∷ asks (codes "audit --old o --db=d") (said_audit (record { database = codes "d"; old = Some (codes "o") }))
+    -- the database is required
+    ∷ bad (codes "audit --old=o")
+    -- it takes no word
+    ∷ bad (codes "audit --db=d o")
+    ∷ [])
+unfolding clap_on_literals audit_app line_named taken
+audit_lines = refl
+
 -- listening on this port of this address, with this many seconds for an admission
 abbrev entrance_at : ℕ → List ℕ → ℕ → EntranceSaid
 entrance_at port address admission = record { port = port; address = address; admission = admission }
@@ -370,6 +611,17 @@ run_lines : AreRead (
       interval = 9;
       terms = terms_of 0 1 (Some (codes "t"));
       jobs = 1000000;
+    }))
+    -- its events go to a file
+    ∷ asks (codes "run --db=d --book=b --events=e")
+    (said_run (record {
+      files = e_beside;
+      entrance = entrance_at 3305 (codes "127.0.0.1") 30;
+      http_port = 0;
+      host = None;
+      interval = 0;
+      terms = terms_of 300 86400 None;
+      jobs = 0;
     }))
     -- the interval is a day at most
     ∷ bad (codes "run --db=d --book=b --call-every=86401")
@@ -403,6 +655,9 @@ listen_lines : AreRead (
     -- options come in any order
     ∷ asks (codes "listen --patience 0 --longest=1 --sessions=1000000 --trace=t --book=b --address ::1 --admission 86400 --db=d --port=65535")
     (said_listen (record { files = d_and_b; entrance = entrance_at 65535 (codes "::1") 86400; sessions = 1000000; terms = terms_of 0 1 (Some (codes "t")) }))
+    -- its events go to a file
+    ∷ asks (codes "listen --db=d --book=b --events=e")
+    (said_listen (record { files = e_beside; entrance = entrance_at 3305 (codes "127.0.0.1") 30; sessions = 1; terms = terms_of 300 86400 None }))
     -- the port isn't 0
     ∷ bad (codes "listen --db=d --book=b --port=0")
     -- the port has an upper limit
@@ -429,14 +684,25 @@ listen_lines : AreRead (
 unfolding clap_on_literals listen_app line_named taken
 listen_lines = refl
 
+-- a call of p, which is a failure or not where it ends otherwise than by 00
+abbrev call_asked : Bool → TermsSaid → Said
+call_asked fails terms = said_call (record { files = d_and_b; partner = codes "p"; fails = fails; terms = terms })
+
 -- lines of `call`
 call_lines : AreRead (
     -- `call` takes a partner
     asks (codes "call --db=d --book=b --partner=p")
-    (said_call (record { files = d_and_b; partner = codes "p"; terms = terms_of 300 86400 None }))
+    (call_asked false (terms_of 300 86400 None))
+    -- with `--fail` another end than 00 is a failure
+    ∷ asks (codes "call --fail --db=d --book=b --partner=p") (call_asked true (terms_of 300 86400 None))
+    -- `--fail` takes no value
+    ∷ bad (codes "call --db=d --book=b --partner=p --fail=true")
     -- it takes a patience, a session length and a trace
     ∷ asks (codes "call --db=d --book=b --longest 1 --patience 86400 --trace t --partner p")
-    (said_call (record { files = d_and_b; partner = codes "p"; terms = terms_of 86400 1 (Some (codes "t")) }))
+    (call_asked false (terms_of 86400 1 (Some (codes "t"))))
+    -- its events go to a file
+    ∷ asks (codes "call --db=d --book=b --events=e --partner=p")
+    (said_call (record { files = e_beside; partner = codes "p"; fails = false; terms = terms_of 300 86400 None }))
     -- the partner is required
     ∷ bad (codes "call --db=d --book=b")
     -- it takes no admission

@@ -94,6 +94,10 @@ own_duration = numbered 1 MOST_DURATION (defaulted (codes "longest") (codes "864
 abbrev pub own_trace : Rule
 own_trace = optional (codes "trace")
 
+-- the option for the file to which what happens is appended
+abbrev pub own_events : Rule
+own_events = optional (codes "events")
+
 -- the command with this name and these arguments
 abbrev pub app_with : Text → List Rule → App
 app_with name rules = fold with_rule (new_app name) rules

@@ -1,4 +1,4 @@
--- The command lines of `init`, `migrate`, `check` and `show`, which only name one file.
+-- The command lines of `init`, `migrate`, `check`, `reload` and `show`, which only name one file.
 use Rattle.std.specs.Prelude.{[], ◌∷◌, codes}
 use Rattle.clap.specs.Words.{App}
 use Rattle.oftp_command_line.specs.Arguments.{app_with, own_book, own_database, word}
@@ -14,6 +14,10 @@ migrate_app = app_with (codes "migrate") (own_database ∷ [])
 -- the declaration of `check` to the parser
 abbrev pub check_app : App
 check_app = app_with (codes "check") (own_book ∷ [])
+
+-- the declaration of `reload` to the parser
+abbrev pub reload_app : App
+reload_app = app_with (codes "reload") (own_database ∷ [])
 
 -- the declaration of `show` to the parser
 abbrev pub show_app : App

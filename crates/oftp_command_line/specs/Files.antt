@@ -1,18 +1,19 @@
--- The two files that most commands name.
-use Rattle.std.specs.Prelude.{List, codes}
-use Rattle.clap.specs.Words.{Row, Text}
+-- The files that most commands name.
+use Rattle.std.specs.Prelude.{List, Option, codes, option_map}
+use Rattle.clap.specs.Words.{Row, Text, first_of}
 use Rattle.oftp_command_line.specs.Arguments.{given}
 use Rattle.oftp_command_line.specs.declared.line.commands.files.Files.{Files}
 
--- the database and the book
+-- the database, the book, and the file of the events
 pub record FilesSaid : Type 0 where
   pub database : Text
   pub book : Text
+  pub events : Option Text
 
 -- those of the files that were read
 abbrev pub files_said : Files → FilesSaid
-files_said f = record { database = f.database.now; book = f.book.now }
+files_said f = record { database = f.database.now; book = f.book.now; events = option_map (λ s. s.now) f.events }
 
 -- the files with these values
 abbrev pub files_with : List Row → FilesSaid
-files_with rows = record { database = given (codes "db") rows; book = given (codes "book") rows }
+files_with rows = record { database = given (codes "db") rows; book = given (codes "book") rows; events = first_of (codes "events") rows }

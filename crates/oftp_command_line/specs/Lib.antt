@@ -8,5 +8,6 @@ pub mod Line
 pub mod OperatorLines
 pub mod RegisterLines
 pub mod ServiceLines
+pub mod StandingLines
 pub mod Terms
 pub mod Told

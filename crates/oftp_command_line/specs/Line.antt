@@ -4,11 +4,12 @@ use Rattle.std.specs.Option.{option_or}
 use Rattle.clap.specs.Words.{App, Row, Text}
 use Rattle.oftp_command_line.specs.Arguments.{given, named, taken}
 use Rattle.oftp_command_line.specs.FeedLine.{FeedSaid, feed_app, feed_in, feed_said}
-use Rattle.oftp_command_line.specs.FileLines.{check_app, init_app, migrate_app, show_app}
+use Rattle.oftp_command_line.specs.FileLines.{check_app, init_app, migrate_app, reload_app, show_app}
 use Rattle.oftp_command_line.specs.FolderLines.{CollectSaid, OfferSaid, collect_app, collect_said, collect_with, offer_app, offer_in, offer_said}
-use Rattle.oftp_command_line.specs.OperatorLines.{RefuseSaid, ReleaseSaid, SubmitSaid, refuse_app, refuse_said, refuse_with, release_app, release_said, release_with, submit_app, submit_in, submit_said}
-use Rattle.oftp_command_line.specs.RegisterLines.{BackupSaid, FetchSaid, ReportSaid, backup_app, backup_said, backup_with, fetch_app, fetch_said, fetch_with, report_app, report_in, report_said}
-use Rattle.oftp_command_line.specs.ServiceLines.{CallSaid, HttpSaid, ListenSaid, RunSaid, call_app, call_said, call_with, http_app, http_said, http_with, listen_app, listen_said, listen_with, run_app, run_said, run_with}
+use Rattle.oftp_command_line.specs.OperatorLines.{RefuseSaid, ReleaseSaid, ResendSaid, SubmitSaid, refuse_app, refuse_said, refuse_with, release_app, release_said, release_with, resend_app, resend_said, resend_with, submit_app, submit_in, submit_said}
+use Rattle.oftp_command_line.specs.RegisterLines.{AuditSaid, BackupSaid, FetchSaid, ReportSaid, audit_app, audit_said, audit_with, backup_app, backup_said, backup_with, fetch_app, fetch_said, fetch_with, report_app, report_in, report_said}
+use Rattle.oftp_command_line.specs.ServiceLines.{CallSaid, HttpSaid, ListenSaid, RunSaid, StopSaid, call_app, call_said, call_with, http_app, http_said, http_with, listen_app, listen_said, listen_with, run_app, run_said, run_with, stop_app, stop_said, stop_with}
+use Rattle.oftp_command_line.specs.StandingLines.{HealthSaid, StatusSaid, health_app, health_said, health_with, settled_app, status_app, status_said, status_with}
 use Rattle.oftp_command_line.specs.declared.line.Line.{Line}
 use Rattle.oftp_command_line.specs.declared.line.Line.TheVariants as line
 use Rattle.oftp_command_line.specs.declared.line.commands.Name.{Name}
@@ -23,14 +24,21 @@ pub data Said : Type 0 where
   said_check : Text → Said
   said_submit : SubmitSaid → Said
   said_offer : OfferSaid → Said
+  said_resend : ResendSaid → Said
   said_release : ReleaseSaid → Said
   said_refuse : RefuseSaid → Said
   said_fetch : FetchSaid → Said
   said_collect : CollectSaid → Said
   said_report : ReportSaid → Said
+  said_status : StatusSaid → Said
+  said_health : HealthSaid → Said
+  said_settled : Text → Said
   said_backup : BackupSaid → Said
+  said_stop : StopSaid → Said
+  said_reload : Text → Said
   said_show : Text → Said
   said_feed : FeedSaid → Said
+  said_audit : AuditSaid → Said
   said_run : RunSaid → Said
   said_listen : ListenSaid → Said
   said_call : CallSaid → Said
@@ -45,14 +53,21 @@ said (line.Migrate database) = said_migrate database.now
 said (line.Check book) = said_check book.now
 said (line.Submit s) = said_submit (submit_said s)
 said (line.Offer o) = said_offer (offer_said o)
+said (line.Resend r) = said_resend (resend_said r)
 said (line.Release r) = said_release (release_said r)
 said (line.Refuse r) = said_refuse (refuse_said r)
 said (line.Fetch f) = said_fetch (fetch_said f)
 said (line.Collect c) = said_collect (collect_said c)
 said (line.Report r) = said_report (report_said r)
+said (line.Status s) = said_status (status_said s)
+said (line.Health h) = said_health (health_said h)
+said (line.Settled database) = said_settled database.now
 said (line.Backup b) = said_backup (backup_said b)
+said (line.Stop s) = said_stop (stop_said s)
+said (line.Reload database) = said_reload database.now
 said (line.Show input) = said_show input.now
 said (line.Feed f) = said_feed (feed_said f)
+said (line.Audit a) = said_audit (audit_said a)
 said (line.Run r) = said_run (run_said r)
 said (line.Listen l) = said_listen (listen_said l)
 said (line.Call c) = said_call (call_said c)
@@ -67,10 +82,11 @@ asked_by = named ((codes "help", said_help) ∷ (codes "--help", said_help) ∷ 
 abbrev pub command_names : List (Text × Name)
 command_names = (codes "init", name.Init) ∷ (codes "migrate", name.Migrate)
     ∷ (codes "check", name.Check) ∷ (codes "submit", name.Submit) ∷ (codes "offer", name.Offer)
-    ∷ (codes "release", name.Release) ∷ (codes "refuse", name.Refuse)
+    ∷ (codes "resend", name.Resend) ∷ (codes "release", name.Release) ∷ (codes "refuse", name.Refuse)
     ∷ (codes "fetch", name.Fetch) ∷ (codes "collect", name.Collect) ∷ (codes "report", name.Report)
-    ∷ (codes "backup", name.Backup) ∷ (codes "show", name.Show)
-    ∷ (codes "feed", name.Feed) ∷ (codes "run", name.Run)
+    ∷ (codes "status", name.Status) ∷ (codes "health", name.Health) ∷ (codes "settled", name.Settled)
+    ∷ (codes "backup", name.Backup) ∷ (codes "stop", name.Stop) ∷ (codes "reload", name.Reload) ∷ (codes "show", name.Show)
+    ∷ (codes "feed", name.Feed) ∷ (codes "audit", name.Audit) ∷ (codes "run", name.Run)
     ∷ (codes "listen", name.Listen) ∷ (codes "call", name.Call) ∷ (codes "http", name.Http) ∷ []
 
 -- the command with this name
@@ -84,14 +100,21 @@ app_named name.Migrate = migrate_app
 app_named name.Check = check_app
 app_named name.Submit = submit_app
 app_named name.Offer = offer_app
+app_named name.Resend = resend_app
 app_named name.Release = release_app
 app_named name.Refuse = refuse_app
 app_named name.Fetch = fetch_app
 app_named name.Collect = collect_app
 app_named name.Report = report_app
+app_named name.Status = status_app
+app_named name.Health = health_app
+app_named name.Settled = settled_app
 app_named name.Backup = backup_app
+app_named name.Stop = stop_app
+app_named name.Reload = reload_app
 app_named name.Show = show_app
 app_named name.Feed = feed_app
+app_named name.Audit = audit_app
 app_named name.Run = run_app
 app_named name.Listen = listen_app
 app_named name.Call = call_app
@@ -104,14 +127,21 @@ said_by name.Migrate rows = Some (said_migrate (given (codes "db") rows))
 said_by name.Check rows = Some (said_check (given (codes "book") rows))
 said_by name.Submit rows = option_map said_submit (submit_in rows)
 said_by name.Offer rows = option_map said_offer (offer_in rows)
+said_by name.Resend rows = Some (said_resend (resend_with rows))
 said_by name.Release rows = Some (said_release (release_with rows))
 said_by name.Refuse rows = Some (said_refuse (refuse_with rows))
 said_by name.Fetch rows = Some (said_fetch (fetch_with rows))
 said_by name.Collect rows = Some (said_collect (collect_with rows))
 said_by name.Report rows = option_map said_report (report_in rows)
+said_by name.Status rows = Some (said_status (status_with rows))
+said_by name.Health rows = Some (said_health (health_with rows))
+said_by name.Settled rows = Some (said_settled (given (codes "db") rows))
 said_by name.Backup rows = Some (said_backup (backup_with rows))
+said_by name.Stop rows = Some (said_stop (stop_with rows))
+said_by name.Reload rows = Some (said_reload (given (codes "db") rows))
 said_by name.Show rows = Some (said_show (given (codes "in") rows))
 said_by name.Feed rows = option_map said_feed (feed_in rows)
+said_by name.Audit rows = Some (said_audit (audit_with rows))
 said_by name.Run rows = Some (said_run (run_with rows))
 said_by name.Listen rows = Some (said_listen (listen_with rows))
 said_by name.Call rows = Some (said_call (call_with rows))
@@ -133,5 +163,9 @@ only_prints said_help = true
 only_prints said_version = true
 only_prints (said_check book) = true
 only_prints (said_report report) = true
+only_prints (said_status status) = true
+only_prints (said_health health) = true
+only_prints (said_settled database) = true
 only_prints (said_show input) = true
+only_prints (said_audit audit) = true
 only_prints command = false

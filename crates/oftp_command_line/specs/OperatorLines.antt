@@ -1,12 +1,13 @@
--- The command lines of `submit`, `release` and `refuse`, which are operator's calls.
+-- The command lines of `submit`, `resend`, `release` and `refuse`, which are operator's calls.
 use Rattle.std.specs.Prelude.{ℕ, List, [], ◌∷◌, Option, codes, option_map}
-use Rattle.clap.specs.Words.{App, Row, Text}
+use Rattle.clap.specs.Words.{App, Row, Text, first_of}
 use Rattle.oftp_vfile.specs.declared.format.Format.{Format}
 use Rattle.oftp_vfile.specs.declared.format.Format.TheVariants as format
-use Rattle.oftp_command_line.specs.Arguments.{app_with, defaulted, file_number, given, named, needed, number, numbered, own_book, own_database, word}
+use Rattle.oftp_command_line.specs.Arguments.{app_with, defaulted, file_number, given, named, needed, number, numbered, optional, own_book, own_database, own_events, word}
 use Rattle.oftp_command_line.specs.Files.{FilesSaid, files_said, files_with}
 use Rattle.oftp_command_line.specs.declared.line.commands.operators.Refuse.{Refuse}
 use Rattle.oftp_command_line.specs.declared.line.commands.operators.Release.{Release}
+use Rattle.oftp_command_line.specs.declared.line.commands.operators.Resend.{Resend}
 use Rattle.oftp_command_line.specs.declared.line.commands.operators.Submit.{Submit}
 use Rattle.oftp_command_line.specs.declared.line.arguments.TheConstants.{MOST_LONGEST, MOST_REASON}
 
@@ -14,8 +15,8 @@ use Rattle.oftp_command_line.specs.declared.line.arguments.TheConstants.{MOST_LO
 pub record SubmitSaid : Type 0 where
   pub files : FilesSaid
   pub dataset : Text
-  pub date : Text
-  pub time : Text
+  pub date : Option Text
+  pub time : Option Text
   pub to : Text
   pub format : Format
   pub longest : ℕ
@@ -27,8 +28,8 @@ abbrev pub submit_said : Submit → SubmitSaid
 submit_said s = record {
   files = files_said s.files;
   dataset = s.dataset.now;
-  date = s.date.now;
-  time = s.time.now;
+  date = option_map (λ d. d.now) s.date;
+  time = option_map (λ t. t.now) s.time;
   to = s.to.now;
   format = s.format;
   longest = s.longest;
@@ -38,8 +39,8 @@ submit_said s = record {
 
 -- the declaration of `submit` to the parser
 unfoldable pub submit_app : App
-submit_app = app_with (codes "submit") (own_database ∷ own_book ∷ needed (codes "dataset") ∷ needed (codes "date")
-    ∷ needed (codes "time") ∷ needed (codes "to") ∷ needed (codes "format")
+submit_app = app_with (codes "submit") (own_database ∷ own_book ∷ own_events ∷ needed (codes "dataset") ∷ optional (codes "date")
+    ∷ optional (codes "time") ∷ needed (codes "to") ∷ needed (codes "format")
     ∷ numbered 0 MOST_LONGEST (defaulted (codes "longest") (codes "0"))
     ∷ defaulted (codes "description") [] ∷ word (codes "file") ∷ [])
 
@@ -53,8 +54,8 @@ abbrev pub submit_with : Format → List Row → SubmitSaid
 submit_with format rows = record {
   files = files_with rows;
   dataset = given (codes "dataset") rows;
-  date = given (codes "date") rows;
-  time = given (codes "time") rows;
+  date = first_of (codes "date") rows;
+  time = first_of (codes "time") rows;
   to = given (codes "to") rows;
   format = format;
   longest = number (codes "longest") rows;
@@ -65,6 +66,35 @@ submit_with format rows = record {
 -- the command `submit` with these values; `None` if they name no format
 abbrev pub submit_in : List Row → Option SubmitSaid
 submit_in rows = option_map (λ format. submit_with format rows) (format_of (given (codes "format") rows))
+
+-- the options and words of `resend`
+pub record ResendSaid : Type 0 where
+  pub files : FilesSaid
+  pub date : Option Text
+  pub time : Option Text
+  pub no : ℕ
+
+-- those of the command that was read
+abbrev pub resend_said : Resend → ResendSaid
+resend_said r = record {
+  files = files_said r.files;
+  date = option_map (λ d. d.now) r.date;
+  time = option_map (λ t. t.now) r.time;
+  no = r.no;
+}
+
+-- the declaration of `resend` to the parser
+unfoldable pub resend_app : App
+resend_app = app_with (codes "resend") (own_database ∷ own_book ∷ own_events ∷ optional (codes "date") ∷ optional (codes "time") ∷ file_number ∷ [])
+
+-- the command `resend` with these values
+abbrev pub resend_with : List Row → ResendSaid
+resend_with rows = record {
+  files = files_with rows;
+  date = first_of (codes "date") rows;
+  time = first_of (codes "time") rows;
+  no = number (codes "no") rows;
+}
 
 -- the options and words of `release`
 pub record ReleaseSaid : Type 0 where
@@ -77,7 +107,7 @@ release_said r = record { files = files_said r.files; no = r.no }
 
 -- the declaration of `release` to the parser
 unfoldable pub release_app : App
-release_app = app_with (codes "release") (own_database ∷ own_book ∷ file_number ∷ [])
+release_app = app_with (codes "release") (own_database ∷ own_book ∷ own_events ∷ file_number ∷ [])
 
 -- the command `release` with these values
 abbrev pub release_with : List Row → ReleaseSaid
@@ -101,7 +131,7 @@ refuse_said r = record {
 
 -- the declaration of `refuse` to the parser
 unfoldable pub refuse_app : App
-refuse_app = app_with (codes "refuse") (own_database ∷ own_book ∷ file_number
+refuse_app = app_with (codes "refuse") (own_database ∷ own_book ∷ own_events ∷ file_number
     ∷ numbered 0 MOST_REASON (word (codes "reason")) ∷ word (codes "text") ∷ [])
 
 -- the command `refuse` with these values

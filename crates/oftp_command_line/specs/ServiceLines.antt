@@ -1,13 +1,14 @@
--- The command lines of `run`, `listen`, `call` and `http`, which are services over sockets.
-use Rattle.std.specs.Prelude.{ℕ, List, [], ◌∷◌, Option, codes, option_map}
+-- The command lines of `run`, `listen`, `call` and `http`, which are services over sockets, and of `stop`, which ends one.
+use Rattle.std.specs.Prelude.{ℕ, Bool, List, [], ◌∷◌, Option, codes, option_map}
 use Rattle.clap.specs.Words.{App, Row, Text, first_of}
-use Rattle.oftp_command_line.specs.Arguments.{app_with, callers, given, needed, number, own_address, own_admission, own_book, own_database, own_duration, own_host, own_http_port, own_interval, own_jobs, own_patience, own_port, own_trace}
+use Rattle.oftp_command_line.specs.Arguments.{app_with, callers, flag, given, has_flag, needed, number, own_address, own_admission, own_book, own_database, own_duration, own_events, own_host, own_http_port, own_interval, own_jobs, own_patience, own_port, own_trace}
 use Rattle.oftp_command_line.specs.Files.{FilesSaid, files_said, files_with}
 use Rattle.oftp_command_line.specs.Terms.{EntranceSaid, TermsSaid, entrance_said, entrance_with, terms_said, terms_with}
 use Rattle.oftp_command_line.specs.declared.line.commands.services.Call.{Call}
 use Rattle.oftp_command_line.specs.declared.line.commands.services.Http.{Http}
 use Rattle.oftp_command_line.specs.declared.line.commands.services.Listen.{Listen}
 use Rattle.oftp_command_line.specs.declared.line.commands.services.Run.{Run}
+use Rattle.oftp_command_line.specs.declared.line.commands.services.Stop.{Stop}
 
 -- the options of `run`
 pub record RunSaid : Type 0 where
@@ -34,7 +35,7 @@ run_said r = record {
 -- the declaration of `run` to the parser
 unfoldable pub run_app : App
 run_app = app_with (codes "run") (own_database ∷ own_book ∷ own_port (codes "3305") ∷ own_address ∷ own_http_port
-    ∷ own_host ∷ own_interval ∷ own_admission ∷ own_patience ∷ own_duration ∷ own_trace ∷ own_jobs ∷ [])
+    ∷ own_host ∷ own_interval ∷ own_admission ∷ own_patience ∷ own_duration ∷ own_trace ∷ own_events ∷ own_jobs ∷ [])
 
 -- the command `run` with these values
 abbrev pub run_with : List Row → RunSaid
@@ -47,6 +48,23 @@ run_with rows = record {
   terms = terms_with rows;
   jobs = number (codes "jobs") rows;
 }
+
+-- the options of `stop`
+pub record StopSaid : Type 0 where
+  pub database : Text
+  pub now : Bool
+
+-- those of the command that was read
+abbrev pub stop_said : Stop → StopSaid
+stop_said s = record { database = s.database.now; now = s.now }
+
+-- the declaration of `stop` to the parser
+unfoldable pub stop_app : App
+stop_app = app_with (codes "stop") (own_database ∷ flag (codes "now") ∷ [])
+
+-- the command `stop` with these values
+abbrev pub stop_with : List Row → StopSaid
+stop_with rows = record { database = given (codes "db") rows; now = has_flag (codes "now") rows }
 
 -- the options of `listen`
 pub record ListenSaid : Type 0 where
@@ -67,7 +85,7 @@ listen_said l = record {
 -- the declaration of `listen` to the parser
 unfoldable pub listen_app : App
 listen_app = app_with (codes "listen") (own_database ∷ own_book ∷ own_port (codes "3305") ∷ own_address
-    ∷ callers (codes "sessions") ∷ own_admission ∷ own_patience ∷ own_duration ∷ own_trace ∷ [])
+    ∷ callers (codes "sessions") ∷ own_admission ∷ own_patience ∷ own_duration ∷ own_trace ∷ own_events ∷ [])
 
 -- the command `listen` with these values
 abbrev pub listen_with : List Row → ListenSaid
@@ -82,6 +100,7 @@ listen_with rows = record {
 pub record CallSaid : Type 0 where
   pub files : FilesSaid
   pub partner : Text
+  pub fails : Bool
   pub terms : TermsSaid
 
 -- those of the command that was read
@@ -89,19 +108,21 @@ abbrev pub call_said : Call → CallSaid
 call_said c = record {
   files = files_said c.files;
   partner = c.partner.now;
+  fails = c.fails;
   terms = terms_said c.terms;
 }
 
 -- the declaration of `call` to the parser
 unfoldable pub call_app : App
-call_app = app_with (codes "call") (own_database ∷ own_book ∷ needed (codes "partner") ∷ own_patience ∷ own_duration
-    ∷ own_trace ∷ [])
+call_app = app_with (codes "call") (own_database ∷ own_book ∷ needed (codes "partner") ∷ flag (codes "fail")
+    ∷ own_patience ∷ own_duration ∷ own_trace ∷ own_events ∷ [])
 
 -- the command `call` with these values
 abbrev pub call_with : List Row → CallSaid
 call_with rows = record {
   files = files_with rows;
   partner = given (codes "partner") rows;
+  fails = has_flag (codes "fail") rows;
   terms = terms_with rows;
 }
 

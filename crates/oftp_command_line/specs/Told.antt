@@ -9,9 +9,10 @@ use Rattle.oftp_command_line.specs.Arguments.{IsNumber}
 use Rattle.oftp_command_line.specs.FeedLine.{feed_app}
 use Rattle.oftp_command_line.specs.FolderLines.{collect_app, offer_app}
 use Rattle.oftp_command_line.specs.Line.{app_named}
-use Rattle.oftp_command_line.specs.OperatorLines.{refuse_app, release_app, submit_app}
-use Rattle.oftp_command_line.specs.RegisterLines.{backup_app, fetch_app, report_app}
-use Rattle.oftp_command_line.specs.ServiceLines.{call_app, http_app, listen_app, run_app}
+use Rattle.oftp_command_line.specs.OperatorLines.{refuse_app, release_app, resend_app, submit_app}
+use Rattle.oftp_command_line.specs.RegisterLines.{audit_app, backup_app, fetch_app, report_app}
+use Rattle.oftp_command_line.specs.ServiceLines.{call_app, http_app, listen_app, run_app, stop_app}
+use Rattle.oftp_command_line.specs.StandingLines.{health_app, status_app}
 use Rattle.oftp_command_line.specs.declared.line.arguments.Argument.{Argument}
 use Rattle.oftp_command_line.specs.declared.line.arguments.Kind.{Kind}
 use Rattle.oftp_command_line.specs.declared.line.arguments.Kind.TheVariants.{Word, Needed, Optional, Flag, Defaulted}
@@ -68,14 +69,21 @@ word_of name.Migrate = codes "migrate"
 word_of name.Check = codes "check"
 word_of name.Submit = codes "submit"
 word_of name.Offer = codes "offer"
+word_of name.Resend = codes "resend"
 word_of name.Release = codes "release"
 word_of name.Refuse = codes "refuse"
 word_of name.Fetch = codes "fetch"
 word_of name.Collect = codes "collect"
 word_of name.Report = codes "report"
+word_of name.Status = codes "status"
+word_of name.Health = codes "health"
+word_of name.Settled = codes "settled"
 word_of name.Backup = codes "backup"
+word_of name.Stop = codes "stop"
+word_of name.Reload = codes "reload"
 word_of name.Show = codes "show"
 word_of name.Feed = codes "feed"
+word_of name.Audit = codes "audit"
 word_of name.Run = codes "run"
 word_of name.Listen = codes "listen"
 word_of name.Call = codes "call"
@@ -83,7 +91,7 @@ word_of name.Http = codes "http"
 
 -- what a proof unfolds to compute the declaration of any command
 unfoldable pub each_app : ⊤
-unfolding backup_app call_app collect_app feed_app fetch_app http_app listen_app offer_app refuse_app release_app report_app run_app submit_app
+unfolding audit_app backup_app call_app collect_app feed_app fetch_app health_app http_app listen_app offer_app refuse_app release_app report_app resend_app run_app status_app stop_app submit_app
 each_app = tt
 
 -- a command of the table, with its name

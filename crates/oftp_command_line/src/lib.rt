@@ -4,7 +4,7 @@
 mod line;
 
 pub use line::{
-    Argument, Backup, Call, Collect, Declaration, Entrance, Feed, FeedRole, Fetch, Files, Http,
-    Kind, Line, LineFault, Listen, Offer, Refuse, Release, Report, Run, SessionTerms, Submit,
-    VERSION, declarations, help, line_of,
+    Argument, Audit, Backup, Call, Collect, Declaration, Entrance, Feed, FeedRole, Fetch, Files,
+    Health, Http, Kind, Line, LineFault, Listen, Offer, Refuse, Release, Report, Resend, Run,
+    SessionTerms, Status, Stop, Submit, VERSION, declarations, help, line_of,
 };

@@ -14,12 +14,14 @@ mod values;
 use arguments::command;
 pub use arguments::{Argument, Kind};
 use commands::Name;
+pub use commands::audit::Audit;
 pub use commands::feed::{Feed, FeedRole};
 pub use commands::files::Files;
 pub use commands::folders::{Collect, Offer};
-pub use commands::operators::{Refuse, Release, Submit};
+pub use commands::operators::{Refuse, Release, Resend, Submit};
 pub use commands::registers::{Backup, Fetch, Report};
-pub use commands::services::{Call, Http, Listen, Run};
+pub use commands::services::{Call, Http, Listen, Run, Stop};
+pub use commands::standings::{Health, Status};
 pub use commands::terms::{Entrance, SessionTerms};
 use std::alloc::{AllocError, Global};
 pub use table::{Declaration, declarations};
@@ -53,6 +55,8 @@ pub enum Line<'a> {
     Submit(Submit<'a>),
     /// Submits the files of a folder to be sent to a partner.
     Offer(Offer<'a>),
+    /// Submits the content of an outgoing file again.
+    Resend(Resend<'a>),
     /// Issues the End-to-End Response of an incoming file.
     Release(Release<'a>),
     /// Issues the Negative End Response of an incoming file.
@@ -63,8 +67,24 @@ pub enum Line<'a> {
     Collect(Collect<'a>),
     /// Prints a report of the database.
     Report(Report<'a>),
+    /// Tells how the station stands.
+    Status(Status<'a>),
+    /// Tells whether something is overdue.
+    Health(Health<'a>),
+    /// Tells which files are still open.
+    Settled {
+        /// The database's file.
+        database: &'a str,
+    },
     /// Copies the database to a file.
     Backup(Backup<'a>),
+    /// Has the station that runs over the database end.
+    Stop(Stop<'a>),
+    /// Has the station that runs over the database read its book again.
+    Reload {
+        /// The database's file.
+        database: &'a str,
+    },
     /// Prints the commands that one side of a session sent.
     Show {
         /// The file with its octets.
@@ -72,6 +92,8 @@ pub enum Line<'a> {
     },
     /// Runs one session from file to file.
     Feed(Feed<'a>),
+    /// Tells what is unsound in the database, and what it has lost of an older one.
+    Audit(Audit<'a>),
     /// Runs a resident station.
     Run(Run<'a>),
     /// Serves sessions of partners that call.
@@ -90,7 +112,10 @@ impl Line<'_> {
         match self {
             Line::Help | Line::Version => true,
             Line::Check { .. } | Line::Report(_) | Line::Show { .. } => true,
+            Line::Audit(_) => true,
+            Line::Status(_) | Line::Health(_) | Line::Settled { .. } => true,
             Line::Init { .. } | Line::Migrate { .. } | Line::Backup(_) => false,
+            Line::Stop(_) | Line::Reload { .. } | Line::Resend(_) => false,
             Line::Submit(_) | Line::Release(_) | Line::Refuse(_) => false,
             Line::Offer(_) | Line::Collect(_) | Line::Fetch(_) => false,
             Line::Feed(_) | Line::Run(_) | Line::Listen(_) | Line::Call(_) | Line::Http(_) => false,

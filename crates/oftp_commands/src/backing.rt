@@ -2,59 +2,99 @@
 
 use oftp_asking::Beside;
 use oftp_channel::{Ending, Request};
-use oftp_database::{self as database, DatabaseOffice};
+use oftp_database::{self as database, WatchedOffice};
 use oftp_engine::{Operator, Port, RunFault};
-use oftp_files::book_of;
+use oftp_files::{EventFile, Noted, book_of, open_events};
 use oftp_life::Life;
 use oftp_outcomes::{Fault, Outcome};
 use oftp_partners::Book;
-use oftp_requests::{Backend, look_up, operate};
+use oftp_requests::{Again, Backend, look_up, operate, resend};
 use oftp_store::StoreFault;
+use oftp_watching::News;
 use std::alloc::Global;
 use std::io::Write;
+use std::mem;
 
 /// What lets the database's files be copied.
 const COPY: &[u8] = b"copy";
 
+/// Where the events of a command go, if it has the database itself.
+#[derive(Clone, Copy)]
+pub(crate) struct Telling<'t> {
+    pub(crate) rt: &'t HostRuntime,
+    /// Where they are noted.
+    pub(crate) news: &'t News,
+    /// The file to which they are appended, if there is one.
+    pub(crate) path: Option<&'t str>,
+    /// The book, which isn't that file.
+    pub(crate) book: &'t str,
+}
+
+impl<'t> Telling<'t> {
+    /// Where they are noted, if they are told.
+    fn noting(self) -> Option<&'t News> {
+        match self.path {
+            Some(_) => Some(self.news),
+            None => None,
+        }
+    }
+
+    /// Opens their file.
+    ///
+    /// # Errors
+    /// Those of [`open_events`].
+    fn opened(self, database: &str) -> Result<Option<EventFile<'t>>, Fault> {
+        open_events(self.rt, self.path, self.news, &[self.book], Some(database))
+    }
+}
+
 /// Who carries out the requests of a command.
 #[derive(Drop)]
-pub(crate) enum Backing<'a, 'b> {
+pub(crate) enum Backing<'a, 'b, 't> {
     /// The database, which is open and locked here.
-    Own(Own<'b>),
+    Own(Own<'b, 't>),
     /// The station that has it open.
     Station(Beside<'a>),
 }
 
-impl<'a, 'b> Backing<'a, 'b> {
+impl<'a, 'b, 't> Backing<'a, 'b, 't> {
     /// The station that runs over a database, or else the database, which is opened. After an error of the store, such as a locked database, a
-    /// station that has started meanwhile is asked.
+    /// station that has started meanwhile is asked. Only the database itself writes events.
     ///
     /// # Errors
-    /// Those of [`database::live_shared`].
+    /// Those of [`database::live_shared`], and of the events' file.
     pub(crate) fn opened(
         rt: &'a HostRuntime,
         database: &'a str,
         book: Option<&'b Book>,
-    ) -> Result<Backing<'a, 'b>, Fault> {
-        Wanted { rt, database, book }.opened()
+        telling: Option<Telling<'t>>,
+    ) -> Result<Backing<'a, 'b, 't>, Fault> {
+        let wanted = Wanted {
+            rt,
+            database,
+            book,
+            telling,
+        };
+        wanted.opened()
     }
 }
 
 /// A database for which somebody is wanted who carries out requests, by a book if there is one.
 #[derive(Clone, Copy)]
-struct Wanted<'a, 'b> {
+struct Wanted<'a, 'b, 't> {
     rt: &'a HostRuntime,
     database: &'a str,
     book: Option<&'b Book>,
+    telling: Option<Telling<'t>>,
 }
 
-impl<'a, 'b> Wanted<'a, 'b> {
+impl<'a, 'b, 't> Wanted<'a, 'b, 't> {
     /// The station that runs over it, or else the database.
-    fn opened(self) -> Result<Backing<'a, 'b>, Fault> {
+    fn opened(self) -> Result<Backing<'a, 'b, 't>, Fault> {
         match Beside::reached(self.rt, self.database) {
             Some(station) => Ok(self.by_station(station)),
             None => {
-                let life = database::live_shared(self.rt, self.database);
+                let life = database::live_shared(self.rt, self.database, self.noting());
                 self.by_itself(life)
             }
         }
@@ -63,30 +103,41 @@ impl<'a, 'b> Wanted<'a, 'b> {
     /// The database if it could be opened, or else a station that has started meanwhile.
     fn by_itself(
         self,
-        opened: Result<Life<DatabaseOffice>, Fault>,
-    ) -> Result<Backing<'a, 'b>, Fault> {
+        opened: Result<Life<WatchedOffice<'t>>, Fault>,
+    ) -> Result<Backing<'a, 'b, 't>, Fault> {
         match opened {
-            Ok(life) => Ok(self.by_own(life)),
+            Ok(life) => self.by_own(life),
             Err(fault) => self.after(fault),
         }
     }
 
+    /// Where changes are noted, if events are written.
+    fn noting(self) -> Option<&'t News> {
+        self.telling?.noting()
+    }
+
     /// The database, which is open.
-    fn by_own(self, life: Life<DatabaseOffice>) -> Backing<'a, 'b> {
-        Backing::Own(Own {
+    fn by_own(self, life: Life<WatchedOffice<'t>>) -> Result<Backing<'a, 'b, 't>, Fault> {
+        let events = match self.telling {
+            Some(telling) => telling.opened(self.database)?,
+            None => None,
+        };
+        Ok(Backing::Own(Own {
             alloc: self.rt.alloc(),
             book: self.book,
             life,
-        })
+            noted: Vec::new(self.rt.alloc()),
+            events,
+        }))
     }
 
     /// The station.
-    fn by_station(self, station: Beside<'a>) -> Backing<'a, 'b> {
+    fn by_station(self, station: Beside<'a>) -> Backing<'a, 'b, 't> {
         Backing::Station(station)
     }
 
     /// The station that runs over the database, after it couldn't be opened for this error, if that is one of the store.
-    fn after(self, fault: Fault) -> Result<Backing<'a, 'b>, Fault> {
+    fn after(self, fault: Fault) -> Result<Backing<'a, 'b, 't>, Fault> {
         let Fault::Store(StoreFault::Store) = fault else {
             return Err(fault);
         };
@@ -97,7 +148,7 @@ impl<'a, 'b> Wanted<'a, 'b> {
     }
 }
 
-impl Backend for Backing<'_, '_> {
+impl Backend for Backing<'_, '_, '_> {
     fn ask(&mut self, request: &Request<'_>, out: &mut impl Write) -> Result<Ending, Fault> {
         match self {
             Backing::Own(own) => own.ask(request, out),
@@ -106,15 +157,49 @@ impl Backend for Backing<'_, '_> {
     }
 }
 
-/// A database that a command has opened, with the book that goes with its requests if it has read one.
-#[derive(Drop)]
-pub(crate) struct Own<'b> {
+/// A database that a command has opened, with the book that goes with its requests if it has read one. The events of a request are written
+/// before the next one, or as the database is let go: its answer is out then.
+pub(crate) struct Own<'b, 't> {
     alloc: Global,
     book: Option<&'b Book>,
-    life: Life<DatabaseOffice>,
+    life: Life<WatchedOffice<'t>>,
+    // The events that are to be written.
+    noted: Vec<Noted>,
+    events: Option<EventFile<'t>>,
 }
 
-impl Own<'_> {
+impl Drop for Own<'_, '_> {
+    fn drop(self) {
+        let Own {
+            alloc: _,
+            book: _,
+            life,
+            noted,
+            events,
+        } = self;
+        let mut life = life;
+        if let Some(events) = &events {
+            events.tell_all(noted, &mut life);
+        }
+    }
+}
+
+impl Own<'_, '_> {
+    /// Notes the events of a request.
+    fn note(&mut self) {
+        if let Some(events) = &self.events {
+            events.note_all(None, events.take(), &mut self.noted);
+        }
+    }
+
+    /// Writes the events of the requests before.
+    fn tell(&mut self) {
+        let noted = mem::replace(&mut self.noted, Vec::new(self.alloc));
+        if let Some(events) = &self.events {
+            events.tell_all(noted, &mut self.life);
+        }
+    }
+
     /// Carries out an operator's call.
     fn operate(&mut self, book: &[u8], call: &Operator<'_>) -> Result<Ending, Fault> {
         let outcome = match self.book {
@@ -126,12 +211,39 @@ impl Own<'_> {
         };
         Ok(Ending::Outcome(outcome))
     }
+
+    /// Submits a file again.
+    fn resend(&mut self, book: &[u8], again: &Again<'_>) -> Result<Ending, Fault> {
+        let outcome = match self.book {
+            Some(book) => resend(self.alloc, &mut self.life, book, again)?,
+            None => {
+                let book = book_of(self.alloc, book)?;
+                resend(self.alloc, &mut self.life, &book, again)?
+            }
+        };
+        Ok(Ending::Outcome(outcome))
+    }
 }
 
-impl Backend for Own<'_> {
+impl Backend for Own<'_, '_> {
     fn ask(&mut self, request: &Request<'_>, out: &mut impl Write) -> Result<Ending, Fault> {
+        self.tell();
         match *request {
-            Request::Operate { book, call } => self.operate(book, &call),
+            Request::Operate { book, call } => {
+                let ending = self.operate(book, &call);
+                self.note();
+                ending
+            }
+            Request::Resend {
+                book,
+                no,
+                date,
+                time,
+            } => {
+                let ending = self.resend(book, &Again { no, date, time });
+                self.note();
+                ending
+            }
             Request::Backup => let_copy(out),
             _ => look_up(self.alloc, &mut self.life, request, &mut Port::new(out, 0)),
         }

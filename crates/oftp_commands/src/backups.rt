@@ -5,11 +5,12 @@ use oftp_channel::{Ending, Request};
 use oftp_command_line::Backup;
 use oftp_database as database;
 use oftp_files::{
-    Access, Draft, Name, Place, draft_of, file_fault, log_of, make_private, open_input, place_of,
-    remove_log, settle,
+    Access, Draft, Name, Place, draft_of, file_fault, log_of, make_private, open_events,
+    open_input, place_of, remove_log, settle,
 };
-use oftp_outcomes::{Fault, Outcome};
+use oftp_outcomes::{Fault, Outcome, write_line};
 use oftp_requests::{Backend, GONE};
+use oftp_watching::News;
 use std::fs::{self, File};
 use std::io::{self, ErrorKind, Read, Write};
 
@@ -20,13 +21,45 @@ const PIECE: usize = 16_384;
 const READ_WITH_IT: [&str; 2] = ["-wal", "-journal"];
 
 /// Copies a database to a file. Nothing changes it while its files are copied: it is locked here, or its station does no job meanwhile. The
-/// copy is finished after that.
+/// copy is finished after that. Writes its line, and returns its outcome.
 ///
 /// # Errors
 /// [`Fault::Store`] if the database can't be opened; [`Fault::File`] if the copy can't be made; [`Fault::Run`] if the station is gone;
 /// [`Fault::MEMORY`]. Nothing is copied then.
-pub fn back_up<'a>(rt: &'a HostRuntime, line: &Backup<'a>) -> Result<Outcome, Fault> {
-    let mut backing = Backing::opened(rt, line.database, None)?;
+pub fn back_up<'a>(
+    rt: &'a HostRuntime,
+    line: &Backup<'a>,
+    out: &mut impl Write,
+) -> Result<Outcome, Fault> {
+    let news = News::new(rt.alloc());
+    let backing = Backing::opened(rt, line.database, None, None)?;
+    back_up_over(rt, line, backing, &news, out)
+}
+
+/// Copies a database that is reached, writes the line of that, and then its event.
+fn back_up_over<'n>(
+    rt: &'n HostRuntime,
+    line: &Backup<'_>,
+    backing: Backing<'_, '_, '_>,
+    news: &'n News,
+    out: &mut impl Write,
+) -> Result<Outcome, Fault> {
+    let events = open_events(rt, line.events, news, &[line.to], Some(line.database))?;
+    let outcome = copied(rt, line, backing)?;
+    write_line(out, &outcome)?;
+    if let Some(events) = &events {
+        events.tell_backup(line.to);
+    }
+    Ok(outcome)
+}
+
+/// Copies a database to a file, and lets it go before the copy is finished.
+fn copied(
+    rt: &HostRuntime,
+    line: &Backup<'_>,
+    backing: Backing<'_, '_, '_>,
+) -> Result<Outcome, Fault> {
+    let mut backing = backing;
     let copy = DatabaseCopy::begun(rt, line)?;
     let mut copying = Copying {
         rt,

@@ -1,17 +1,19 @@
 //! The command `collect`, which writes the incoming files that are whole and have no response to a folder.
 
 use crate::backing::Backing;
+use crate::operators::telling_of;
 use oftp_command_line::Collect;
 use oftp_files::read_book_octets;
 use oftp_folders::{self as folders, Folder};
 use oftp_outcomes::{Fault, status_where};
 use oftp_partners::Book;
+use oftp_watching::News;
 use std::io::Write;
 
 /// Collects files. Returns the exit status.
 ///
 /// # Errors
-/// [`Fault::Book`], [`Fault::File`] or [`Fault::Store`] if the book, the folder or the database can't be opened; those of
+/// [`Fault::Book`], [`Fault::File`] or [`Fault::Store`] if the book, the folder, the database or the events can't be opened; those of
 /// [`folders::collect`].
 pub fn collect(rt: &HostRuntime, line: &Collect<'_>, out: &mut impl Write) -> Result<u8, Fault> {
     let (octets, book) = read_book_octets(rt, line.files.book)?;
@@ -30,6 +32,8 @@ fn collect_to<'a>(
     book: &Book,
     out: &mut impl Write,
 ) -> Result<bool, Fault> {
-    let backing = Backing::opened(rt, line.files.database, Some(book))?;
+    let news = News::new(rt.alloc());
+    let telling = telling_of(rt, line.files.events, line.files.book, &news);
+    let backing = Backing::opened(rt, line.files.database, Some(book), Some(telling))?;
     folders::collect(rt, line, folder, octets, backing, out)
 }

@@ -1,19 +1,27 @@
 //! The commands that one call of the program carries out: over a database that it opens itself, or by the station that has it locked.
 #![tactic(auto)]
 
+mod audited;
+mod auditing;
 mod backing;
 mod backups;
 mod calling;
 mod collecting;
 mod offering;
 mod operators;
+mod ordering;
 mod registers;
+mod reporting;
 mod sessions;
+mod standings;
 
+pub use auditing::audit;
 pub use backups::back_up;
 pub use calling::{Called, call};
 pub use collecting::collect;
 pub use offering::offer;
-pub use operators::{refuse, release, submit};
+pub use operators::{refuse, release, resend, submit};
+pub use ordering::{reload, stop};
 pub use registers::{fetch, initiate, migrate, write_report};
 pub use sessions::feed;
+pub use standings::{health, settled, status};

@@ -1,18 +1,20 @@
 //! The command `offer`, which submits the files of a folder, to be sent to a partner.
 
 use crate::backing::Backing;
+use crate::operators::telling_of;
 use oftp_command_line::Offer;
 use oftp_engine::Refusal;
 use oftp_files::read_book_octets;
-use oftp_folders::{self as folders, Folder};
+use oftp_folders::{self as folders, Folder, names_files};
 use oftp_outcomes::{Fault, Outcome, status_where, tell};
 use oftp_partners::Book;
+use oftp_watching::News;
 use std::io::Write;
 
 /// Offers files. Returns the exit status.
 ///
 /// # Errors
-/// [`Fault::Book`], [`Fault::File`] or [`Fault::Store`] if the book, the folder or the database can't be opened; those of
+/// [`Fault::Book`], [`Fault::File`] or [`Fault::Store`] if the book, the folder, the database or the events can't be opened; those of
 /// [`folders::offer`].
 pub fn offer(rt: &HostRuntime, line: &Offer<'_>, out: &mut impl Write) -> Result<u8, Fault> {
     let (octets, book) = read_book_octets(rt, line.files.book)?;
@@ -34,15 +36,25 @@ fn offer_from<'a>(
     book: &Book,
     out: &mut impl Write,
 ) -> Result<bool, Fault> {
-    let backing = Backing::opened(rt, line.files.database, Some(book))?;
+    let news = News::new(rt.alloc());
+    let telling = telling_of(rt, line.files.events, line.files.book, &news);
+    let backing = Backing::opened(rt, line.files.database, Some(book), Some(telling))?;
     folders::offer(rt, line, folder, octets, backing, out)
+}
+
+/// Whether each file can have the dataset name of the command line, if there is one.
+fn is_nameable(line: &Offer<'_>) -> bool {
+    match line.dataset {
+        Some(dataset) => names_files(dataset),
+        None => true,
+    }
 }
 
 /// Why no file at all can be offered with this command line, if that is so.
 fn refusal_of(book: &Book, line: &Offer<'_>) -> Option<Refusal> {
     if book.partner(line.to.as_bytes()).is_none() {
         Some(Refusal::Unknown)
-    } else if line.format.allows_longest(line.longest) {
+    } else if line.format.allows_longest(line.longest) && is_nameable(line) {
         None
     } else {
         Some(Refusal::Field)

@@ -1,7 +1,7 @@
 //! The command `feed`, which runs one session from file to file.
 
 use oftp_command_line::{Feed, FeedRole};
-use oftp_database::{self as database, DatabaseOffice, PATIENCE};
+use oftp_database::{self as database, PATIENCE, WatchedOffice};
 use oftp_engine::{End, Port, Refusal, Role, serve_in_memory};
 use oftp_files::{
     LIMITS, Trace, Traced, are_of_one_file, file_fault, is_at, is_beside_database, is_of_database,
@@ -27,7 +27,13 @@ pub fn feed(rt: &HostRuntime, line: &Feed<'_>) -> Result<Outcome, Fault> {
         return Ok(Outcome::Refused(Refusal::Unknown));
     };
     match line.database {
-        Some(path) => feed_durable(rt, line, &book, role, database::live(rt, path, PATIENCE)?),
+        Some(path) => feed_durable(
+            rt,
+            line,
+            &book,
+            role,
+            database::live(rt, path, PATIENCE, None)?,
+        ),
         None => feed_in_memory(rt, line, &book, role),
     }
 }
@@ -38,7 +44,7 @@ fn feed_durable(
     line: &Feed<'_>,
     book: &Book,
     role: Role<'_>,
-    life: Life<DatabaseOffice>,
+    life: Life<WatchedOffice<'_>>,
 ) -> Result<Outcome, Fault> {
     let input = open_input(rt, line.input)?;
     let trace = trace_of(rt, line)?;

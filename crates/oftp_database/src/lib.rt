@@ -9,7 +9,7 @@ mod opening;
 mod serving;
 mod spare;
 
-pub use living::{live, live_if_free, live_shared};
+pub use living::{WatchedOffice, live, live_if_free, live_shared};
 pub use office::DatabaseOffice;
 pub use opening::{PATIENCE, make, migrate, open, open_if_free, open_shared};
 pub use serving::Opened;

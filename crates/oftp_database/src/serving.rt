@@ -6,14 +6,14 @@ ghost use Rattle.sqlite.specs.WalFiles.{image_at};
 ghost use Rattle.oftp_durable.specs.LifeTables.{HasDoneNothing};
 ghost use Rattle.oftp_database.specs.Openings.{IsOpened};
 
-use crate::living::live_if_free;
-use crate::office::DatabaseOffice;
+use crate::living::{WatchedOffice, live_if_free};
 use crate::opening::PATIENCE;
 use crate::spare::{Spare, Supply};
 use oftp_life::Life;
 use oftp_outcomes::{Fault, Term, Trouble};
 use oftp_sockets::Keeper;
 use oftp_store::{PathFault, StoreFault};
+use oftp_watching::News;
 use sqlite::{Start, Unknown};
 use std::time::{Clock, Duration};
 
@@ -27,27 +27,33 @@ const HELD: Trouble = Trouble::OfJob(Fault::Store(StoreFault::Store));
 #[derive(Drop)]
 pub struct Opened<'a> {
     database: &'a str,
+    // Where accepted changes are noted, if somebody wants to know them.
+    news: Option<&'a News>,
     // The descriptors for the next opening.
     spare: Spare,
 }
 
 impl<'a> Opened<'a> {
-    /// The database in this file, which isn't opened yet.
-    pub fn new(rt: &HostRuntime, database: &'a str) -> Opened<'a> {
+    /// The database in this file, which isn't opened yet. Accepted changes are noted, if somebody wants to know them.
+    pub fn new(rt: &HostRuntime, database: &'a str, news: Option<&'a News>) -> Opened<'a> {
         let mut spare = Spare::new(rt.alloc());
         let _ = spare.hold(rt);
-        Opened { database, spare }
+        Opened {
+            database,
+            news,
+            spare,
+        }
     }
 
     /// A life over the database. A database that stays locked, or for which there stays no descriptor, is an error of this caller alone.
-    fn life(&mut self, rt: &HostRuntime) -> Result<Life<DatabaseOffice>, Trouble>
+    fn life(&mut self, rt: &HostRuntime) -> Result<Life<WatchedOffice<'a>>, Trouble>
         ensures begins { IfOk result HasDoneNothing }
-        ensures opened { IfOk result (λ l. IsOpened over_files (image_at ⟦<Unknown as Start>⟧) l.began.office) }
+        ensures opened { IfOk result (λ l. IsOpened over_files (image_at ⟦<Unknown as Start>⟧) l.began.office.office) }
     {
         for _ in 0..PATIENCE {
             if self.spare.hold(rt) == Supply::Enough {
                 self.spare.release();
-                match live_if_free(rt, self.database, PATIENCE) {
+                match live_if_free(rt, self.database, PATIENCE, self.news) {
                     Err(PathFault::Store(StoreFault::Store)) if self.is_wanting(rt) => {}
                     opened => return opened.map_err(trouble_of),
                 }
@@ -63,11 +69,11 @@ impl<'a> Opened<'a> {
     }
 }
 
-impl Keeper<Life<DatabaseOffice>> for Opened<'_> {
+impl<'a> Keeper<Life<WatchedOffice<'a>>> for Opened<'a> {
     // A database that stays locked, or for which there stays no descriptor, is an error of this job alone.
-    fn open(&mut self, rt: &HostRuntime) -> Result<Life<DatabaseOffice>, Trouble>
+    fn open(&mut self, rt: &HostRuntime) -> Result<Life<WatchedOffice<'a>>, Trouble>
         ensures begins { IfOk result HasDoneNothing }
-        ensures opened { IfOk result (λ l. IsOpened over_files (image_at ⟦<Unknown as Start>⟧) l.began.office) }
+        ensures opened { IfOk result (λ l. IsOpened over_files (image_at ⟦<Unknown as Start>⟧) l.began.office.office) }
     {
         let opened = self.life(rt);
         if opened.is_err() {
@@ -76,7 +82,7 @@ impl Keeper<Life<DatabaseOffice>> for Opened<'_> {
         opened
     }
 
-    fn close(&mut self, rt: &HostRuntime, life: Life<DatabaseOffice>) {
+    fn close(&mut self, rt: &HostRuntime, life: Life<WatchedOffice<'a>>) {
         drop(life);
         let _ = self.spare.hold(rt);
     }

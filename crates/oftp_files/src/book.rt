@@ -4,6 +4,7 @@ use crate::files::{file_fault, open_input};
 use oftp_outcomes::Fault;
 use oftp_partners::{self as partners, Book, BookFault};
 use std::alloc::Global;
+use std::fs;
 use std::io::Read;
 use std::rt::Files;
 
@@ -27,6 +28,18 @@ pub fn read_book_octets(rt: &HostRuntime, path: &str) -> Result<(Vec<u8>, Book),
     let octets = book_octets(rt, path)?;
     let book = book_of(rt.alloc(), octets.as_slice())?;
     Ok((octets, book))
+}
+
+/// Reads a partner book as [`read_book_octets`] does, from a regular file alone: a pipe would make its reader wait.
+///
+/// # Errors
+/// Those of [`read_book`]; [`Fault::File`] if something else is at the path.
+pub fn read_regular_book(rt: &HostRuntime, path: &str) -> Result<(Vec<u8>, Book), Fault> {
+    let about = fs::metadata(rt, path).map_err(|error| file_fault(&error))?;
+    if !about.is_file() {
+        return Err(Fault::File);
+    }
+    read_book_octets(rt, path)
 }
 
 /// The octets of a partner book. No more are read than the longest one has.

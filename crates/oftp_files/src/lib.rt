@@ -5,7 +5,9 @@ mod access;
 mod book;
 mod content;
 mod drafts;
+mod events;
 mod files;
+mod follower;
 mod limits;
 mod replacing;
 mod session_trace;
@@ -15,13 +17,15 @@ mod tracing;
 mod transcript;
 
 pub use access::{Access, make_private};
-pub use book::{book_of, read_book, read_book_octets};
+pub use book::{book_of, read_book, read_book_octets, read_regular_book};
 pub use content::{content_of, read_content, read_to_compare};
 pub use drafts::{Draft, bears, is_free, log_of, remove_log, sweep};
+pub use events::{EventFile, Found, Noted, open_events};
 pub use files::{
     are_of_one_file, file_fault, is_at, is_beside_database, is_of_database, is_ours, open_at_once,
     open_input, open_regular, socket_name,
 };
+pub use follower::Follower;
 pub use limits::LIMITS;
 pub use replacing::{
     Name, Place, discard, draft_in_swept, draft_of, free_name, free_name_like, place_of, settle,

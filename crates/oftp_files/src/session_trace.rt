@@ -1,8 +1,10 @@
 //! The trace of one session, whose octets are told in pieces.
 
 use crate::tracing::{Strand, Trace};
+use crate::transcript::Counted;
 use oftp_engine::End;
 use oftp_outcomes::Fault;
+use oftp_telling::Sender;
 use std::alloc::Global;
 use std::mem;
 
@@ -15,13 +17,6 @@ pub enum Lines<'a> {
     Own(Trace<'a>),
 }
 
-/// Who sent a piece.
-#[derive(Clone, Copy)]
-enum Sender {
-    Partner,
-    Station,
-}
-
 /// The trace of one session. It is told each piece once, in the order in which they came and went.
 #[derive(Drop)]
 pub struct SessionTrace<'a> {
@@ -29,6 +24,8 @@ pub struct SessionTrace<'a> {
     lines: Lines<'a>,
     heard: Strand,
     said: Strand,
+    // The DATA that are told once another command comes.
+    counted: Option<Counted>,
     // The pieces that are told later. `None` once they are told at once.
     held: Option<Vec<(Sender, Vec<u8>)>>,
 }
@@ -39,8 +36,9 @@ impl<'a> SessionTrace<'a> {
         SessionTrace {
             alloc,
             lines,
-            heard: Strand::heard(alloc),
-            said: Strand::said(alloc),
+            heard: Strand::new(alloc, Sender::Partner),
+            said: Strand::new(alloc, Sender::Station),
+            counted: None,
             held: Some(Vec::new(alloc)),
         }
     }
@@ -68,7 +66,9 @@ impl<'a> SessionTrace<'a> {
     /// Appends the line for the end of the session, after all that was held.
     pub fn end(&mut self, ended: &Result<End, Fault>) {
         self.begin();
-        trace_in(&self.lines).tell_end(ended);
+        let trace = trace_in(&self.lines);
+        trace.tell_counted(&mut self.counted);
+        trace.tell_end(ended);
     }
 
     /// The lines that a trace of its own kept in memory; none of another one.
@@ -95,8 +95,8 @@ impl<'a> SessionTrace<'a> {
     fn append(&mut self, sender: Sender, piece: &[u8]) {
         let trace = trace_in(&self.lines);
         match sender {
-            Sender::Partner => self.heard.tell(trace, piece),
-            Sender::Station => self.said.tell(trace, piece),
+            Sender::Partner => self.heard.tell(trace, piece, &mut self.counted),
+            Sender::Station => self.said.tell(trace, piece, &mut self.counted),
         }
     }
 }

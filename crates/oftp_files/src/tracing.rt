@@ -1,10 +1,11 @@
 //! Traces: the commands on a connection, appended to a file as text. Sessions know nothing of them.
 
 use crate::access::make_private;
-use crate::transcript::Transcript;
+use crate::transcript::{Counted, Head, Transcript, tell_counted};
 use jiff::Timestamp;
 use oftp_engine::End;
 use oftp_outcomes::{Fault, Outcome};
+use oftp_telling::Sender;
 use std::alloc::Global;
 use std::cell::RefCell;
 use std::fmt;
@@ -16,6 +17,8 @@ use std::io::{self, ErrorKind, Read, Write};
 pub struct Trace<'a> {
     rt: &'a HostRuntime,
     target: Target,
+    // The DATA of a session that reads and writes through `Traced`.
+    counted: RefCell<Option<Counted>>,
 }
 
 /// Where the lines of a trace go.
@@ -42,6 +45,7 @@ impl<'a> Trace<'a> {
         Ok(Trace {
             rt,
             target: Target::File(file),
+            counted: RefCell::new(None),
         })
     }
 
@@ -50,12 +54,13 @@ impl<'a> Trace<'a> {
         Trace {
             rt,
             target: Target::Kept(RefCell::new(Vec::new(rt.alloc()))),
+            counted: RefCell::new(None),
         }
     }
 
     /// The lines that were kept in memory; none for a trace in a file.
     pub fn into_kept(self) -> Vec<u8> {
-        let Trace { rt, target } = self;
+        let Trace { rt, target, .. } = self;
         match target {
             Target::Kept(kept) => kept.into_inner(),
             Target::File(file) => {
@@ -70,8 +75,11 @@ impl<'a> Trace<'a> {
         self.put(lines)
     }
 
-    /// Appends the line for the end of a session, or for the error that ended it, as [`Trace::tell`] does.
+    /// Appends the line for the end of a session, or for the error that ended it, as [`Trace::tell`] does. DATA that were counted come first.
     pub fn tell_end(&self, ended: &Result<End, Fault>) {
+        if let Ok(mut counted) = self.counted.try_replace(None) {
+            self.tell_counted(&mut counted);
+        }
         match ended {
             Ok(end) => self.tell(&Outcome::Ended(*end)),
             Err(fault) => self.tell(fault),
@@ -81,9 +89,17 @@ impl<'a> Trace<'a> {
     /// Appends a line with the time. It is lost if the clock fails, memory runs out or it can't be written.
     pub fn tell<L: fmt::Display>(&self, line: &L) {
         if let Some(time) = self.time() {
-            if let Ok(text) = format!(in self.rt.alloc(); "{time} {line}\n") {
+            if let Ok(text) = format!(in self.rt.alloc(); "{time:.6} {line}\n") {
                 self.put(text.as_bytes());
             }
+        }
+    }
+
+    /// Appends the line of DATA that were counted. It is lost if memory runs out or it can't be written.
+    pub(crate) fn tell_counted(&self, counted: &mut Option<Counted>) {
+        let mut lines = String::new(self.rt.alloc());
+        if tell_counted(counted, &mut lines).is_ok() {
+            self.put(lines.as_bytes());
         }
     }
 
@@ -112,36 +128,27 @@ fn keep(alloc: Global, kept: &RefCell<Vec<u8>>, lines: &[u8]) {
     }
 }
 
-/// One direction of a session: the mark in front of its lines, and the parser of its octets.
+/// One direction of a session: who sends, and the parser of its octets.
 #[derive(Drop)]
 pub(crate) struct Strand {
-    mark: &'static str,
+    sender: Sender,
     // `None` after a failure: the start of the next command isn't known then.
     transcript: Option<Transcript>,
 }
 
 impl Strand {
-    /// What the partner sends.
-    pub(crate) fn heard(alloc: Global) -> Strand {
-        Strand::new(alloc, "<")
-    }
-
-    /// What the partner receives.
-    pub(crate) fn said(alloc: Global) -> Strand {
-        Strand::new(alloc, ">")
-    }
-
-    fn new(alloc: Global, mark: &'static str) -> Strand {
+    /// What this side sends.
+    pub(crate) fn new(alloc: Global, sender: Sender) -> Strand {
         Strand {
-            mark,
+            sender,
             transcript: Some(Transcript::new(alloc)),
         }
     }
 
     /// Appends the lines of a piece to a trace. Once the clock can't be read or memory runs out, this direction isn't traced any more.
-    pub(crate) fn tell(&mut self, trace: &Trace<'_>, piece: &[u8]) {
+    pub(crate) fn tell(&mut self, trace: &Trace<'_>, piece: &[u8], counted: &mut Option<Counted>) {
         if let Some(transcript) = &mut self.transcript
-            && append(trace, self.mark, transcript, piece).is_none()
+            && append(trace, self.sender, transcript, piece, counted).is_none()
         {
             self.transcript = None;
         }
@@ -149,12 +156,18 @@ impl Strand {
 }
 
 /// Appends the lines of a piece. Returns `None` if the clock can't be read, or memory runs out.
-fn append(trace: &Trace<'_>, mark: &str, transcript: &mut Transcript, piece: &[u8]) -> Option<()> {
-    let alloc = trace.rt.alloc();
-    let time = trace.time()?;
-    let head = format!(in alloc; "{time} {mark} ").ok()?;
-    let mut lines = String::new(alloc);
-    transcript.take(piece, head.as_str(), &mut lines).ok()?;
+fn append(
+    trace: &Trace<'_>,
+    sender: Sender,
+    transcript: &mut Transcript,
+    piece: &[u8],
+    counted: &mut Option<Counted>,
+) -> Option<()> {
+    let time = Some(trace.time()?.as_microsecond());
+    let mut lines = String::new(trace.rt.alloc());
+    transcript
+        .take(piece, Head { sender, time }, counted, &mut lines)
+        .ok()?;
     trace.put(lines.as_bytes());
     Some(())
 }
@@ -181,7 +194,7 @@ impl<'a, S> Traced<'a, S> {
             stream,
             way: trace.map(|trace| Way {
                 trace,
-                strand: Strand::heard(trace.rt.alloc()),
+                strand: Strand::new(trace.rt.alloc(), Sender::Partner),
             }),
         }
     }
@@ -192,15 +205,18 @@ impl<'a, S> Traced<'a, S> {
             stream,
             way: trace.map(|trace| Way {
                 trace,
-                strand: Strand::said(trace.rt.alloc()),
+                strand: Strand::new(trace.rt.alloc(), Sender::Station),
             }),
         }
     }
 
     /// Adds a piece to the trace, which was read or written already.
     pub fn tell(&mut self, piece: &[u8]) {
-        if let Some(way) = &mut self.way {
-            way.strand.tell(way.trace, piece);
+        if let Some(way) = &mut self.way
+            && let Ok(mut counted) = way.trace.counted.try_replace(None)
+        {
+            way.strand.tell(way.trace, piece, &mut counted);
+            let _ = way.trace.counted.try_replace(counted);
         }
     }
 }

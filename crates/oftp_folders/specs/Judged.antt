@@ -4,6 +4,8 @@ use Rattle.oftp_folders.specs.declared.judging.Collecting.TheVariants.{Write, Le
 use Rattle.oftp_folders.specs.declared.judging.Concern.{Concern}
 use Rattle.oftp_folders.specs.declared.judging.Concern.TheVariants as concern
 use Rattle.oftp_folders.specs.declared.judging.Content.TheVariants.{Same, Other}
+use Rattle.oftp_folders.specs.declared.judging.FileName.{FileName}
+use Rattle.oftp_folders.specs.declared.judging.FileName.TheVariants as file
 use Rattle.oftp_folders.specs.declared.judging.Held.{Held}
 use Rattle.oftp_folders.specs.declared.judging.Held.TheVariants as held
 use Rattle.oftp_folders.specs.declared.judging.LockSeen.{LockSeen}
@@ -12,12 +14,25 @@ use Rattle.oftp_folders.specs.declared.judging.Locking.{Locking}
 use Rattle.oftp_folders.specs.declared.judging.Locking.TheVariants as locking
 use Rattle.oftp_folders.specs.declared.judging.Named.{Named}
 use Rattle.oftp_folders.specs.declared.judging.Named.TheVariants as named
+use Rattle.oftp_folders.specs.declared.judging.Naming.{Naming}
+use Rattle.oftp_folders.specs.declared.judging.Naming.TheVariants as naming
+use Rattle.oftp_folders.specs.declared.judging.Offering.{Offering}
+use Rattle.oftp_folders.specs.declared.judging.Offering.TheVariants as offering
 use Rattle.oftp_folders.specs.declared.judging.Step.{Step}
 use Rattle.oftp_folders.specs.declared.judging.Step.TheVariants.{HandIn, HandedIn, TakeNextStamp}
 use Rattle.oftp_folders.specs.declared.judging.TakenBy.{TakenBy}
 use Rattle.oftp_folders.specs.declared.judging.TakenBy.TheVariants.{ThisCall, EarlierCall}
 use Rattle.oftp_outcomes.specs.declared.outcome.Fault.{Fault}
 use Rattle.oftp_outcomes.specs.declared.outcome.Fault.TheVariants as faults
+
+-- what is done with a regular file of an offered folder, by its name, and by where its dataset name comes from
+abbrev pub offered : FileName → Naming → Offering
+offered file.Hidden naming.Own = offering.Pass
+offered file.Hidden naming.Given = offering.Pass
+offered file.Dataset naming.Own = offering.Take
+offered file.Dataset naming.Given = offering.Take
+offered file.Other naming.Own = offering.Tell
+offered file.Other naming.Given = offering.Take
 
 -- what is done with a file that a call took, by what the register has under its name, date, time and partner
 abbrev pub handed : TakenBy → Held → Step

@@ -9,12 +9,13 @@ use oftp_files::{
     Access, Name, discard, draft_in_swept, free_name, free_name_like, open_regular,
     read_to_compare, settle, sweep,
 };
+use oftp_filters::matches;
 use oftp_outcomes::{Carried, Fault, Why, write_line};
 use oftp_requests::{Backend, Comparison, FileList, refusal_in};
 use std::io::{self, Write};
 
-/// Writes each incoming file that is whole and has no response to a folder, unless it is there already. If the command line asks for it,
-/// its End-to-End Response is issued once the file is synced. Each gets a line in `out`, except one that is there already and isn't
+/// Writes each incoming file that is whole, has no response and is asked for to a folder, unless it is there already. If the command line
+/// asks for it, its End-to-End Response is issued once the file is synced. Each gets a line in `out`, except one that is there already and isn't
 /// released. Returns whether none was refused.
 ///
 /// # Errors
@@ -73,7 +74,8 @@ impl<'a, B: Backend> Collection<'a, B> {
             let Some(entry) = list.next_file()? else {
                 break;
             };
-            if !self.collect(&entry.file()?, out)? {
+            let file = entry.file()?;
+            if is_wanted(self.line, &file) && !self.collect(&file, out)? {
                 is_done = false;
             }
         }
@@ -170,6 +172,19 @@ impl<'a, B: Backend> Collection<'a, B> {
             refusal => Ok(refusal),
         }
     }
+}
+
+/// Whether the command line asks for a file.
+fn is_wanted(line: &Collect<'_>, file: &ListedFile<'_>) -> bool {
+    let is_from = match line.from {
+        Some(code) => file.code == code,
+        None => true,
+    };
+    let is_named = match line.dataset {
+        Some(pattern) => matches(pattern.as_bytes(), file.dataset.as_bytes()),
+        None => true,
+    };
+    is_from && is_named
 }
 
 /// The error of a content that is written to a file: a failed write is one of the file.

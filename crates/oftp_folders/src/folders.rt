@@ -20,7 +20,7 @@ const OTHERS_WRITE: u32 = 0o022;
 const BETWEEN: char = '_';
 
 /// The replacement for a character that isn't allowed in a file's name. No part contains it.
-const INSTEAD: char = '+';
+pub(super) const INSTEAD: char = '+';
 
 /// An open folder. The names in it are reached through its descriptor, so that it stays this one, whatever its own name leads to meanwhile.
 #[derive(Drop)]
@@ -226,6 +226,17 @@ pub(super) fn stamps_in<'a>(claim: &'a str) -> Option<Stamps<'a>> {
     })
 }
 
+/// The name that a file has of its own, in the name that it has while it is submitted, which begins with this name: it is there if the file is
+/// described by it.
+pub(super) fn own_name_in<'a>(claim: &'a str, name: &str) -> Option<&'a str> {
+    claim.strip_prefix(name)?.strip_prefix(BETWEEN)
+}
+
+/// The name of a file while it is submitted, with the name that it has of its own.
+pub(super) fn with_own_name(alloc: Global, name: &str, own: &str) -> Result<String, Fault> {
+    Ok(format!(in alloc; "{name}{}{own}", BETWEEN)?)
+}
+
 /// A name with the file's number in the register in front.
 pub(super) fn numbered(alloc: Global, no: u64, name: &str) -> Result<String, Fault> {
     Ok(format!(in alloc; "{no:07}{}{name}", BETWEEN)?)
@@ -261,6 +272,6 @@ fn add_safely(name: &mut String, part: &str) -> Result<(), AllocError> {
 }
 
 /// Whether a character may be in a file's name: ASCII letters and digits, and the signs of a field X other than the slash.
-fn is_safe(character: char) -> bool {
+pub(super) fn is_safe(character: char) -> bool {
     character.is_ascii_alphanumeric() || matches!(character, '-' | '.' | '&' | '(' | ')')
 }

@@ -1,7 +1,7 @@
 //! What is done with a file that is taken, with one that is to be collected, and about a folder's lock, and what an error concerns.
 
 ghost use Rattle.std.specs.Prelude.{◌≡◌, ℕ};
-ghost use Rattle.oftp_folders.specs.Judged.{collected, concerned, handed, lock_tried};
+ghost use Rattle.oftp_folders.specs.Judged.{collected, concerned, handed, lock_tried, offered};
 ghost use Rattle.oftp_folders.specs.declared.judging.Collecting.TheVariants as Collecting;
 ghost use Rattle.oftp_folders.specs.declared.judging.Concern.TheVariants as Concern;
 ghost use Rattle.oftp_folders.specs.declared.judging.Content.TheVariants as Content;
@@ -13,6 +13,48 @@ ghost use Rattle.oftp_folders.specs.declared.judging.Step.TheVariants as Step;
 ghost use Rattle.oftp_outcomes.specs.declared.outcome.Fault.TheVariants as Fault;
 
 use oftp_outcomes::Fault;
+
+/// What kind of name a regular file of an offered folder has.
+#[derive(Clone, Copy)]
+pub(super) enum FileName {
+    /// A hidden one, which begins with a dot.
+    Hidden,
+    /// A dataset name.
+    Dataset,
+    /// Another one.
+    Other,
+}
+
+/// Where the dataset names of offered files come from.
+#[derive(Clone, Copy)]
+pub(super) enum Naming {
+    /// Each file's own name is it.
+    Own,
+    /// The command line has it.
+    Given,
+}
+
+/// What is done with a regular file of an offered folder.
+#[derive(Clone, Copy)]
+pub(super) enum Offering {
+    /// It is taken.
+    Take,
+    /// It stays, and gets a line.
+    Tell,
+    /// It stays.
+    Pass,
+}
+
+/// What is done with a regular file of an offered folder. A hidden one always stays: another program is still writing it, or it is a lock.
+pub(super) fn offering_of(name: FileName, naming: Naming) -> Offering
+    ensures exact { result ≡ offered name naming }
+{
+    match (name, naming) {
+        (FileName::Hidden, _) => Offering::Pass,
+        (FileName::Dataset, _) | (FileName::Other, Naming::Given) => Offering::Take,
+        (FileName::Other, Naming::Own) => Offering::Tell,
+    }
+}
 
 /// Which call of `offer` took a file.
 #[derive(Clone, Copy)]

@@ -12,4 +12,5 @@ mod submitting;
 
 pub use collecting::collect;
 pub use folders::Folder;
-pub use offering::offer;
+pub use offering::{names_files, offer};
+pub use stamps::Moment;

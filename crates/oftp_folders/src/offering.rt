@@ -3,14 +3,18 @@
 //! A file is taken first: it is moved to a subfolder, under a name with the date and time that it is given. So after a crash the next call
 //! knows under which name the register has it, if it does.
 
-use crate::folders::{Folder, Room, claim_name, names_in, path_in, stamps_in};
+use crate::folders::{
+    Folder, INSTEAD, Room, claim_name, is_safe, names_in, own_name_in, path_in, stamps_in,
+};
+use crate::judging::{FileName, Naming, Offering, offering_of};
 use crate::stamps::Moment;
 use crate::submitting::{Subfolders, Submitting, TAKEN, tell_left};
 use oftp_command_line::Offer;
 use oftp_files::file_fault;
-use oftp_outcomes::Fault;
+use oftp_outcomes::{Carried, Fault, write_line};
 use oftp_requests::Backend;
 use oftp_wire::X;
+use std::alloc::Global;
 use std::fs;
 use std::io::{ErrorKind, Write};
 
@@ -31,7 +35,7 @@ pub fn offer<B: Backend + Drop>(
     backend: B,
     out: &mut impl Write,
 ) -> Result<bool, Fault> {
-    let files = offered(rt, &folder.room)?;
+    let files = offered(rt, line, &folder.room, out)?;
     let claims = claimed(rt, line, &folder.room)?;
     if files.is_empty() && claims.is_empty() {
         return Ok(true);
@@ -76,15 +80,69 @@ fn hand_in<B: Backend + Drop>(
     Ok(is_done)
 }
 
-/// The names of the files to submit: the regular files whose names are dataset names. Hidden files are left out.
-fn offered(rt: &HostRuntime, folder: &Room) -> Result<Vec<String>, Fault> {
+/// The names of the files to submit: the regular files whose names are dataset names, or each if the command line has a dataset name. Hidden
+/// files are left out. Writes the line of each file whose name is no dataset name.
+fn offered(
+    rt: &HostRuntime,
+    line: &Offer<'_>,
+    folder: &Room,
+    out: &mut impl Write,
+) -> Result<Vec<String>, Fault> {
     let mut names = Vec::new(rt.alloc());
     for name in names_in(rt, folder)? {
-        if is_dataset_name(name.as_str()) && is_file(rt, folder, name.as_str())? {
-            names.push(name)?;
+        if !is_file(rt, folder, name.as_str())? {
+            continue;
+        }
+        match offering_of(kind_of(name.as_str()), naming_of(line)) {
+            Offering::Take => names.push(name)?,
+            Offering::Tell => tell_unnamed(rt.alloc(), name.as_str(), out)?,
+            Offering::Pass => {}
         }
     }
     Ok(names)
+}
+
+/// Writes the line of a file whose name is no dataset name.
+fn tell_unnamed(alloc: Global, name: &str, out: &mut impl Write) -> Result<(), Fault> {
+    let name = shown_name(alloc, name)?;
+    write_line(
+        out,
+        &Carried::Unnamed {
+            name: name.as_str(),
+        },
+    )
+}
+
+/// A file's name without control characters, so that it stays within its line.
+fn shown_name(alloc: Global, name: &str) -> Result<String, Fault> {
+    let mut shown = String::new(alloc);
+    for character in name.chars() {
+        shown.push(if character.is_control() {
+            INSTEAD
+        } else {
+            character
+        })?;
+    }
+    Ok(shown)
+}
+
+/// What kind of name a file has.
+fn kind_of(name: &str) -> FileName {
+    if name.starts_with('.') {
+        FileName::Hidden
+    } else if is_dataset_name(name) {
+        FileName::Dataset
+    } else {
+        FileName::Other
+    }
+}
+
+/// Where the dataset names come from.
+fn naming_of(line: &Offer<'_>) -> Naming {
+    match line.dataset {
+        Some(_) => Naming::Given,
+        None => Naming::Own,
+    }
 }
 
 /// Whether a name is a regular file's. One that is gone meanwhile isn't.
@@ -97,9 +155,16 @@ fn is_file(rt: &HostRuntime, folder: &Room, name: &str) -> Result<bool, Fault> {
     }
 }
 
-/// Whether a file's name is a dataset name that isn't hidden.
+/// Whether a file's name is a dataset name.
 fn is_dataset_name(name: &str) -> bool {
-    !name.starts_with('.') && X::<MOST_NAME>::new(name.as_bytes()).is_some()
+    X::<MOST_NAME>::new(name.as_bytes()).is_some()
+}
+
+/// Whether a text can be the dataset name of each file that is offered: one that a file may have as its name.
+pub fn names_files(dataset: &str) -> bool {
+    !dataset.is_empty()
+        && matches!(kind_of(dataset), FileName::Dataset)
+        && dataset.chars().all(is_safe)
 }
 
 /// The names that an earlier call has given for the partner in `taken`, and has neither submitted nor moved away.
@@ -119,7 +184,10 @@ fn claimed(rt: &HostRuntime, line: &Offer<'_>, folder: &Room) -> Result<Vec<Stri
 /// Whether a file with this name was taken for the partner with a code.
 fn is_for(rt: &HostRuntime, code: &str, name: &str) -> Result<bool, Fault> {
     match stamps_in(name) {
-        Some(stamps) => Ok(claim_name(rt.alloc(), stamps, code)?.as_str() == name),
+        Some(stamps) => {
+            let claim = claim_name(rt.alloc(), stamps, code)?;
+            Ok(claim.as_str() == name || own_name_in(name, claim.as_str()).is_some())
+        }
         None => Ok(false),
     }
 }
@@ -159,7 +227,10 @@ fn take<B: Backend>(
 ) -> Result<Option<String>, Fault> {
     let path = path_in(rt, folder.path(), name)?;
     match fs::symlink_metadata(rt, path.as_str()) {
-        Ok(about) => submitting.take(path.as_str(), name, Moment::of(&about)),
+        Ok(about) => {
+            let label = submitting.label_of(name);
+            submitting.take(path.as_str(), label, Moment::of(&about))
+        }
         Err(error) if error.kind() == ErrorKind::NotFound => Ok(None),
         Err(error) => Err(file_fault(&error)),
     }

@@ -1,4 +1,4 @@
-//! The date and time that a file is given when it is offered: those of its last change, in UTC.
+//! The date and time that a file is given: those of its last change where it is offered, and else those of the moment, in UTC.
 
 use jiff::Timestamp;
 use oftp_outcomes::Fault;
@@ -22,17 +22,32 @@ const DATE: usize = 8;
 
 /// A point in time, in ticks.
 #[derive(Clone, Copy)]
-pub(super) struct Moment {
+pub struct Moment {
     second: i64,
     tick: i64,
 }
 
 impl Moment {
-    /// The time of a file's last change. One before 1970 or from [`LAST`] on counts as the beginning of 1970.
+    /// The time of a file's last change.
     pub(super) fn of(about: &Metadata) -> Moment {
-        let second = about.mtime();
+        Moment::at(about.mtime(), about.mtime_nsec())
+    }
+
+    /// The present time.
+    ///
+    /// # Errors
+    /// [`Fault::File`]: the clock can't be read.
+    pub fn now(rt: &HostRuntime) -> Result<Moment, Fault> {
+        let Ok(now) = Timestamp::now(rt) else {
+            return Err(Fault::File);
+        };
+        Ok(Moment::at(now.as_second(), i64::from(now.subsec_nanosecond())))
+    }
+
+    /// The time so many seconds and nanoseconds after the beginning of 1970. One before that or from [`LAST`] on counts as that beginning.
+    fn at(second: i64, nanosecond: i64) -> Moment {
         if (0..LAST).contains(&second) {
-            let tick = (about.mtime_nsec() / TICK).clamp(FIRST_TICK, LAST_TICK);
+            let tick = (nanosecond / TICK).clamp(FIRST_TICK, LAST_TICK);
             Moment { second, tick }
         } else {
             Moment::begin(0)
@@ -46,7 +61,7 @@ impl Moment {
     }
 
     /// The time one tick later.
-    pub(super) fn next(self) -> Moment {
+    pub fn next(self) -> Moment {
         if self.tick < LAST_TICK {
             Moment {
                 second: self.second,
@@ -58,7 +73,10 @@ impl Moment {
     }
 
     /// The date as CCYYMMDD, and the time as HHMMSScccc.
-    pub(super) fn stamps(self, alloc: Global) -> Result<(String, String), Fault> {
+    ///
+    /// # Errors
+    /// [`Fault::File`] if it is none that has a date; [`Fault::MEMORY`].
+    pub fn stamps(self, alloc: Global) -> Result<(String, String), Fault> {
         let Ok(second) = Timestamp::from_second(self.second) else {
             return Err(Fault::File);
         };

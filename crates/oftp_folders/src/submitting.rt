@@ -1,7 +1,8 @@
 //! Submits files that were taken from a folder, and moves them away.
 
 use crate::folders::{
-    Room, Stamps, claim_name, followed, has_something, keep, name_of, numbered, path_in, stamps_in,
+    Room, Stamps, claim_name, followed, has_something, keep, name_of, numbered, own_name_in,
+    path_in, stamps_in, with_own_name,
 };
 use crate::judging::{Concern, Content, Held, Step, TakenBy, concern_of, step_of};
 use crate::stamps::Moment;
@@ -92,6 +93,17 @@ pub(super) struct Submitting<'a, B> {
     known: BTreeMap<Vec<u8>, u64>,
     // The names in `taken` that this call has given.
     given: BTreeMap<Vec<u8>, bool>,
+    // The names that are given in `taken`, without the files' own names: no two files there have one.
+    claimed: BTreeMap<Vec<u8>, bool>,
+}
+
+/// How a file is named when it is taken.
+#[derive(Clone, Copy)]
+pub(super) struct Label<'n> {
+    // Its dataset name.
+    dataset: &'n str,
+    // The name that it has of its own, if it is described by it.
+    own: Option<&'n str>,
 }
 
 impl<'a, B: Backend> Submitting<'a, B> {
@@ -112,6 +124,22 @@ impl<'a, B: Backend> Submitting<'a, B> {
             wanted: BTreeMap::new(rt.alloc()),
             known: BTreeMap::new(rt.alloc()),
             given: BTreeMap::new(rt.alloc()),
+            claimed: BTreeMap::new(rt.alloc()),
+        }
+    }
+
+    /// How a file with this name is named when it is taken.
+    pub(super) fn label_of<'n>(&self, name: &'n str) -> Label<'n>
+    where
+        'a: 'n,
+    {
+        Label {
+            dataset: self.line.dataset.unwrap_or(name),
+            own: if self.line.describes {
+                Some(name)
+            } else {
+                None
+            },
         }
     }
 
@@ -119,17 +147,31 @@ impl<'a, B: Backend> Submitting<'a, B> {
     pub(super) fn look_up(&mut self, files: &[String], claims: &[String]) -> Result<(), Fault> {
         self.want_all(files)?;
         for claim in claims {
-            if let Some(stamps) = stamps_in(claim.as_str()) {
-                self.want(stamps.dataset)?;
-            }
+            self.want_claimed(claim.as_str())?;
         }
         self.look_again()
+    }
+
+    /// Adds the dataset name of a file in `taken` to those that are looked up, and notes its name there.
+    fn want_claimed(&mut self, claim: &str) -> Result<(), Fault> {
+        let name = self.register_name(claim)?;
+        let name = octets_of(self.rt.alloc(), name.as_str())?;
+        self.claimed.insert(name, true)?;
+        match stamps_in(claim) {
+            Some(stamps) => self.want(stamps.dataset),
+            None => Ok(()),
+        }
+    }
+
+    /// The name of a file in `taken`, without the file's own.
+    fn register_name(&self, claim: &str) -> Result<String, Fault> {
+        claim_name(self.rt.alloc(), stamps_of(claim), self.line.to)
     }
 
     /// Adds dataset names to those that are looked up.
     fn want_all(&mut self, files: &[String]) -> Result<(), Fault> {
         for name in files {
-            self.want(name.as_str())?;
+            self.want(self.label_of(name.as_str()).dataset)?;
         }
         Ok(())
     }
@@ -184,7 +226,7 @@ impl<'a, B: Backend> Submitting<'a, B> {
 
     /// Whether a file with this dataset name, date and time is in the register, taken or refused.
     fn is_used(&self, claim: &str, stamps: Stamps<'_>) -> Result<bool, Fault> {
-        if self.number_of(claim).is_some() {
+        if self.number_of(claim).is_some() || self.claimed.get(claim.as_bytes()).is_some() {
             return Ok(true);
         }
         let refused = name_of(self.rt.alloc(), stamps, self.line.to)?;
@@ -221,10 +263,15 @@ impl<'a, B: Backend> Submitting<'a, B> {
     pub(super) fn take(
         &mut self,
         from: &str,
-        name: &str,
+        label: Label<'_>,
         changed: Moment,
     ) -> Result<Option<String>, Fault> {
-        let claim = self.free_claim(name, changed)?;
+        let name = self.free_claim(label.dataset, changed)?;
+        let claimed = octets_of(self.rt.alloc(), name.as_str())?;
+        let claim = match label.own {
+            Some(own) => with_own_name(self.rt.alloc(), name.as_str(), own)?,
+            None => name,
+        };
         let to = path_in(self.rt, self.subfolders.taken.path(), claim.as_str())?;
         match fs::rename(self.rt, from, to.as_str()) {
             Ok(()) => {}
@@ -233,6 +280,7 @@ impl<'a, B: Backend> Submitting<'a, B> {
         }
         let given = octets_of(self.rt.alloc(), claim.as_str())?;
         self.given.insert(given, true)?;
+        self.claimed.insert(claimed, true)?;
         Ok(Some(claim))
     }
 
@@ -288,7 +336,8 @@ impl<'a, B: Backend> Submitting<'a, B> {
         match open_regular(self.rt, path.as_str())? {
             Some(file) => {
                 keep(&file)?;
-                let content = content_of(self.rt, &submission_of(self.line, claim), &file)?;
+                let submit = self.submission_of(claim)?;
+                let content = content_of(self.rt, &submit, &file)?;
                 Ok(Some(content))
             }
             None => Ok(None),
@@ -320,7 +369,8 @@ impl<'a, B: Backend> Submitting<'a, B> {
 
     /// What the register has under the name, date and time of a taken file, as far as it was looked up.
     fn held(&mut self, claim: &str, content: &[u8]) -> Result<Held, Fault> {
-        let Some(no) = self.number_of(claim) else {
+        let name = self.register_name(claim)?;
+        let Some(no) = self.number_of(name.as_str()) else {
             return Ok(Held::Nothing);
         };
         let content = match self
@@ -337,7 +387,8 @@ impl<'a, B: Backend> Submitting<'a, B> {
     /// Looks up the file that was found to be there when this one was submitted.
     fn look_again_for(&mut self, claim: &str) -> Result<(), Fault> {
         self.look_again()?;
-        match self.number_of(claim) {
+        let name = self.register_name(claim)?;
+        match self.number_of(name.as_str()) {
             Some(_) => Ok(()),
             None => Err(GONE),
         }
@@ -349,8 +400,12 @@ impl<'a, B: Backend> Submitting<'a, B> {
         let about = fs::symlink_metadata(self.rt, from.as_str()).map_err(|error| file_fault(
             &error,
         ))?;
-        let dataset = stamps_of(claim).dataset;
-        match self.take(from.as_str(), dataset, Moment::of(&about))? {
+        let name = self.register_name(claim)?;
+        let label = Label {
+            dataset: stamps_of(claim).dataset,
+            own: own_name_in(claim, name.as_str()),
+        };
+        match self.take(from.as_str(), label, Moment::of(&about))? {
             Some(claim) => {
                 self.subfolders.taken.keep()?;
                 Ok(claim)
@@ -361,11 +416,12 @@ impl<'a, B: Backend> Submitting<'a, B> {
 
     /// Submits a file.
     fn submit(&mut self, claim: &str, content: &[u8]) -> Result<Tried, Fault> {
-        let submit = submission_of(self.line, claim);
+        let submit = self.submission_of(claim)?;
+        let stamps = stamps_of(claim);
         let call = Operator::Submit(Submission {
-            dataset: submit.dataset,
-            date: submit.date,
-            time: submit.time,
+            dataset: stamps.dataset,
+            date: stamps.date,
+            time: stamps.time,
             to: submit.to,
             format: submit.format,
             longest: submit.longest,
@@ -381,6 +437,31 @@ impl<'a, B: Backend> Submitting<'a, B> {
             Err(Refusal::Duplicate) => Ok(Tried::Duplicate),
             Err(refusal) => Ok(Tried::Refused(refusal)),
         }
+    }
+
+    /// The submission of a taken file. Its content is read by its descriptor, so it names no file.
+    fn submission_of<'c>(&self, claim: &'c str) -> Result<Submit<'c>, Fault>
+    where
+        'a: 'c,
+    {
+        let line = self.line;
+        let Stamps {
+            dataset,
+            date,
+            time,
+        } = stamps_of(claim);
+        let name = self.register_name(claim)?;
+        Ok(Submit {
+            files: line.files,
+            dataset,
+            date: Some(date),
+            time: Some(time),
+            to: line.to,
+            format: line.format,
+            longest: line.longest,
+            description: own_name_in(claim, name.as_str()).unwrap_or(line.description),
+            file: "",
+        })
     }
 
     /// Moves a file to `sent` or `refused`.
@@ -454,26 +535,6 @@ impl<'a, B: Backend> Submitting<'a, B> {
         let from = path_in(self.rt, self.subfolders.taken.path(), claim)?;
         let to = path_in(self.rt, folder.path(), name)?;
         fs::rename(self.rt, from.as_str(), to.as_str()).map_err(|error| file_fault(&error))
-    }
-}
-
-/// The submission of a taken file. Its content is read by its descriptor, so it names no file.
-fn submission_of<'a>(line: &Offer<'a>, claim: &'a str) -> Submit<'a> {
-    let Stamps {
-        dataset,
-        date,
-        time,
-    } = stamps_of(claim);
-    Submit {
-        files: line.files,
-        dataset,
-        date,
-        time,
-        to: line.to,
-        format: line.format,
-        longest: line.longest,
-        description: "",
-        file: "",
     }
 }
 

@@ -40,7 +40,7 @@ address_cause_text (address.System error) = system_text error
 address_cause_text address.IsNoAddress = codes "has to be HOST:PORT with a port of 1 to 65535"
 address_cause_text address.IsNoName = codes "the name has no address"
 address_cause_text address.IsLate = codes "nobody answered in time"
-address_cause_text address.IsEnding = codes "ended before this command's turn, and began nothing of it"
+address_cause_text address.IsEnding = codes "isn't there, or ended before this command's turn: nothing was done"
 address_cause_text address.IsSilent = codes "the connection broke, or nothing came or went in time"
 address_cause_text address.IsOther = codes "couldn't be reached, and can be now: try again"
 

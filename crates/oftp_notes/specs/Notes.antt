@@ -44,6 +44,8 @@ duplicate_text dataset date time to = dataset ++ (codes " " ++ (date ++ (codes "
 -- why a command was refused
 abbrev pub refusal_text : RefusalNote → List ℕ
 refusal_text (refused.NoFile n) = decimal n ++ codes ": no incoming file has this number"
+refusal_text (refused.NoOutgoing n) = decimal n ++ codes ": no outgoing file has this number"
+refusal_text (refused.Unsent n) = decimal n ++ codes ": this outgoing file isn't sent yet"
 refusal_text (refused.NoPartner code path) = code.now ++ (codes ": no partner in " ++ (path.now ++ codes " has this code"))
 refusal_text refused.NoneNamed = codes "--partner: an initiator needs it"
 refusal_text (refused.State n state) = file_text n state

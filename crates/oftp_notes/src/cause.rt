@@ -110,7 +110,7 @@ pub enum AddressCause {
     IsLate,
     /// The connection broke, or nothing came in time.
     IsSilent,
-    /// The station ended first.
+    /// The station isn't there, or ended first.
     IsEnding,
     /// Nothing is found now that says why.
     IsOther,
@@ -128,7 +128,7 @@ impl fmt::Display for AddressCause {
             AddressCause::IsNoName => f.write_str("the name has no address"),
             AddressCause::IsLate => f.write_str("nobody answered in time"),
             AddressCause::IsEnding => f.write_str(
-                "ended before this command's turn, and began nothing of it",
+                "isn't there, or ended before this command's turn: nothing was done",
             ),
             AddressCause::IsSilent => f.write_str(
                 "the connection broke, or nothing came or went in time",

@@ -2,7 +2,6 @@
 
 ghost use Rattle.std.specs.Prelude.{◌≡◌, ◌≤◌, IfOk, Some, length, string_bytes};
 ghost use Rattle.std.specs.Fmt.{DisplaysOnOk};
-ghost use Rattle.oftp_wire.specs.Reasons.{session_phrase};
 ghost use Rattle.oftp_notes.specs.Notes.{book_text, book_word, duplicate_text, end_text, file_text, note_text, refusal_text};
 ghost use Rattle.oftp_notes.specs.Seen.{IsOneLine, seen_line};
 
@@ -10,7 +9,7 @@ use crate::cause::{AddressCause, DatabaseCause, FileState, PathCause};
 use crate::field::Field;
 use crate::finding::Finding;
 use crate::seen::line_of;
-use oftp_wire::Count;
+use oftp_wire::{Count, session_phrase};
 use std::alloc::{AllocError, Global};
 use std::fmt;
 
@@ -46,6 +45,10 @@ pub enum BookNote<'a> {
 pub enum RefusalNote<'a> {
     /// No incoming file has this number.
     NoFile(u64),
+    /// No outgoing file has this number.
+    NoOutgoing(u64),
+    /// The outgoing file with this number is still to be sent.
+    Unsent(u64),
     /// No partner of the book has this code.
     NoPartner {
         /// The code.
@@ -143,30 +146,6 @@ pub enum Note<'a> {
     End(SessionEnd),
 }
 
-/// What a reason of ESID is called (RFC 5024, section 5.3.11). Nothing for a number that isn't listed.
-#[tactic(auto, unfolding(oftp_wire::specs::Reasons::session_phrase))]
-fn session_phrase(number: Count<2>) -> &'static str
-    ensures { result.now ≡ session_phrase number }
-{
-    match number.get() {
-        0 => "normal",
-        1 => "command not recognised",
-        2 => "protocol violation",
-        3 => "user code not known",
-        4 => "invalid password",
-        5 => "local site emergency close down",
-        6 => "invalid data",
-        7 => "buffer size error",
-        8 => "resources not available",
-        9 => "time out",
-        10 => "mode or capabilities incompatible",
-        11 => "invalid challenge response",
-        12 => "secure authentication requirements incompatible",
-        99 => "unspecified abort code",
-        _ => "",
-    }
-}
-
 impl fmt::Display for SessionEnd {
     ghost output = { λ end. Some (end_text end) };
 
@@ -246,6 +225,8 @@ impl fmt::Display for RefusalNote<'_> {
     fn fmt<W: fmt::Write>(&self, f: &mut fmt::Formatter<W>) -> fmt::Result {
         match self {
             RefusalNote::NoFile(no) => write!(f, "{no}: no incoming file has this number"),
+            RefusalNote::NoOutgoing(no) => write!(f, "{no}: no outgoing file has this number"),
+            RefusalNote::Unsent(no) => write!(f, "{no}: this outgoing file isn't sent yet"),
             RefusalNote::NoPartner { code, book } => {
                 write!(f, "{code}: no partner in {book} has this code")
             }

@@ -13,13 +13,13 @@ use Rattle.oftp_engine.specs.declared.serving.RunFault.TheVariants.{Read, Write,
 use Rattle.oftp_listing.specs.declared.fault.ListFault.{ListFault}
 use Rattle.oftp_listing.specs.declared.fault.ListFault.TheVariants as list
 use Rattle.oftp_outcomes.specs.declared.carried.Carried.{Carried}
-use Rattle.oftp_outcomes.specs.declared.carried.Carried.TheVariants.{Collected, Offered, Left}
+use Rattle.oftp_outcomes.specs.declared.carried.Carried.TheVariants.{Collected, Offered, Left, Unnamed}
 use Rattle.oftp_outcomes.specs.declared.carried.Why.{Why}
 use Rattle.oftp_outcomes.specs.declared.carried.Why.TheVariants as whys
 use Rattle.oftp_outcomes.specs.declared.outcome.Fault.{Fault}
 use Rattle.oftp_outcomes.specs.declared.outcome.Fault.TheVariants.{Run, Book, Store, File, Socket}
 use Rattle.oftp_outcomes.specs.declared.outcome.Outcome.{Outcome}
-use Rattle.oftp_outcomes.specs.declared.outcome.Outcome.TheVariants.{Initiated, Migrated, Checked, Ended, Done, BackedUp, Refused}
+use Rattle.oftp_outcomes.specs.declared.outcome.Outcome.TheVariants.{Initiated, Migrated, Checked, Ended, Done, BackedUp, Stopped, Reloaded, Refused}
 use Rattle.oftp_outcomes.specs.declared.outcome.Verb.{Verb}
 use Rattle.oftp_outcomes.specs.declared.outcome.Verb.TheVariants.{Submit, Release, Refuse, Fetch}
 
@@ -79,7 +79,14 @@ outcome_line (Ended (Partner number)) = codes "end: partner " ++ two_digits numb
 outcome_line (Ended Input) = codes "end: input"
 outcome_line (Done verb number) = codes "done: " ++ (verb_text verb ++ (codes " " ++ decimal number))
 outcome_line BackedUp = codes "done: backup"
+outcome_line Stopped = codes "done: stop"
+outcome_line Reloaded = codes "done: reload"
 outcome_line (Refused why) = refusal_phrase why
+
+-- the line on standard output for an outgoing file with this number that is submitted again
+abbrev pub resent_line : ℕ → Outcome → List ℕ
+resent_line number (Done verb copy) = codes "done: resend " ++ (decimal number ++ (codes " " ++ decimal copy))
+resent_line number outcome = outcome_line outcome
 
 -- the outcome of an operator's call on one file
 abbrev pub outcome_of : Verb → Told → Outcome
@@ -96,6 +103,7 @@ abbrev pub carried_line : Carried → List ℕ
 carried_line (Collected number name) = codes "done: collect " ++ (decimal number ++ (codes " " ++ name.now))
 carried_line (Offered number name) = codes "done: offer " ++ (decimal number ++ (codes " " ++ name.now))
 carried_line (Left why name) = why_line why ++ (codes " " ++ name.now)
+carried_line (Unnamed name) = codes "left: " ++ (name.now ++ codes ": no dataset name")
 
 -- an output took this text and a line end, where the text is known, and what the output has
 abbrev pub TakesLine : Option (List ℕ) → Option (List ℕ) → Option (List ℕ) → Type 0
@@ -109,4 +117,6 @@ is_refusal (Checked count) = false
 is_refusal (Ended how) = false
 is_refusal (Done verb number) = false
 is_refusal BackedUp = false
+is_refusal Stopped = false
+is_refusal Reloaded = false
 is_refusal (Refused why) = true

@@ -1,10 +1,16 @@
 -- The exit statuses of commands, and which errors are printed.
-use Rattle.std.specs.Prelude.{ℕ, Bool, true, false}
+use Rattle.std.specs.Prelude.{ℕ, Bool, true, false, not, ◌==◌}
 use Rattle.std.specs.declared.io.ErrorKind.{ErrorKind}
 use Rattle.std.specs.declared.io.ErrorKind.TheVariants.{BrokenPipe}
 use Rattle.oftp_engine.specs.declared.operating.Told.{Told}
 use Rattle.oftp_engine.specs.declared.operating.Told.TheVariants.{Done, Refused}
+use Rattle.oftp_wire.specs.Reasons.{session_number}
+use Rattle.oftp_engine.specs.declared.serving.End.{End}
+use Rattle.oftp_engine.specs.declared.serving.End.TheVariants.{Own, Partner, Input}
 use Rattle.oftp_engine.specs.declared.serving.RunFault.TheVariants.{Write}
+use Rattle.oftp_outcomes.specs.Printed.{is_refusal}
+use Rattle.oftp_outcomes.specs.declared.outcome.Outcome.{Outcome}
+use Rattle.oftp_outcomes.specs.declared.outcome.Outcome.TheVariants.{Ended}
 use Rattle.oftp_outcomes.specs.declared.outcome.Fault.{Fault}
 use Rattle.oftp_outcomes.specs.declared.outcome.Fault.TheVariants.{Run}
 use Rattle.oftp_outcomes.specs.declared.output.Reader.{Reader}
@@ -20,6 +26,17 @@ status_if false = DONE
 abbrev pub status_of : Told → ℕ
 status_of (Done n) = DONE
 status_of (Refused why) = FAILED
+
+-- a session ended by an ESID that gives the reason 00, of either side (RFC 5024, section 5.3.11)
+abbrev pub is_good : End → Bool
+is_good (Own reason) = session_number reason == 0
+is_good (Partner number) = number == 0
+is_good Input = false
+
+-- that of a command that runs one session, and counts each end but 00 as a failure
+abbrev pub status_after : Outcome → ℕ
+status_after (Ended end) = status_if (not (is_good end))
+status_after outcome = status_if (is_refusal outcome)
 
 -- whether somebody reads an output after an error of this kind
 abbrev pub reader_after : Reader → ErrorKind → Reader

@@ -51,6 +51,11 @@ pub enum Carried<'a> {
         /// Its name in the folder, or the name that it would have there.
         name: &'a str,
     },
+    /// A file stays in the folder, since its name is no dataset name.
+    Unnamed {
+        /// Its name in the folder, without characters that can't be seen.
+        name: &'a str,
+    },
 }
 
 impl fmt::Display for Carried<'_> {
@@ -61,6 +66,7 @@ impl fmt::Display for Carried<'_> {
             Carried::Collected { no, name } => write!(f, "done: collect {no} {name}"),
             Carried::Offered { no, name } => write!(f, "done: offer {no} {name}"),
             Carried::Left { why, name } => write!(f, "{why} {name}"),
+            Carried::Unnamed { name } => write!(f, "left: {name}: no dataset name"),
         }
     }
 }

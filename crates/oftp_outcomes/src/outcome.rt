@@ -1,7 +1,7 @@
 //! The results of commands, as they are printed.
 
 ghost use Rattle.std.specs.Prelude.{◌≡◌, IfErr, OnOk, Some};
-ghost use Rattle.oftp_outcomes.specs.Printed.{TakesLine, fault_in_memory, fault_line, fault_of_report, is_refusal, outcome_line, outcome_of, out_of_memory, verb_text, write_fault};
+ghost use Rattle.oftp_outcomes.specs.Printed.{TakesLine, fault_in_memory, fault_line, fault_of_report, is_refusal, outcome_line, outcome_of, out_of_memory, resent_line, verb_text, write_fault};
 
 use oftp_engine::{End, Refusal, RunFault, Told};
 use oftp_listing::ListFault;
@@ -130,6 +130,10 @@ pub enum Outcome {
     Done(Verb, u64),
     /// The database was copied.
     BackedUp,
+    /// The station has ended.
+    Stopped,
+    /// The station has read its book again.
+    Reloaded,
     /// The command was refused, and nothing was changed.
     Refused(Refusal),
 }
@@ -141,6 +145,7 @@ impl Outcome {
     {
         match self {
             Outcome::Initiated | Outcome::Migrated | Outcome::BackedUp => false,
+            Outcome::Stopped | Outcome::Reloaded => false,
             Outcome::Checked(_) | Outcome::Ended(_) | Outcome::Done(..) => false,
             Outcome::Refused(_) => true,
         }
@@ -166,7 +171,29 @@ impl fmt::Display for Outcome {
             Outcome::Ended(End::Input) => f.write_str("end: input"),
             Outcome::Done(verb, no) => write!(f, "done: {verb} {no}"),
             Outcome::BackedUp => f.write_str("done: backup"),
+            Outcome::Stopped => f.write_str("done: stop"),
+            Outcome::Reloaded => f.write_str("done: reload"),
             Outcome::Refused(why) => write!(f, "{why}"),
+        }
+    }
+}
+
+/// How the command ended that submits an outgoing file again: the line on standard output.
+#[derive(Clone, Copy, Debug, PartialEq, Eq, Drop)]
+pub struct Resent {
+    /// The number of the outgoing file.
+    pub no: u64,
+    /// The outcome. Its number is that of the new file.
+    pub outcome: Outcome,
+}
+
+impl fmt::Display for Resent {
+    ghost output = { λ resent. Some (resent_line resent.no resent.outcome) };
+
+    fn fmt<W: fmt::Write>(&self, f: &mut fmt::Formatter<W>) -> fmt::Result {
+        match self.outcome {
+            Outcome::Done(_, copy) => write!(f, "done: resend {} {copy}", self.no),
+            outcome => write!(f, "{outcome}"),
         }
     }
 }

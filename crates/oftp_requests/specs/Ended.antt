@@ -5,9 +5,9 @@ use Rattle.oftp_channel.specs.declared.ending.Ending.TheVariants as endings
 use Rattle.oftp_engine.specs.declared.operating.Refusal.{Refusal}
 use Rattle.oftp_engine.specs.declared.serving.RunFault.TheVariants.{Office}
 use Rattle.oftp_outcomes.specs.declared.outcome.Fault.{Fault}
-use Rattle.oftp_outcomes.specs.declared.outcome.Fault.TheVariants.{Run}
+use Rattle.oftp_outcomes.specs.declared.outcome.Fault.TheVariants.{Run, Socket}
 use Rattle.oftp_outcomes.specs.declared.outcome.Outcome.{Outcome}
-use Rattle.oftp_outcomes.specs.declared.outcome.Outcome.TheVariants.{Done, Refused}
+use Rattle.oftp_outcomes.specs.declared.outcome.Outcome.TheVariants.{Done, Refused, Stopped}
 
 -- the error of a request whose end it can't have
 abbrev pub lost : Fault
@@ -20,10 +20,18 @@ outcome_of_end endings.Listed = Err lost
 outcome_of_end endings.Same = Err lost
 outcome_of_end endings.Other = Err lost
 
+abbrev pub stopped_by : Result Outcome Fault → Result Outcome Fault
+stopped_by (Err Socket) = Ok Stopped
+stopped_by told = told
+
 -- the outcome of a request that ended or failed
 abbrev pub outcome_in : Result Ending Fault → Result Outcome Fault
 outcome_in (Ok ending) = outcome_of_end ending
 outcome_in (Err fault) = Err fault
+
+-- a station that isn't there any more to answer has ended, as it was told to
+abbrev pub stopped_in : Result Ending Fault → Result Outcome Fault
+stopped_in asked = stopped_by (outcome_in asked)
 
 abbrev pub number_of_done : Outcome → Result (Result ℕ Refusal) Fault
 number_of_done (Done verb number) = Ok (Ok number)

@@ -1,5 +1,7 @@
 -- What a request asks of the schedule, how a session ended, what becomes of an error, and what comes of accepting a connection.
 use Rattle.std.specs.Prelude.{Option, None, Some, Result, Ok, Err, Bool, true, false}
+use Rattle.oftp_channel.specs.declared.asking.Haste.{Haste}
+use Rattle.oftp_channel.specs.declared.asking.Haste.TheVariants as haste
 use Rattle.oftp_channel.specs.declared.asking.Request.{Request}
 use Rattle.oftp_channel.specs.declared.asking.Request.TheVariants as request
 use Rattle.oftp_channel.specs.declared.ending.Ending.{Ending}
@@ -38,7 +40,7 @@ use Rattle.oftp_outcomes.specs.declared.service.Term.TheVariants as term
 -- what a request asks of the schedule: an operator's call is a change, and each other one that calls nobody a look-up or a copy
 abbrev pub asking_of : Request → Asking
 asking_of (request.Operate book call) = asking.For wanted.Update
-asking_of (request.Call book partner patience longest tracing) = asking.Call
+asking_of (request.Call partner patience longest tracing) = asking.Call
 asking_of (request.Report kind) = asking.For wanted.Query
 asking_of request.Unanswered = asking.For wanted.Query
 asking_of (request.Outgoing to) = asking.For wanted.Query
@@ -46,6 +48,13 @@ asking_of (request.Fetch n) = asking.For wanted.Query
 asking_of (request.Holds n content) = asking.For wanted.Query
 asking_of request.Backup = asking.For wanted.Backup
 asking_of request.Init = asking.For wanted.Query
+asking_of (request.Stop haste.InTurn) = asking.For wanted.Update
+asking_of (request.Stop haste.AtOnce) = asking.For wanted.Query
+asking_of request.Reload = asking.For wanted.Update
+asking_of (request.Resend book n date time) = asking.For wanted.Update
+asking_of (request.Status form) = asking.For wanted.Query
+asking_of (request.Health warn critical) = asking.For wanted.Query
+asking_of request.Settled = asking.For wanted.Query
 
 -- what the schedule is told of a request that asks for this, and whose call would be one of this partner: a call that can't be made is a look-up
 abbrev pub signal_of : Asking → Option Partner → Signal
@@ -109,6 +118,21 @@ ended_for reason.Evicted = Err (trouble_of run.Read)
 ended_for reason.Invalid = Err (trouble_of run.Read)
 ended_for reason.TimedOut = Err (trouble_of run.Read)
 ended_for reason.Vanished = Err (trouble_of run.Read)
+
+-- where the station was told to end, a session that is cut off for this isn't over for a failing office: nothing more is heard of its partner
+abbrev pub told_reason : Option Haste → Reason → Reason
+told_reason (Some haste.AtOnce) reason.Stopping = reason.Vanished
+told_reason stop it = it
+
+-- how the schedule is told that the station ends: a session goes on to its end, or is cut off as for a failing office
+abbrev pub told_status : Haste → Status
+told_status haste.InTurn = status.Stopped
+told_status haste.AtOnce = status.OfficeFailed
+
+-- how a station ended that was told to end so
+abbrev pub last_status : Option Haste → Status → Status
+last_status (Some haste.AtOnce) status.OfficeFailed = status.Stopped
+last_status stop it = it
 
 -- what becomes of the error of a request that has no answer for it: one of a life for one job ends the service only if it is the service's
 abbrev pub closing_of : Option Trouble → Term → Closing

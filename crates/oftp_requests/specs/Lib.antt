@@ -6,4 +6,8 @@ pub mod Judged
 pub mod Listed
 pub mod LookedUp
 pub mod Operated
+pub mod Pacing
+pub mod Resent
+pub mod Soughts
+pub mod Standings
 pub mod Verbs

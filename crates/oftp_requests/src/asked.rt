@@ -3,11 +3,13 @@
 use crate::asking::{look_up, operate};
 use crate::judging::{asking_of, signal_of};
 use crate::made::Made;
-use oftp_channel::{Ending, Request, Tracing, read_request};
-use oftp_engine::Port;
+use crate::resending::{Again, resend};
+use crate::sought::{Sought, sought_of};
+use oftp_channel::{Ending, Haste, Request, Tracing, read_request};
+use oftp_engine::{Port, Refusal};
 use oftp_files::book_of;
 use oftp_life::Life;
-use oftp_outcomes::Fault;
+use oftp_outcomes::{Fault, Outcome};
 use oftp_partners::{self as partners, Book};
 use oftp_register::Office;
 use oftp_schedule::connection::{Partner, Signal};
@@ -21,6 +23,15 @@ const OF_NO_CLOCK: u32 = u32::MAX;
 #[derive(Drop)]
 pub struct Asked {
     words: Vec<Vec<u8>>,
+}
+
+/// What a command asks of the station itself.
+#[derive(Clone, Copy)]
+pub enum Order {
+    /// To end.
+    Stop(Haste),
+    /// To read its book again.
+    Reload,
 }
 
 /// A call that a command or the clock wants.
@@ -71,51 +82,43 @@ impl Asked {
         Request::of(self.words.as_slice())
     }
 
-    /// What the schedule is told of it.
-    pub fn signal(&self, alloc: Global) -> Signal {
-        let Some(request) = self.request() else {
-            return Signal::Rejected;
-        };
-        let partner = match self.wanted(alloc) {
-            Ok(wanted) => Some(wanted.partner),
-            Err(_) => None,
-        };
-        signal_of(asking_of(&request), partner)
+    /// What it asks of the station itself, if it does.
+    pub fn order(&self) -> Option<Order> {
+        match self.request() {
+            Some(Request::Stop(haste)) => Some(Order::Stop(haste)),
+            Some(Request::Reload) => Some(Order::Reload),
+            _ => None,
+        }
     }
 
-    /// The call that it asks for.
+    /// What the schedule of a station with this book is told of it.
+    pub fn signal(&self, book: &Book) -> Signal {
+        match self.request() {
+            Some(request) => signal_of(asking_of(&request), called_in(book, &request)),
+            None => Signal::Rejected,
+        }
+    }
+
+    /// The call of a partner of this book that it asks for.
     ///
     /// # Errors
-    /// [`Fault::Book`]; [`Fault::Socket`] if it asks for none, or its book has no such partner; [`Fault::MEMORY`].
-    pub fn wanted(&self, alloc: Global) -> Result<Wanted, Fault> {
+    /// [`Fault::Socket`] if it asks for none, or the book has no such partner; [`Fault::MEMORY`].
+    pub fn wanted(&self, alloc: Global, book: &Book) -> Result<Wanted, Fault> {
         match self.request() {
             Some(
                 Request::Call {
-                    book,
                     partner: code,
                     patience,
                     longest,
                     tracing,
                 },
             ) => {
-                let book = book_of(alloc, book)?;
                 let Some(partner) = book.partner(code.as_bytes()) else {
                     return Err(Fault::Socket);
                 };
-                let called = partner_of(&book, OF_NO_CLOCK, partner, patience, longest);
+                let called = partner_of(book, OF_NO_CLOCK, partner, patience, longest);
                 Wanted::of(alloc, called, code, partner, tracing)
             }
-            _ => Err(Fault::Socket),
-        }
-    }
-
-    /// The book of the call that it asks for.
-    ///
-    /// # Errors
-    /// [`Fault::Book`]; [`Fault::Socket`] if it asks for none; [`Fault::MEMORY`].
-    pub fn book(&self, alloc: Global) -> Result<Book, Fault> {
-        match self.request() {
-            Some(Request::Call { book, .. }) => book_of(alloc, book),
             _ => Err(Fault::Socket),
         }
     }
@@ -124,17 +127,17 @@ impl Asked {
     pub fn look<O: Office>(&self, alloc: Global, office: &mut O) -> Made {
         let mut out = Port::new(Vec::new(alloc), 0);
         let ending = match self.request() {
-            Some(Request::Call { .. }) => self.no_call(alloc),
+            // It is looked up only if the station's book has no such partner.
+            Some(Request::Call { .. }) => Ok(Ending::Outcome(Outcome::Refused(Refusal::Unknown))),
             Some(request) => look_up(alloc, office, &request, &mut out),
             None => Err(Fault::MEMORY),
         };
         Made::of(alloc, out.into_inner().as_slice(), ending)
     }
 
-    /// Why a call isn't made.
-    fn no_call(&self, alloc: Global) -> Result<Ending, Fault> {
-        self.wanted(alloc)?;
-        Err(Fault::Socket)
+    /// What it asks for of the station itself.
+    pub fn sought(&self) -> Option<Sought> {
+        sought_of(&self.request()?)
     }
 
     /// Makes the change that it asks for.
@@ -142,7 +145,7 @@ impl Asked {
         Made::of(alloc, &[], self.operated(alloc, life))
     }
 
-    /// Carries out the operator's call that it asks for.
+    /// Carries out what it asks for that is an operator's call.
     fn operated<O: Office>(&self, alloc: Global, life: &mut Life<O>) -> Result<Ending, Fault> {
         match self.request() {
             Some(Request::Operate { book, call }) => {
@@ -150,8 +153,36 @@ impl Asked {
                 let outcome = operate(alloc, life, &book, &call)?;
                 Ok(Ending::Outcome(outcome))
             }
+            Some(
+                Request::Resend {
+                    book,
+                    no,
+                    date,
+                    time,
+                },
+            ) => {
+                let book = book_of(alloc, book)?;
+                let outcome = resend(alloc, life, &book, &Again { no, date, time })?;
+                Ok(Ending::Outcome(outcome))
+            }
             _ => Err(Fault::Socket),
         }
+    }
+}
+
+/// What the schedule is told of the partner whom a request wants to be called, if the book has that partner.
+fn called_in(book: &Book, request: &Request<'_>) -> Option<Partner> {
+    match *request {
+        Request::Call {
+            partner,
+            patience,
+            longest,
+            ..
+        } => {
+            let found = book.partner(partner.as_bytes())?;
+            Some(partner_of(book, OF_NO_CLOCK, found, patience, longest))
+        }
+        _ => None,
     }
 }
 

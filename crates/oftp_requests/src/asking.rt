@@ -10,6 +10,7 @@ use crate::comparing::Comparison;
 use crate::fetched::entry_to_fetch;
 use crate::listed::{list_outgoing, list_unanswered};
 use crate::outgoing::write_outgoing;
+use crate::settled::list_open;
 use oftp_channel::{Ending, Request};
 use oftp_engine::{Operator, Port, write_content};
 use oftp_life::Life;
@@ -59,6 +60,7 @@ pub fn operate<O: Office>(
     // The headline.
     ensures leaves { HasLeft O.view life.new.began life.new.acts life.new.over life.new.office }
 {
+    // Nobody reads this line: the program prints one of what this returns.
     let mut line = Port::new(io::sink(), 0);
     match life.order(alloc, book, call, &mut line) {
         Ok(told) => Ok(outcome_of(verb_of(call), told)),
@@ -69,7 +71,8 @@ pub fn operate<O: Office>(
 /// Looks up what a request asks for, and writes the report, the list or the content to `out`.
 ///
 /// # Errors
-/// [`Fault::Run`] if the office failed, or `out` returned an error; [`Fault::MEMORY`]; [`Fault::Socket`] if the request is for no look-up.
+/// [`Fault::Run`] if the office failed, or `out` returned an error; [`Fault::MEMORY`]; [`Fault::Socket`] if the request is for no look-up of
+/// the register.
 /// A beginning is written then.
 pub fn look_up<O: Office, W: Write>(
     alloc: Global,
@@ -84,7 +87,10 @@ pub fn look_up<O: Office, W: Write>(
         Request::Fetch { no } => fetch(alloc, office, no, out),
         Request::Holds { no, content } => compare(alloc, office, no, content),
         Request::Init => Ok(Ending::Outcome(Outcome::Initiated)),
+        Request::Settled => list_open(alloc, office, out),
+        Request::Status(_) | Request::Health { .. } => Err(Fault::Socket),
         Request::Operate { .. } | Request::Call { .. } | Request::Backup => Err(Fault::Socket),
+        Request::Stop(_) | Request::Reload | Request::Resend { .. } => Err(Fault::Socket),
     }
 }
 

@@ -1,7 +1,7 @@
 //! What a command takes from the end of its request.
 
 ghost use Rattle.std.specs.Prelude.{◌≡◌};
-ghost use Rattle.oftp_requests.specs.Ended.{number_in, outcome_in, refusal_in};
+ghost use Rattle.oftp_requests.specs.Ended.{number_in, outcome_in, refusal_in, stopped_in};
 
 use oftp_channel::Ending;
 use oftp_engine::{Refusal, RunFault};
@@ -21,6 +21,19 @@ pub fn outcome_in(asked: Result<Ending, Fault>) -> Result<Outcome, Fault>
         Ok(Ending::Outcome(outcome)) => Ok(outcome),
         Ok(Ending::Failed(fault)) | Err(fault) => Err(fault),
         Ok(Ending::Listed | Ending::Same | Ending::Other) => Err(GONE),
+    }
+}
+
+/// The outcome with which a request to end ended. A station that isn't there any more to answer it, since it ends already, has ended, too.
+///
+/// # Errors
+/// Those of [`outcome_in`].
+pub fn stopped_in(asked: Result<Ending, Fault>) -> Result<Outcome, Fault>
+    ensures { result ≡ stopped_in asked }
+{
+    match outcome_in(asked) {
+        Err(Fault::Socket) => Ok(Outcome::Stopped),
+        other => other,
     }
 }
 

@@ -1,9 +1,9 @@
 //! What a request asks of the schedule, how a session ended, and what becomes of an error.
 
 ghost use Rattle.std.specs.Prelude.{◌≡◌};
-ghost use Rattle.oftp_requests.specs.Judged.{asking_of, closing_of, declined, ended_for, farewell_of, goes_on, office_after, office_within, result_at, result_of, signal_of, trouble_of, trouble_within};
+ghost use Rattle.oftp_requests.specs.Judged.{asking_of, closing_of, declined, ended_for, farewell_of, goes_on, office_after, office_within, told_reason, result_at, result_of, signal_of, last_status, told_status, trouble_of, trouble_within};
 
-use oftp_channel::{Ending as Answered, Request};
+use oftp_channel::{Ending as Answered, Haste, Request};
 use oftp_engine::{End, RunFault};
 use oftp_life::Stage;
 use oftp_listing::OfficeState;
@@ -26,11 +26,16 @@ pub(crate) fn asking_of(request: &Request<'_>) -> Asking
 {
     match request {
         Request::Operate { .. } => Asking::For(schedule::Request::Update),
+        Request::Resend { .. } => Asking::For(schedule::Request::Update),
         Request::Call { .. } => Asking::Call,
         Request::Backup => Asking::For(schedule::Request::Backup),
+        Request::Stop(Haste::InTurn) | Request::Reload => Asking::For(schedule::Request::Update),
+        Request::Stop(Haste::AtOnce) => Asking::For(schedule::Request::Query),
         Request::Report(_) | Request::Init => Asking::For(schedule::Request::Query),
         Request::Unanswered | Request::Outgoing { .. } => Asking::For(schedule::Request::Query),
         Request::Fetch { .. } | Request::Holds { .. } => Asking::For(schedule::Request::Query),
+        Request::Status(_) | Request::Health { .. } => Asking::For(schedule::Request::Query),
+        Request::Settled => Asking::For(schedule::Request::Query),
     }
 }
 
@@ -120,6 +125,36 @@ pub fn ended_for(reason: Reason) -> Result<End, Trouble>
         Reason::Evicted | Reason::Invalid | Reason::TimedOut | Reason::Vanished => {
             Err(trouble_of(RunFault::Read))
         }
+    }
+}
+
+/// The reason for which a session is over, where the station was told to end: one that is cut off for this isn't over for a failing office.
+pub fn told_reason(stop: Option<Haste>, reason: Reason) -> Reason
+    ensures { result ≡ told_reason stop reason }
+{
+    match (stop, reason) {
+        (Some(Haste::AtOnce), Reason::Stopping) => Reason::Vanished,
+        (_, reason) => reason,
+    }
+}
+
+/// How the schedule is told that the station ends: as for a failing office where the session is cut off.
+pub fn told_status(haste: Haste) -> Status
+    ensures { result ≡ told_status haste }
+{
+    match haste {
+        Haste::InTurn => Status::Stopped,
+        Haste::AtOnce => Status::OfficeFailed,
+    }
+}
+
+/// How the station ended, where it was told to: not for a failing office because a session was cut off.
+pub fn last_status(stop: Option<Haste>, status: Status) -> Status
+    ensures { result ≡ last_status stop status }
+{
+    match (stop, status) {
+        (Some(Haste::AtOnce), Status::OfficeFailed) => Status::Stopped,
+        (_, status) => status,
     }
 }
 

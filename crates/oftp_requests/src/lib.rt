@@ -14,18 +14,27 @@ mod judging;
 mod listed;
 mod made;
 mod outgoing;
+mod pacing;
+mod resending;
+mod settled;
+mod sought;
+mod standings;
 
 pub use answers::{answer_of, answer_of_call, bare_answer, copy_let};
-pub use asked::{Asked, Wanted, partner_of};
+pub use asked::{Asked, Order, Wanted, partner_of};
 pub use asking::{Backend, look_up, operate};
-pub use codes::codes_of;
+pub use codes::{PartnerLimit, codes_of, overdues_of};
 pub use comparing::Comparison;
 pub use due::is_due;
-pub use ended::{GONE, number_in, outcome_in, refusal_in};
+pub use ended::{GONE, number_in, outcome_in, refusal_in, stopped_in};
 pub use entries::{FileEntry, FileList};
 pub use fetched::entry_to_fetch;
 pub use judging::{
-    Closing, closing_of, declined, ended_for, farewell_of, goes_on, office_within, result_at,
-    result_of, trouble_of,
+    Closing, closing_of, declined, ended_for, farewell_of, goes_on, last_status, office_within,
+    result_at, result_of, told_reason, told_status, trouble_of,
 };
 pub use made::{Made, stopping};
+pub use pacing::Pace;
+pub use resending::{Again, resend};
+pub use sought::{Sought, sought_by};
+pub use standings::{Counting, Whose, counted_as, files_in};

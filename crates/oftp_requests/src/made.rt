@@ -1,10 +1,11 @@
 //! What is made for whoever asked, and whether the office failed meanwhile.
 
 use crate::answers::answer_of;
+use crate::asked::Order;
 use crate::judging::office_after;
 use oftp_channel::Ending;
 use oftp_listing::{ListFault, OfficeState, Query, Reply, stopping_reply};
-use oftp_outcomes::{Fault, Trouble};
+use oftp_outcomes::{Fault, Outcome, Trouble};
 use std::alloc::Global;
 
 /// The answer to a request, and whether the office failed while it was made.
@@ -24,6 +25,20 @@ impl Made {
         }
     }
 
+    /// The answer to a command whose order was carried out.
+    pub fn obeyed(alloc: Global, order: Order) -> Made {
+        let outcome = match order {
+            Order::Stop(_) => Outcome::Stopped,
+            Order::Reload => Outcome::Reloaded,
+        };
+        Made::of(alloc, &[], Ok(Ending::Outcome(outcome)))
+    }
+
+    /// The answer to a command whose order failed.
+    pub fn failed(alloc: Global, fault: Fault) -> Made {
+        Made::of(alloc, &[], Err(fault))
+    }
+
     /// The answer to a command with this content and this end, or this error. What was written to memory fails only where memory runs out.
     pub(crate) fn of(alloc: Global, content: &[u8], ending: Result<Ending, Fault>) -> Made {
         let ending = match ending {
@@ -34,6 +49,14 @@ impl Made {
         Made {
             octets: answer_of(alloc, content, ending).unwrap_or(Vec::new(alloc)),
             office,
+        }
+    }
+
+    /// The answer to a command that asks for something of the station itself: this content, or this error.
+    pub fn told(alloc: Global, content: Result<Vec<u8>, Fault>) -> Made {
+        match content {
+            Ok(content) => Made::of(alloc, content.as_slice(), Ok(Ending::Listed)),
+            Err(fault) => Made::of(alloc, &[], Err(fault)),
         }
     }
 

@@ -5,7 +5,8 @@ use crate::service::{Shell, peer_in};
 use oftp_engine::{Admission, End};
 use oftp_listing::{Site, read_query};
 use oftp_outcomes::{Fault, Trouble};
-use oftp_requests::Asked;
+use oftp_partners::Book;
+use oftp_requests::{Asked, sought_by};
 use oftp_schedule::connection::{Request, Signal};
 use oftp_sockets::socket_fault;
 use std::alloc::Global;
@@ -23,13 +24,14 @@ impl Shell<'_> {
     fn attend(&mut self, place: usize) -> Result<(), Fault> {
         let alloc = self.rt.alloc();
         let site = self.config.site;
+        let book = self.station.book;
         let Some(peer) = self.peers.get_mut(place) else {
             return Ok(());
         };
         let id = peer.id;
         let sent = peer.send();
         peer.end_writing();
-        let heard = peer.hear(alloc, site);
+        let heard = peer.hear(alloc, book, site);
         let is_dialing = peer.reading == Reading::Dial && peer.readiness.is_writable;
         if let Some(signal) = sent {
             self.tell(id, signal)?;
@@ -57,7 +59,12 @@ impl Shell<'_> {
                 peer.connect();
                 self.tell(id, Signal::Up)
             }
-            Err(error) => self.connect(rt, id, socket_fault(&error)),
+            Err(error) => {
+                if let Task::Call(call) = &mut peer.task {
+                    call.blame(&error);
+                }
+                self.connect(rt, id, socket_fault(&error))
+            }
         }
     }
 }
@@ -73,7 +80,7 @@ impl Peer<'_> {
     }
 
     /// Reads what is there. Returns what is to be told of it.
-    fn hear(&mut self, alloc: Global, site: Site<'_>) -> Option<Signal> {
+    fn hear(&mut self, alloc: Global, book: &Book, site: Site<'_>) -> Option<Signal> {
         if self.reading == Reading::Nothing && self.readiness.is_gone {
             return Some(Signal::Lost);
         }
@@ -81,7 +88,7 @@ impl Peer<'_> {
             return None;
         }
         match self.take_in() {
-            Came::Octets(_) => self.judge(alloc, site),
+            Came::Octets(_) => self.judge(alloc, book, site),
             Came::Nothing => None,
             Came::End => Some(Signal::Ends),
             Came::Lost => Some(Signal::Lost),
@@ -89,11 +96,11 @@ impl Peer<'_> {
     }
 
     /// Judges what has come so far.
-    fn judge(&mut self, alloc: Global, site: Site<'_>) -> Option<Signal> {
+    fn judge(&mut self, alloc: Global, book: &Book, site: Site<'_>) -> Option<Signal> {
         match self.reading {
             Reading::Opening => self.judge_opening(alloc),
             Reading::Session => Some(Signal::Came),
-            Reading::Command => self.judge_command(alloc),
+            Reading::Command => self.judge_command(alloc, book),
             Reading::Request => self.judge_request(alloc, site),
             _ => None,
         }
@@ -131,7 +138,7 @@ impl Peer<'_> {
     }
 
     /// Judges what has come of a command's request.
-    fn judge_command(&mut self, alloc: Global) -> Option<Signal> {
+    fn judge_command(&mut self, alloc: Global, book: &Book) -> Option<Signal> {
         match oftp_channel::lacking(self.heard.as_slice()) {
             Ok(0) => {}
             Ok(_) => return None,
@@ -142,7 +149,8 @@ impl Peer<'_> {
         let Some(asked) = Asked::of(alloc, octets.as_slice()) else {
             return Some(Signal::Rejected);
         };
-        let signal = asked.signal(alloc);
+        let signal = asked.signal(book);
+        self.sought = asked.sought();
         self.task = Task::Command(Some(asked));
         Some(signal)
     }
@@ -154,6 +162,10 @@ impl Peer<'_> {
         let query = match read_query(alloc, site, address, self.heard.as_slice()) {
             Ok(query) => Ok(query?),
             Err(fault) => Err(fault),
+        };
+        self.sought = match (site, &query) {
+            (Site::Page(_), Ok(query)) => sought_by(*query, self.heard.as_slice()),
+            _ => None,
         };
         self.task = Task::Visitor(Some(query));
         self.reading = Reading::Nothing;

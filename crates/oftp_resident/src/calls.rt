@@ -1,19 +1,21 @@
 //! The calls of the station: for whom something waits, and how a call gets its connection.
 
 use crate::dialing::Outgoing;
+use crate::diary::Diary;
 use crate::home::Home;
 use crate::peer::{Peer, Reading, Task};
-use crate::service::{Books, Shell, peer_in};
+use crate::service::{Shell, peer_in};
+use crate::status::moment;
 use crate::stream::Stream;
 use oftp_channel::Tracing;
 use oftp_engine::{End, RunFault};
 use oftp_files::{Lines, SessionTrace, Trace};
 use oftp_life::Life;
 use oftp_outcomes::{Fault, Trouble};
-use oftp_partners::Book;
 use oftp_register::Office;
 use oftp_requests::{Asked, Wanted, is_due, partner_of};
 use oftp_schedule::connection::{self as schedule, Asker, Event, Signal};
+use oftp_schedule::durations::millis;
 use oftp_sockets::{Keeper, Station};
 use std::alloc::Global;
 
@@ -24,6 +26,7 @@ impl<'a> Shell<'a> {
         home: &mut Home<'_, O>,
         keeper: &mut impl Keeper<Life<O>>,
     ) -> Result<(), Fault> {
+        self.reviewed = moment(self.rt);
         let opened = home.open(self.rt, keeper);
         self.settle_opening(opened)?;
         for place in 0..self.config.codes.len() {
@@ -71,10 +74,31 @@ impl<'a> Shell<'a> {
         let Ok(is_due) = is_due(self.station.book, code.as_str(), office) else {
             return Ok(None);
         };
-        if is_due {
+        if is_due && self.is_ripe(place)? {
             self.call_at(place)?;
         }
         Ok(Some(()))
+    }
+
+    /// Whether the clock may call the partner at a place of the list now. If so, it does.
+    fn is_ripe(&mut self, place: usize) -> Result<bool, Fault> {
+        let now = self.now()?;
+        let Some(pace) = self.paces.get_mut(place) else {
+            return Ok(true);
+        };
+        let is_ripe = pace.is_ripe(now);
+        if is_ripe {
+            *pace = pace.call(now);
+        }
+        Ok(is_ripe)
+    }
+
+    /// Takes in how a session with a partner ended, or a try at one.
+    pub(crate) fn pace(&mut self, id: u64) {
+        let interval = u64::from(millis(self.config.interval));
+        if let Some(peer) = peer_in(&mut self.peers, id) {
+            peer.pace(self.config.codes, &mut self.paces, interval);
+        }
     }
 
     /// Looks up the address of a call's partner.
@@ -104,12 +128,13 @@ impl<'a> Shell<'a> {
     /// The connection of a call that isn't begun. `None` if there is no such call, or no memory for it.
     fn new_call(&self, id: u64) -> Option<Peer<'a>> {
         let alloc = self.rt.alloc();
+        let book = self.station.book;
         let call = self.schedule.call(id)?;
         let (asker, wanted) = match call.asker {
             Asker::ByClock => (None, self.wanted_by_clock(call.partner)?),
-            Asker::By(id) => (Some(id), self.asked_by(id)?.wanted(alloc).ok()?),
+            Asker::By(id) => (Some(id), self.asked_by(id)?.wanted(alloc, book).ok()?),
         };
-        let outgoing = Outgoing::new(self.rt, asker, wanted.tracing, wanted.address);
+        let outgoing = Outgoing::new(self.rt, book, asker, wanted.tracing, wanted.address);
         let task = Task::Call(outgoing);
         let mut peer = Peer::new(alloc, id, task, Stream::absent(), Reading::Nothing);
         peer.code = Some(wanted.code);
@@ -136,7 +161,9 @@ impl<'a> Shell<'a> {
         let rt = self.rt;
         let alloc = rt.alloc();
         let shared = self.station.trace;
+        let events = self.config.events;
         if let Some(peer) = peer_in(&mut self.peers, id) {
+            peer.diary = Diary::wanted(alloc, events);
             peer.trace = match peer.call() {
                 Some(call) if call.tracing == Tracing::Kept => {
                     Some(SessionTrace::new(alloc, Lines::Own(Trace::kept(rt))))
@@ -170,34 +197,24 @@ impl<'a> Shell<'a> {
         }
     }
 
-    /// Closes the connection of a call, which is made again. The trace of a session that gave way ends as that of one that is cut off.
+    /// Closes the connection of a call, which is made again. The trace and the events of a session that gave way end as those of one that is cut
+    /// off.
     pub(crate) fn hang_up(&mut self, id: u64) {
         let alloc = self.rt.alloc();
+        let ended: Result<End, Fault> = Err(Fault::Run(RunFault::Read));
+        let mut has_begun = false;
         if let Some(peer) = peer_in(&mut self.peers, id) {
-            if let Reading::Session | Reading::Sending = peer.reading
-                && let Some(trace) = &mut peer.trace
-            {
-                let ended: Result<End, Fault> = Err(Fault::Run(RunFault::Read));
-                trace.end(&ended);
+            if let Reading::Session | Reading::Sending = peer.reading {
+                has_begun = true;
+                if let Some(trace) = &mut peer.trace {
+                    trace.end(&ended);
+                }
             }
             peer.hang_up(alloc);
         }
-    }
-
-    /// Whether a session begins by the book of a command, which isn't lent.
-    pub(crate) fn lacks_book(&self, id: u64, books: Books<'_>) -> bool {
-        books.lent_for(id).is_none() && self.asker_of(id).is_some()
-    }
-
-    /// The book of the command that wanted a call. `None` for other calls, or if there is no memory for it.
-    pub(crate) fn book_of_call(&self, call: Option<u64>) -> Option<Book> {
-        let command = self.asker_of(call?)?;
-        self.asked_by(command)?.book(self.rt.alloc()).ok()
-    }
-
-    /// The command that wanted a call.
-    fn asker_of(&self, id: u64) -> Option<u64> {
-        self.peers.iter().find(|peer| peer.id == id)?.asker()
+        if has_begun {
+            self.note_end(id, ended);
+        }
     }
 }
 

@@ -5,8 +5,10 @@ use crate::watch::{Source, Watch};
 use mio::net::TcpStream as Dialed;
 use oftp_channel::Tracing;
 use oftp_outcomes::Fault;
+use oftp_partners::Book;
 use oftp_sockets::socket_fault;
-use std::io;
+use oftp_watching::Cause;
+use std::io::{self, ErrorKind};
 use std::net::{SocketAddr, TcpStream, ToSocketAddrs};
 use std::os::fd::AsRawFd;
 
@@ -15,30 +17,37 @@ const MOST_ADDRESSES: usize = 64;
 
 /// A call of a partner.
 #[derive(Drop)]
-pub(crate) struct Outgoing {
+pub(crate) struct Outgoing<'a> {
+    /// The book by which it is made.
+    pub(crate) book: &'a Book,
     /// The number of the command that wants it; `None` for the clock.
     pub(crate) asker: Option<u64>,
     /// Whether that command wants its trace.
     pub(crate) tracing: Tracing,
     /// The partner's host and port.
     pub(crate) address: String,
+    /// Why the last try to connect failed.
+    pub(crate) cause: Option<Cause>,
     // Their addresses once they are looked up, and how many of these were tried.
     addresses: Vec<SocketAddr>,
     tried: usize,
 }
 
-impl Outgoing {
+impl<'a> Outgoing<'a> {
     /// A call at this address that isn't begun.
     pub(crate) fn new(
         rt: &HostRuntime,
+        book: &'a Book,
         asker: Option<u64>,
         tracing: Tracing,
         address: String,
-    ) -> Outgoing {
+    ) -> Outgoing<'a> {
         Outgoing {
+            book,
             asker,
             tracing,
             address,
+            cause: None,
             addresses: Vec::new(rt.alloc()),
             tried: 0,
         }
@@ -49,13 +58,20 @@ impl Outgoing {
     /// # Errors
     /// There is none; [`Fault::MEMORY`].
     pub(crate) fn resolve(&mut self, rt: &HostRuntime) -> Result<(), Fault> {
+        self.cause = Some(Cause::NoName);
         self.addresses = addresses_of(rt, self.address.as_str())?;
         self.tried = 0;
         if self.addresses.is_empty() {
             Err(Fault::Socket)
         } else {
+            self.cause = None;
             Ok(())
         }
+    }
+
+    /// Notes why an address can't be connected to.
+    pub(crate) fn blame(&mut self, error: &io::Error) {
+        self.cause = Some(cause_of(error.kind()));
     }
 
     /// Begins to connect to the next address that takes it.
@@ -78,10 +94,23 @@ impl Outgoing {
             self.tried = self.tried.saturating_add(1);
             match connecting {
                 Ok(stream) => return Ok(stream),
-                Err(error) => fault = socket_fault(&error),
+                Err(error) => {
+                    self.blame(&error);
+                    fault = socket_fault(&error);
+                }
             }
         }
         Err(fault)
+    }
+}
+
+/// Why an address can't be connected to, after an error of this kind.
+fn cause_of(kind: ErrorKind) -> Cause {
+    match kind {
+        ErrorKind::ConnectionRefused => Cause::Refused,
+        ErrorKind::HostUnreachable | ErrorKind::NetworkUnreachable => Cause::NoRoute,
+        ErrorKind::TimedOut => Cause::TimedOut,
+        _ => Cause::Failed,
     }
 }
 

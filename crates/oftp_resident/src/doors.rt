@@ -1,6 +1,7 @@
 //! Connections that are accepted.
 
 use crate::calls::shared_trace;
+use crate::diary::Diary;
 use crate::peer::{Peer, Reading, Task};
 use crate::service::{ServiceConfig, Shell};
 use crate::stream::Stream;
@@ -126,6 +127,7 @@ impl<'a> Shell<'a> {
         let task = Task::Caller(Some(opening));
         let mut peer = Peer::new(alloc, id, task, stream, Reading::Opening);
         peer.trace = shared_trace(alloc, self.station.trace);
+        peer.diary = Diary::wanted(alloc, self.config.events);
         if has_failed || peer.say(greeting).is_err() {
             peer.note(Err(Trouble::OfService(Fault::MEMORY)));
         }

@@ -1,5 +1,6 @@
 //! The life of a service: with its keeper, in a job, or in a session.
 
+use crate::telling::Progress;
 use oftp_engine::Role;
 use oftp_life::{Guest, Life, LifeSession};
 use oftp_outcomes::Trouble;
@@ -52,6 +53,14 @@ impl<'b, O: Office + Drop> Home<'b, O> {
         match self {
             Home::Talking(session) => Some(session),
             _ => None,
+        }
+    }
+
+    /// Whether a session goes on.
+    pub(crate) fn progress(&self) -> Progress {
+        match self {
+            Home::Talking(_) => Progress::Talking,
+            Home::Idle(_) | Home::Away => Progress::Over,
         }
     }
 

@@ -4,6 +4,7 @@
 mod attending;
 mod calls;
 mod dialing;
+mod diary;
 mod doors;
 mod home;
 mod kept;
@@ -12,9 +13,11 @@ mod requests;
 mod service;
 mod session_lines;
 mod sessions;
+mod status;
 mod stream;
+mod telling;
 mod watch;
 
 pub use kept::Kept;
-pub use service::{ServiceConfig, Start, serve};
+pub use service::{ServiceConfig, Shelf, Start, serve};
 pub use session_lines::SessionLines;

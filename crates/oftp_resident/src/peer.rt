@@ -1,13 +1,14 @@
 //! A connection of the station: its socket, what it has sent, what is to go to it, and what it is.
 
 use crate::dialing::Outgoing;
+use crate::diary::Diary;
 use crate::stream::Stream;
 use oftp_engine::{End, RunFault};
 use oftp_files::SessionTrace;
 use oftp_life::Opening;
 use oftp_listing::{LONGEST_HEAD, ListFault, Query};
 use oftp_outcomes::{Fault, Trouble};
-use oftp_requests::{Asked, trouble_of};
+use oftp_requests::{Asked, Sought, trouble_of};
 use oftp_schedule::connection::Signal;
 use std::alloc::Global;
 use std::io::ErrorKind;
@@ -51,7 +52,7 @@ pub(crate) enum Task<'a> {
     /// A partner who called, with its opening until its session begins.
     Caller(Option<Opening<'a>>),
     /// A partner who is called.
-    Call(Outgoing),
+    Call(Outgoing<'a>),
     /// A command, with its request once that is whole.
     Command(Option<Asked>),
     /// A request over HTTP, with what it asks for once its head is whole, or why that can't be read.
@@ -95,6 +96,8 @@ pub(crate) struct Peer<'a> {
     sent: usize,
     // Whether the station's direction is ended.
     is_ended: bool,
+    /// What it asks for of the station itself, if it does.
+    pub(crate) sought: Option<Sought>,
     /// The answer to its request, once that is made.
     pub(crate) answer: Option<Vec<u8>>,
     /// The partner's code, once it is known.
@@ -102,6 +105,8 @@ pub(crate) struct Peer<'a> {
     /// How its session ended, once it did.
     pub(crate) ended: Option<Result<End, Trouble>>,
     pub(crate) trace: Option<SessionTrace<'a>>,
+    /// What its events tell, where events are written.
+    pub(crate) diary: Option<Diary>,
 }
 
 impl<'a> Peer<'a> {
@@ -127,10 +132,12 @@ impl<'a> Peer<'a> {
             out: Vec::new(alloc),
             sent: 0,
             is_ended: false,
+            sought: None,
             answer: None,
             code: None,
             ended: None,
             trace: None,
+            diary: None,
         }
     }
 
@@ -160,6 +167,9 @@ impl<'a> Peer<'a> {
     /// # Errors
     /// Out of memory. None of them goes then.
     pub(crate) fn say(&mut self, octets: Vec<u8>) -> Result<(), Fault> {
+        if let Some(diary) = &mut self.diary {
+            diary.said(octets.as_slice());
+        }
         if self.left() == 0 {
             self.out = octets;
             self.sent = 0;
@@ -224,6 +234,9 @@ impl<'a> Peer<'a> {
         if let Some(trace) = &mut self.trace {
             trace.heard(piece);
         }
+        if let Some(diary) = &mut self.diary {
+            diary.heard(piece);
+        }
         match self.heard.extend_from_slice(piece) {
             Ok(()) => Came::Octets(piece.len()),
             Err(_) => {
@@ -263,6 +276,9 @@ impl<'a> Peer<'a> {
         };
         match self.stream.write(rest) {
             Ok(count) if count > 0 => {
+                if let Some(diary) = &mut self.diary {
+                    diary.went(count);
+                }
                 if let (Some(trace), Some(said)) = (&mut self.trace, rest.get(..count)) {
                     trace.said(said);
                 }
@@ -313,7 +329,7 @@ impl<'a> Peer<'a> {
     }
 
     /// The call that it is.
-    pub(crate) fn call(&self) -> Option<&Outgoing> {
+    pub(crate) fn call(&self) -> Option<&Outgoing<'a>> {
         match &self.task {
             Task::Call(call) => Some(call),
             _ => None,

@@ -2,20 +2,25 @@
 
 use crate::home::Home;
 use crate::peer::{Peer, Reading, Task};
-use crate::service::{Shell, peer_in};
-use oftp_channel::Ending;
+use crate::service::{Shelf, Shell, paces_of, peer_in};
+use oftp_channel::{Ending, Haste};
 use oftp_engine::RunFault;
+use oftp_files::read_regular_book;
 use oftp_life::Life;
 use oftp_listing::{ListFault, OfficeState, Query, Reply};
 use oftp_outcomes::{Fault, Outcome, Trouble};
 use oftp_page::PAGE;
+use oftp_partners::Book;
 use oftp_register::Office;
-use oftp_requests::{Asked, Made, bare_answer, copy_let, declined, office_within, stopping};
-use oftp_schedule::connection::{Reason, Signal};
+use oftp_requests::{
+    Asked, Made, Order, bare_answer, codes_of, copy_let, declined, office_within, overdues_of,
+    stopping, told_status,
+};
+use oftp_schedule::connection::{Event, Reason, Signal};
 use oftp_sockets::Keeper;
 use std::alloc::Global;
 
-impl Shell<'_> {
+impl<'a> Shell<'a> {
     /// Does a look-up, and tells the length of its answer.
     pub(crate) fn look<O: Office + Drop>(
         &mut self,
@@ -23,11 +28,18 @@ impl Shell<'_> {
         home: &mut Home<'_, O>,
         keeper: &mut impl Keeper<Life<O>>,
     ) -> Result<(), Fault> {
+        if let Some(order) = self.order_of(id) {
+            return self.obey(id, order);
+        }
         let rt = self.rt;
         let alloc = rt.alloc();
         let Some(peer) = peer_in(&mut self.peers, id) else {
             return self.take_answer(id, Made::nothing(alloc));
         };
+        if let Some(sought) = peer.sought {
+            let made = self.made_of_station(id, sought, home, keeper);
+            return self.take_answer(id, made);
+        }
         if let Some(made) = peer.look_nowhere(alloc) {
             return self.take_answer(id, made);
         }
@@ -46,6 +58,9 @@ impl Shell<'_> {
         home: &mut Home<'_, O>,
         keeper: &mut impl Keeper<Life<O>>,
     ) -> Result<(), Fault> {
+        if let Some(order) = self.order_of(id) {
+            return self.obey(id, order);
+        }
         let rt = self.rt;
         let alloc = rt.alloc();
         let opened = home.open(rt, keeper);
@@ -55,6 +70,72 @@ impl Shell<'_> {
         };
         self.take_answer(id, made)?;
         self.settle_opening(opened)
+    }
+
+    /// What a command asks of the station itself, if it does.
+    fn order_of(&self, id: u64) -> Option<Order> {
+        match &self.peers.iter().find(|peer| peer.id == id)?.task {
+            Task::Command(Some(asked)) => asked.order(),
+            _ => None,
+        }
+    }
+
+    /// Does what a command asks of the station itself, and tells the length of its answer.
+    fn obey(&mut self, id: u64, order: Order) -> Result<(), Fault> {
+        let obeyed = match order {
+            Order::Stop(_) => Ok(()),
+            Order::Reload => self.reload(),
+        };
+        let alloc = self.rt.alloc();
+        let made = match obeyed {
+            Ok(()) => Made::obeyed(alloc, order),
+            Err(fault) => Made::failed(alloc, fault),
+        };
+        self.take_answer(id, made)?;
+        match order {
+            Order::Stop(haste) => self.stop(haste),
+            Order::Reload => Ok(()),
+        }
+    }
+
+    /// Lets the service end.
+    fn stop(&mut self, haste: Haste) -> Result<(), Fault> {
+        self.stop = Some(haste);
+        self.say(Event::Over(told_status(haste)))
+    }
+
+    /// Reads the book again. After an error it is the one that it was. Partners who are here already are served by that one.
+    fn reload(&mut self) -> Result<(), Fault> {
+        let Some(shelf) = self.config.shelf else {
+            return Err(Fault::Socket);
+        };
+        let (octets, book) = read_regular_book(self.rt, shelf.path)?;
+        if octets.as_slice() != self.latest.as_slice() {
+            self.take_limits(shelf, octets.as_slice())?;
+            self.take_book(shelf, octets, book)?;
+        }
+        Ok(())
+    }
+
+    /// Takes how long something of a partner may wait from a book with these octets.
+    fn take_limits(&mut self, shelf: Shelf<'a>, octets: &[u8]) -> Result<(), Fault> {
+        let limits = overdues_of(self.rt.alloc(), octets)?;
+        let limits = shelf.room.try_alloc(limits)?;
+        self.config.limits = limits.as_slice();
+        Ok(())
+    }
+
+    /// Serves by a book with these octets from now on.
+    fn take_book(&mut self, shelf: Shelf<'a>, octets: Vec<u8>, book: Book) -> Result<(), Fault> {
+        let alloc = self.rt.alloc();
+        let codes = codes_of(alloc, octets.as_slice())?;
+        let paces = paces_of(alloc, codes.as_slice())?;
+        let codes = shelf.room.try_alloc(codes)?;
+        self.station.book = shelf.room.try_alloc(book)?;
+        self.config.codes = codes.as_slice();
+        self.paces = paces;
+        self.latest = octets;
+        Ok(())
     }
 
     /// Takes in whether a life could be had.
@@ -83,6 +164,7 @@ impl Shell<'_> {
     /// Sends the answer that was made.
     pub(crate) fn answer(&mut self, id: u64) -> Result<(), Fault> {
         let alloc = self.rt.alloc();
+        self.count_backup(id);
         let Some(peer) = peer_in(&mut self.peers, id) else {
             return Ok(());
         };

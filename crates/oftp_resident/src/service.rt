@@ -2,18 +2,25 @@
 
 use crate::home::Home;
 use crate::peer::Peer;
+use crate::status::moment;
+use crate::telling::Waiting;
 use crate::watch::{DOORS, Source, Watch, source_of};
+use bumpalo::Bump;
+use oftp_channel::Haste;
+use oftp_events::Event as Happening;
+use oftp_files::EventFile;
 use oftp_life::Life;
 use oftp_listing::Site;
 use oftp_outcomes::{Fault, Term};
-use oftp_partners::Book;
 use oftp_register::Office;
-use oftp_requests::{Closing, closing_of, result_at};
+use oftp_requests::{Closing, Pace, PartnerLimit, closing_of, last_status, result_at};
 use oftp_schedule::connection::{Action, Counted, Event, Limits, Signal, Status};
 use oftp_schedule::durations::{millis, wait_of};
 use oftp_schedule::schedule::Schedule;
 use oftp_schedule::sizes::SIZES;
 use oftp_sockets::{Keeper, Reporter, Station, socket_fault};
+use oftp_status::Tallies;
+use std::alloc::Global;
 use std::io;
 use std::net::TcpListener;
 use std::os::unix::net::UnixListener;
@@ -34,6 +41,15 @@ pub enum Start {
     Calling,
 }
 
+/// Where a service finds its book, and keeps what it reads of it: the books of earlier callers stay.
+#[derive(Clone, Copy)]
+pub struct Shelf<'a> {
+    /// The book's file.
+    pub path: &'a str,
+    /// What was read.
+    pub room: &'a Bump,
+}
+
 /// The listeners and settings of a service. [`serve`] makes its listeners non-blocking.
 #[derive(Clone, Copy)]
 pub struct ServiceConfig<'a> {
@@ -51,6 +67,12 @@ pub struct ServiceConfig<'a> {
     pub admission: u64,
     /// How many seconds a call has to be connected; each as long as its partner may be idle if that is less.
     pub dialing: u64,
+    /// Where it reads its book again, if it may.
+    pub shelf: Option<Shelf<'a>>,
+    /// The database's file.
+    pub database: &'a str,
+    /// How long something of a partner may wait, of those partners that have this for themselves.
+    pub limits: &'a [PartnerLimit],
     /// The codes of the partners, in their order.
     pub codes: &'a [String],
     /// The seconds after which each partner is called that something waits for; 0 is never.
@@ -61,25 +83,8 @@ pub struct ServiceConfig<'a> {
     pub counted: Counted,
     /// The number of jobs after which it ends; 0 is never.
     pub jobs: u64,
-}
-
-/// The books of the sessions of one stretch of the loop.
-#[derive(Clone, Copy)]
-pub(crate) struct Books<'b> {
-    /// The station's.
-    pub(crate) own: &'b Book,
-    /// That of the command whose call begins, and the call's number.
-    pub(crate) lent: Option<(u64, &'b Book)>,
-}
-
-impl<'b> Books<'b> {
-    /// The book of the command whose call has this number, if it is lent.
-    pub(crate) fn lent_for(self, id: u64) -> Option<&'b Book> {
-        match self.lent {
-            Some((call, book)) if call == id => Some(book),
-            _ => None,
-        }
-    }
+    /// The file to which its events are appended, if there is one.
+    pub events: Option<&'a EventFile<'a>>,
 }
 
 /// A running service.
@@ -92,17 +97,25 @@ pub(crate) struct Shell<'a> {
     pub(crate) peers: Vec<Peer<'a>>,
     pub(crate) watch: Watch,
     began: Instant,
+    // How the clock stands with each partner of the list.
+    pub(crate) paces: Vec<Pace>,
+    // The octets of the book that it has read since it began, if it has.
+    pub(crate) latest: Vec<u8>,
+    // Whether it was told to end, and how.
+    pub(crate) stop: Option<Haste>,
+    /// How many sessions have begun.
+    pub(crate) sessions: u64,
+    /// The events that are to be written.
+    pub(crate) waiting: Vec<Waiting>,
+    // When it began, and when it last looked for whom something waits, in seconds since 1970.
+    pub(crate) since: u64,
+    pub(crate) reviewed: u64,
+    /// What is counted.
+    pub(crate) counters: Tallies,
+    /// How many events that couldn't be written are among that.
+    pub(crate) lost: u64,
     // The error with which it ends, if there is one.
     fault: Option<Fault>,
-}
-
-/// Why a stretch of the loop is over.
-#[derive(Clone, Copy)]
-enum Pause {
-    /// The service has ended.
-    Ended(Status),
-    /// The call with this number begins, whose command has a book of its own.
-    Begins(u64),
 }
 
 /// Serves whoever comes, and calls, in lives that a keeper has; a reporter is told the end of each session.
@@ -123,6 +136,8 @@ pub fn serve<O: Office + Drop>(
     let began = Instant::now(rt).map_err(|_| Fault::Socket)?;
     let schedule = Schedule::new(alloc, limits)?;
     let peers = Vec::with_capacity(alloc, MOST_PLACES)?;
+    let paces = paces_of(alloc, config.codes)?;
+    let since = moment(rt);
     let mut shell = Shell {
         rt,
         station: *station,
@@ -131,10 +146,38 @@ pub fn serve<O: Office + Drop>(
         peers,
         watch,
         began,
+        paces,
+        latest: Vec::new(alloc),
+        stop: None,
+        sessions: 0,
+        waiting: Vec::new(alloc),
+        since,
+        reviewed: since,
+        counters: Tallies::new(alloc),
+        lost: 0,
         fault: None,
     };
     reporter.begin()?;
-    shell.serve(keeper, reporter)
+    tell_program(config, Happening::Started);
+    shell.serve(keeper, reporter)?;
+    tell_program(config, Happening::Stopped);
+    Ok(())
+}
+
+/// Writes an event of the program, unless it only calls.
+fn tell_program(config: &ServiceConfig<'_>, event: Happening) {
+    if let (Start::Waiting, Some(events)) = (config.start, config.events) {
+        events.tell_plain(event);
+    }
+}
+
+/// How the clock stands with each partner of a list at first.
+pub(crate) fn paces_of(alloc: Global, codes: &[String]) -> Result<Vec<Pace>, Fault> {
+    let mut paces = Vec::new(alloc);
+    for _ in codes {
+        paces.push(Pace::new())?;
+    }
+    Ok(paces)
 }
 
 /// Watches the listeners.
@@ -146,23 +189,6 @@ fn watch_over(rt: &HostRuntime, config: &ServiceConfig<'_>) -> io::Result<Watch>
         }
     }
     Ok(watch)
-}
-
-/// The service's own book, and that of a call if both are there.
-fn books_of<'b>(own: &'b Book, call: Option<u64>, book: &'b Option<Book>) -> Books<'b> {
-    let lent = match call {
-        Some(id) => lent_for(id, book),
-        None => None,
-    };
-    Books { own, lent }
-}
-
-/// The book that is lent for a call, if it is there.
-fn lent_for(id: u64, book: &Option<Book>) -> Option<(u64, &Book)> {
-    match book {
-        Some(book) => Some((id, book)),
-        None => None,
-    }
 }
 
 /// The limits of the schedule.
@@ -187,7 +213,7 @@ pub(crate) fn peer_in<'p, 'a>(peers: &'p mut [Peer<'a>], id: u64) -> Option<&'p 
 }
 
 impl<'a> Shell<'a> {
-    /// Works until the service ends. Each call by a command's own book is a stretch of its own.
+    /// Works until the service ends.
     fn serve<O: Office + Drop>(
         &mut self,
         keeper: &mut impl Keeper<Life<O>>,
@@ -196,20 +222,11 @@ impl<'a> Shell<'a> {
         if self.config.start == Start::Calling {
             self.call_all()?;
         }
-        let mut call = None;
-        for _ in 0..u64::MAX {
-            let own = self.station.book;
-            let book = self.book_of_call(call);
-            let books = books_of(own, call, &book);
-            match self.work(books, call, keeper, reporter)? {
-                Pause::Ended(status) => return match result_at(self.fault, status) {
-                    Some(fault) => Err(fault),
-                    None => Ok(()),
-                },
-                Pause::Begins(id) => call = Some(id),
-            }
+        let status = self.work(keeper, reporter)?;
+        match result_at(self.fault, last_status(self.stop, status)) {
+            Some(fault) => Err(fault),
+            None => Ok(()),
         }
-        Ok(())
     }
 
     /// Lets the service end with an error, unless it does so with another one.
@@ -220,50 +237,51 @@ impl<'a> Shell<'a> {
         self.say(Event::Over(Status::OfficeFailed))
     }
 
-    /// Works until the service ends, or a call begins by a book that isn't there. First it begins the call with this number, if there is one.
-    fn work<'b, O: Office + Drop>(
+    /// Carries out one action after another, up to the end. Returns why it ends.
+    fn work<O: Office + Drop>(
         &mut self,
-        books: Books<'b>,
-        call: Option<u64>,
         keeper: &mut impl Keeper<Life<O>>,
         reporter: &mut impl Reporter,
-    ) -> Result<Pause, Fault>
-    where
-        'a: 'b,
-    {
+    ) -> Result<Status, Fault> {
         let mut home = Home::Away;
-        if let Some(id) = call {
-            self.begin(id, &mut home, books, keeper)?;
-        }
         for _ in 0..u64::MAX {
             let action = self.next_action()?;
-            if let Some(pause) = self.pause_for(action, books) {
-                return Ok(pause);
+            if let Some(Action::Exit(status)) = action {
+                self.tell_events(&mut home, keeper);
+                self.give_back(&mut home, keeper);
+                return Ok(status);
             }
-            self.take_turn(action, &mut home, books, keeper, reporter)?;
+            self.take_turn(action, &mut home, keeper, reporter)?;
         }
-        Ok(Pause::Ended(Status::Stopped))
+        Ok(Status::Stopped)
     }
 
     /// Carries out an action, if there is one, gives a life that isn't in a session back to its keeper, and waits for the sockets.
-    fn take_turn<'b, O: Office + Drop>(
+    fn take_turn<O: Office + Drop>(
         &mut self,
         action: Option<Action>,
-        home: &mut Home<'b, O>,
-        books: Books<'b>,
+        home: &mut Home<'a, O>,
         keeper: &mut impl Keeper<Life<O>>,
         reporter: &mut impl Reporter,
-    ) -> Result<(), Fault>
-    where
-        'a: 'b,
-    {
+    ) -> Result<(), Fault> {
         if let Some(action) = action {
-            self.carry_out(action, home, books, keeper, reporter)?;
+            self.carry_out(action, home, keeper, reporter)?;
+            self.note_events(action, home.progress());
         }
+        self.tell_in_time(action.is_some(), home, keeper);
+        self.give_back(home, keeper);
+        self.wait(action.is_some())
+    }
+
+    /// Gives a life that isn't in a session back to its keeper.
+    fn give_back<O: Office + Drop>(
+        &self,
+        home: &mut Home<'_, O>,
+        keeper: &mut impl Keeper<Life<O>>,
+    ) {
         if let Some(life) = home.take() {
             keeper.close(self.rt, life);
         }
-        self.wait(action.is_some())
     }
 
     /// The next action, after the schedule was told what the sockets have, and the time.
@@ -273,29 +291,16 @@ impl<'a> Shell<'a> {
         Ok(self.schedule.poll_action()?)
     }
 
-    /// Whether an action ends this stretch of the loop.
-    fn pause_for(&self, action: Option<Action>, books: Books<'_>) -> Option<Pause> {
-        match action? {
-            Action::Exit(status) => Some(Pause::Ended(status)),
-            Action::Begin(id) if self.lacks_book(id, books) => Some(Pause::Begins(id)),
-            _ => None,
-        }
-    }
-
     /// Carries out an action.
-    fn carry_out<'b, O: Office + Drop>(
+    fn carry_out<O: Office + Drop>(
         &mut self,
         action: Action,
-        home: &mut Home<'b, O>,
-        books: Books<'b>,
+        home: &mut Home<'a, O>,
         keeper: &mut impl Keeper<Life<O>>,
         reporter: &mut impl Reporter,
-    ) -> Result<(), Fault>
-    where
-        'a: 'b,
-    {
+    ) -> Result<(), Fault> {
         match action {
-            Action::Begin(id) => self.begin(id, home, books, keeper)?,
+            Action::Begin(id) => self.begin(id, home, keeper)?,
             Action::Hear(id) => self.hear(id, home)?,
             Action::Look(id) => self.look(id, home, keeper)?,
             Action::Change(id) => self.change(id, home, keeper)?,
@@ -367,7 +372,7 @@ impl<'a> Shell<'a> {
     }
 
     /// The milliseconds since the service began.
-    fn now(&self) -> Result<u64, Fault> {
+    pub(crate) fn now(&self) -> Result<u64, Fault> {
         match self.began.elapsed(self.rt) {
             Ok(passed) => Ok(u64::try_from(passed.as_millis()).unwrap_or(LATEST)),
             Err(_) => Err(Fault::Socket),

@@ -2,29 +2,26 @@
 
 use crate::home::Home;
 use crate::peer::{Came, Peer, Reading, Task};
-use crate::service::{Books, Shell, peer_in};
-use oftp_engine::Role;
+use crate::service::{Shell, peer_in};
+use oftp_engine::{End, Role};
 use oftp_life::{Life, Stage};
 use oftp_outcomes::{Fault, Trouble, Way, plain};
-use oftp_partners::Book;
 use oftp_register::Office;
-use oftp_requests::{answer_of_call, ended_for, farewell_of, goes_on, result_of, trouble_of};
+use oftp_requests::{
+    Pace, answer_of_call, ended_for, farewell_of, goes_on, result_of, told_reason, trouble_of,
+};
 use oftp_schedule::connection::{self as schedule, Input, Reason, Signal, Step};
 use oftp_sockets::{Keeper, Reporter};
 use std::alloc::Global;
 
 impl<'a> Shell<'a> {
     /// Begins a session with a partner, and tells what its first step leaves.
-    pub(crate) fn begin<'b, O: Office + Drop>(
+    pub(crate) fn begin<O: Office + Drop>(
         &mut self,
         id: u64,
-        home: &mut Home<'b, O>,
-        books: Books<'b>,
+        home: &mut Home<'a, O>,
         keeper: &mut impl Keeper<Life<O>>,
-    ) -> Result<(), Fault>
-    where
-        'a: 'b,
-    {
+    ) -> Result<(), Fault> {
         let rt = self.rt;
         if let Some(peer) = peer_in(&mut self.peers, id) {
             if let Some(trace) = &mut peer.trace {
@@ -32,10 +29,11 @@ impl<'a> Shell<'a> {
             }
             peer.reading = Reading::Session;
             match home.open(rt, keeper) {
-                Ok(()) => peer.begin(rt.alloc(), home, books.lent_for(id).unwrap_or(books.own)),
+                Ok(()) => peer.begin(rt.alloc(), home),
                 Err(trouble) => peer.note(Err(trouble)),
             }
         }
+        self.note_begin(id);
         self.step(id, home, 0)
     }
 
@@ -89,15 +87,27 @@ impl<'a> Shell<'a> {
         reason: Reason,
         reporter: &mut impl Reporter,
     ) -> Result<(), Fault> {
+        let reason = told_reason(self.stop, reason);
         let told = match peer_in(&mut self.peers, id) {
             Some(peer) => peer.report(reason, reporter),
             None => reporter.report(None, Way::In, ended_for(reason)),
         };
+        if let Some(ended) = self.ended_of(id) {
+            self.note_end(id, ended);
+        }
+        self.count_end(id);
         self.answer_asker(id);
+        self.pace(id);
         match told {
             Ok(()) => Ok(()),
             Err(fault) => self.fail(fault),
         }
+    }
+
+    /// How the session of a connection ended.
+    fn ended_of(&mut self, id: u64) -> Option<Result<End, Fault>> {
+        let peer = peer_in(&mut self.peers, id)?;
+        Some(plain(&peer.ended?))
     }
 
     /// Makes the answer of the command that wanted a call, which is over.
@@ -122,10 +132,7 @@ impl<'a> Shell<'a> {
 
 impl<'a> Peer<'a> {
     /// Begins its session.
-    fn begin<'b, O: Office + Drop>(&mut self, alloc: Global, home: &mut Home<'b, O>, book: &'b Book)
-    where
-        'a: 'b,
-    {
+    fn begin<O: Office + Drop>(&mut self, alloc: Global, home: &mut Home<'a, O>) {
         match &mut self.task {
             Task::Caller(opening) => {
                 if let Some(opening) = opening.take()
@@ -134,13 +141,15 @@ impl<'a> Peer<'a> {
                     home.admit(alloc, guest);
                 }
             }
-            _ => {
+            Task::Call(call) => {
+                let book = call.book;
                 if let Some(code) = &self.code
                     && let Some(partner) = book.partner(code.as_bytes())
                 {
                     home.begin(alloc, book, Role::Initiator(partner));
                 }
             }
+            _ => {}
         }
     }
 
@@ -199,10 +208,27 @@ impl<'a> Peer<'a> {
             Some(code) => Some(code.as_str()),
             None => None,
         };
-        let way = match self.task {
+        reporter.report(code, self.way(), ended)
+    }
+
+    /// Takes in how its session ended for the clock's list of partners.
+    pub(crate) fn pace(&self, codes: &[String], paces: &mut [Pace], interval: u64) {
+        let (Some(code), Some(ended)) = (&self.code, &self.ended) else {
+            return;
+        };
+        let way = self.way();
+        for (named, pace) in codes.iter().zip(paces.iter_mut()) {
+            if named.as_str() == code.as_str() {
+                *pace = pace.end(way, ended, interval);
+            }
+        }
+    }
+
+    /// Which side called.
+    pub(crate) fn way(&self) -> Way {
+        match self.task {
             Task::Call(_) => Way::Out,
             _ => Way::In,
-        };
-        reporter.report(code, way, ended)
+        }
     }
 }

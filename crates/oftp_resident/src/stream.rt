@@ -1,7 +1,7 @@
 //! The sockets of connections. None of them blocks.
 
 use std::io::{self, ErrorKind, Read, Write};
-use std::net::{IpAddr, Shutdown, TcpStream};
+use std::net::{IpAddr, Shutdown, SocketAddr, TcpStream};
 use std::os::fd::{AsRawFd, OwnedFd, RawFd};
 use std::os::unix::net::UnixStream;
 
@@ -80,6 +80,11 @@ impl Stream {
             Ok(address) => Some(address.ip()),
             Err(_) => None,
         }
+    }
+
+    /// The address and the port at the other end.
+    pub(crate) fn peer_address(&self) -> Option<SocketAddr> {
+        self.socket().ok()?.peer_addr().ok()
     }
 
     /// Its descriptor.

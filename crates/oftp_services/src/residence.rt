@@ -1,17 +1,19 @@
 //! The command `run`, over sockets.
 
-use crate::services::{admission_of, station_of, trace_of};
+use crate::services::{admission_of, events_of, noting, station_of, trace_of};
+use bumpalo::Bump;
 use oftp_channel::{Ending, READY};
 use oftp_command_line::Run;
-use oftp_database::{self as database, DatabaseOffice, PATIENCE};
-use oftp_files::read_book_octets;
+use oftp_database::{self as database, PATIENCE, WatchedOffice};
+use oftp_files::{EventFile, read_book_octets};
 use oftp_life::Life;
 use oftp_listing::Site;
 use oftp_outcomes::Fault;
-use oftp_requests::{bare_answer, codes_of};
-use oftp_resident::{Kept, ServiceConfig, SessionLines, Start, serve};
+use oftp_requests::{bare_answer, codes_of, overdues_of};
+use oftp_resident::{Kept, ServiceConfig, SessionLines, Shelf, Start, serve};
 use oftp_schedule::connection::Counted;
 use oftp_sockets::{SocketPlace, Station, bound, socket_fault};
+use oftp_watching::News;
 use std::alloc::Global;
 use std::io::Write;
 use std::os::unix::net::UnixListener;
@@ -25,14 +27,35 @@ const MOST_WAITING: u32 = 4_096;
 /// Serves partners and commands over the database, which stays open. Writes a line to `out` when it is ready, and one for each session.
 ///
 /// # Errors
-/// [`Fault::Book`], [`Fault::File`], [`Fault::Store`] or [`Fault::Socket`] if the book, the trace, the database or a port can't be opened;
+/// [`Fault::Book`], [`Fault::File`], [`Fault::Store`] or [`Fault::Socket`] if the book, the trace, the events, the database or a port can't be
+/// opened;
 /// those of [`serve`].
 pub fn run(rt: &HostRuntime, line: &Run<'_>, out: &mut impl Write) -> Result<(), Fault> {
+    let news = News::new(rt.alloc());
+    run_noting(rt, line, &news, out)
+}
+
+/// Serves partners and commands as [`run`] says. Its events are noted here.
+fn run_noting<'n>(
+    rt: &'n HostRuntime,
+    line: &Run<'_>,
+    news: &'n News,
+    out: &mut impl Write,
+) -> Result<(), Fault> {
     let (octets, book) = read_book_octets(rt, line.files.book)?;
-    let life = database::live(rt, line.files.database, PATIENCE)?;
+    let life = database::live(rt, line.files.database, PATIENCE, noting(&line.files, news))?;
     let trace = trace_of(rt, &line.files, &line.terms)?;
+    let events = events_of(rt, &line.files, news)?;
     let station = station_of(&book, &line.terms, trace.as_ref());
-    run_over(rt, line, &station, octets.as_slice(), life, out)
+    run_over(
+        rt,
+        line,
+        &station,
+        events.as_ref(),
+        octets.as_slice(),
+        life,
+        out,
+    )
 }
 
 /// A copy of a name, if there is one.
@@ -51,16 +74,26 @@ fn text_of(name: &Option<String>) -> Option<&str> {
     }
 }
 
+/// Where the station reads its book again.
+fn shelf_of<'a>(line: &Run<'a>, room: &'a Bump) -> Option<Shelf<'a>> {
+    Some(Shelf {
+        path: line.files.book,
+        room,
+    })
+}
+
 /// Serves them in a life over the database. `octets` are the book's.
 fn run_over(
     rt: &HostRuntime,
     line: &Run<'_>,
     station: &Station<'_>,
+    events: Option<&EventFile<'_>>,
     octets: &[u8],
-    life: Life<DatabaseOffice>,
+    life: Life<WatchedOffice<'_>>,
     out: &mut impl Write,
 ) -> Result<(), Fault> {
     let codes = codes_of(rt.alloc(), octets)?;
+    let limits = overdues_of(rt.alloc(), octets)?;
     let host = name_of(rt.alloc(), line.host)?;
     let partners = bound(rt, line.entrance.address, line.entrance.port)?;
     let requests = match line.http_port {
@@ -69,21 +102,24 @@ fn run_over(
     };
     let place = SocketPlace::beside(rt, line.files.database).map_err(|error| socket_fault(&error))?;
     let commands = place.listen(rt).map_err(|error| socket_fault(&error))?;
-    let requests = requests.as_ref();
-    let host = text_of(&host);
+    let room = Bump::new(rt.alloc());
     let config = ServiceConfig {
         partners: Some(&partners),
         commands: Some(&commands),
-        requests,
-        site: Site::Page(host),
+        requests: requests.as_ref(),
+        site: Site::Page(text_of(&host)),
         places: u64::MAX,
         admission: admission_of(&line.entrance, &line.terms),
         dialing: DIALING,
+        shelf: shelf_of(line, &room),
+        database: line.files.database,
+        limits: limits.as_slice(),
         codes: codes.as_slice(),
         interval: line.interval,
         start: Start::Waiting,
         counted: Counted::Jobs,
         jobs: line.jobs,
+        events,
     };
     let ended = serve(
         rt,

@@ -3,14 +3,16 @@
 use oftp_command_line::{Call, Entrance, Files, Http, Listen, SessionTerms};
 use oftp_database::{self as database, Opened};
 use oftp_engine::End;
-use oftp_files::{Trace, book_of, open_trace, read_book};
+use oftp_files::{EventFile, Trace, book_of, open_events, open_trace, read_book};
 use oftp_listing::Site;
 use oftp_outcomes::{Fault, Outcome, Trouble, Way, write_line};
 use oftp_partners::Book;
 use oftp_resident::{ServiceConfig, Start, serve};
 use oftp_schedule::connection::Counted;
 use oftp_sockets::{Reporter, Station, bound};
+use oftp_watching::News;
 use std::io::Write;
+use std::net::TcpListener;
 
 /// The trace that the command line of a service asks for.
 ///
@@ -22,6 +24,26 @@ pub(crate) fn trace_of<'a>(
     terms: &SessionTerms<'_>,
 ) -> Result<Option<Trace<'a>>, Fault> {
     open_trace(rt, terms.trace, &[files.book], Some(files.database))
+}
+
+/// The file to which the command line of a service has its events appended.
+///
+/// # Errors
+/// Those of [`open_events`].
+pub(crate) fn events_of<'a>(
+    rt: &'a HostRuntime,
+    files: &Files<'_>,
+    news: &'a News,
+) -> Result<Option<EventFile<'a>>, Fault> {
+    open_events(rt, files.events, news, &[files.book], Some(files.database))
+}
+
+/// Where accepted changes are noted, if the command line asks for events.
+pub(crate) fn noting<'w>(files: &Files<'_>, news: &'w News) -> Option<&'w News> {
+    match files.events {
+        Some(_) => Some(news),
+        None => None,
+    }
 }
 
 /// How many seconds a caller has to be admitted, which is no longer than a session may take.
@@ -53,11 +75,15 @@ fn idle_config<'a>(jobs: u64) -> ServiceConfig<'a> {
         places: 0,
         admission: 0,
         dialing: 0,
+        shelf: None,
+        database: "",
+        limits: &[],
         codes: &[],
         interval: 0,
         start: Start::Waiting,
         counted: Counted::Jobs,
         jobs,
+        events: None,
     }
 }
 
@@ -74,45 +100,106 @@ fn bare_station(book: &Book) -> Station<'_> {
 /// Serves the sessions of partners that call, and writes a line for each: its end to `out`, or its error to `err`.
 ///
 /// # Errors
-/// [`Fault::Book`], [`Fault::File`], [`Fault::Store`] or [`Fault::Socket`] if the book, the trace, the database or the port can't be opened;
-/// those of [`serve`].
+/// [`Fault::Book`], [`Fault::File`], [`Fault::Store`] or [`Fault::Socket`] if the book, the trace, the events, the database or the port can't be
+/// opened; those of [`serve`].
 pub fn listen(
     rt: &HostRuntime,
     line: &Listen<'_>,
     out: &mut impl Write,
     err: &mut impl Write,
 ) -> Result<(), Fault> {
+    let news = News::new(rt.alloc());
+    listen_noting(rt, line, &news, out, err)
+}
+
+/// Serves the sessions of callers as [`listen`] says. Their events are noted here.
+fn listen_noting<'n>(
+    rt: &'n HostRuntime,
+    line: &Listen<'_>,
+    news: &'n News,
+    out: &mut impl Write,
+    err: &mut impl Write,
+) -> Result<(), Fault> {
     let book = read_book(rt, line.files.book)?;
     database::make(rt, line.files.database)?;
     let trace = trace_of(rt, &line.files, &line.terms)?;
+    let events = events_of(rt, &line.files, news)?;
     let listener = bound(rt, line.entrance.address, line.entrance.port)?;
-    let config = ServiceConfig {
-        partners: Some(&listener),
+    let config = config_of_callers(line, &listener, events.as_ref());
+    let station = station_of(&book, &line.terms, trace.as_ref());
+    let keeper = Opened::new(rt, line.files.database, noting(&line.files, news));
+    serve_each(rt, &config, &station, keeper, out, err)
+}
+
+/// The settings of a service for callers who come to this listener.
+fn config_of_callers<'c>(
+    line: &Listen<'_>,
+    listener: &'c TcpListener,
+    events: Option<&'c EventFile<'c>>,
+) -> ServiceConfig<'c> {
+    ServiceConfig {
+        partners: Some(listener),
         places: line.sessions,
         admission: admission_of(&line.entrance, &line.terms),
+        events,
         ..idle_config(line.sessions)
-    };
-    let station = station_of(&book, &line.terms, trace.as_ref());
-    serve_each(rt, &config, &station, line.files.database, out, err)
+    }
+}
+
+/// Serves whoever comes, with a life over the database for each job.
+fn serve_each(
+    rt: &HostRuntime,
+    config: &ServiceConfig<'_>,
+    station: &Station<'_>,
+    keeper: Opened<'_>,
+    out: &mut impl Write,
+    err: &mut impl Write,
+) -> Result<(), Fault> {
+    let mut keeper = keeper;
+    serve(rt, config, station, &mut keeper, &mut EndLines { out, err })
 }
 
 /// Calls a partner of the book for one session, over a database that isn't locked.
 ///
 /// # Errors
-/// [`Fault::File`], [`Fault::Store`] or [`Fault::Socket`] if the trace, the database or the connection can't be opened; those of the session.
+/// [`Fault::File`], [`Fault::Store`] or [`Fault::Socket`] if the trace, the events, the database or the connection can't be opened; those of the session.
 pub fn call(rt: &HostRuntime, line: &Call<'_>, book: &Book) -> Result<Outcome, Fault> {
+    let news = News::new(rt.alloc());
+    call_noting(rt, line, book, &news)
+}
+
+/// Calls a partner as [`call`] says. The events of that are noted here.
+fn call_noting<'n>(
+    rt: &'n HostRuntime,
+    line: &Call<'_>,
+    book: &Book,
+    news: &'n News,
+) -> Result<Outcome, Fault> {
     let trace = trace_of(rt, &line.files, &line.terms)?;
+    let events = events_of(rt, &line.files, news)?;
     let station = station_of(book, &line.terms, trace.as_ref());
     let code = String::from_str(rt.alloc(), line.partner)?;
     let config = ServiceConfig {
         dialing: station.longest,
         codes: &[code],
         start: Start::Calling,
+        events: events.as_ref(),
         ..idle_config(1)
     };
-    let mut keeper = Opened::new(rt, line.files.database);
+    let keeper = Opened::new(rt, line.files.database, noting(&line.files, news));
+    end_of_call(rt, &config, &station, keeper)
+}
+
+/// Makes a call, with a life over the database. Returns how it ended.
+fn end_of_call(
+    rt: &HostRuntime,
+    config: &ServiceConfig<'_>,
+    station: &Station<'_>,
+    keeper: Opened<'_>,
+) -> Result<Outcome, Fault> {
+    let mut keeper = keeper;
     let mut ended = LastEnd { ended: None };
-    serve(rt, &config, &station, &mut keeper, &mut ended)?;
+    serve(rt, config, station, &mut keeper, &mut ended)?;
     match ended.ended {
         Some(ended) => ended.map(Outcome::Ended),
         None => Err(Fault::Socket),
@@ -140,20 +227,8 @@ pub fn http(
         ..idle_config(line.requests)
     };
     let book = book_of(rt.alloc(), NOBODY)?;
-    serve_each(rt, &config, &bare_station(&book), line.database, out, err)
-}
-
-/// Serves whoever comes, with a life over the database for each job.
-fn serve_each(
-    rt: &HostRuntime,
-    config: &ServiceConfig<'_>,
-    station: &Station<'_>,
-    database: &str,
-    out: &mut impl Write,
-    err: &mut impl Write,
-) -> Result<(), Fault> {
-    let mut keeper = Opened::new(rt, database);
-    serve(rt, config, station, &mut keeper, &mut EndLines { out, err })
+    let keeper = Opened::new(rt, line.database, None);
+    serve_each(rt, &config, &bare_station(&book), keeper, out, err)
 }
 
 /// Writes the end of each session to one output, and the error of each session or request to the other. That the error can't be written

@@ -1,21 +1,25 @@
 //! A station of the ODETTE File Transfer Protocol 2 (RFC 5024).
 #![tactic(auto)]
 
+mod noted;
 mod perform;
+mod sources;
+mod words;
 
+use oftp_notes::Screen;
 use oftp_outcomes::Output;
 use perform::{perform, tell_unread};
-use std::env;
-use std::io::{self, LineWriter, Write};
+use std::io::{self, IsTerminal, LineWriter, Write};
 use std::process::ExitCode;
+use words::words_of;
 
-/// The arguments after the program's name.
-fn words_of(rt: &HostRuntime) -> io::Result<Vec<String>> {
-    let mut words = Vec::new(rt.alloc());
-    for word in env::args(rt)?.skip(1) {
-        words.push(word)?;
+/// What standard error is.
+fn screen_of(rt: &HostRuntime) -> Screen {
+    if rt.stderr().is_terminal() {
+        Screen::Terminal
+    } else {
+        Screen::Other
     }
-    Ok(words)
 }
 
 /// Carries out the command of the program's arguments. Returns the exit status.
@@ -23,7 +27,7 @@ fn run(rt: &HostRuntime, err: &mut impl Write) -> io::Result<u8> {
     let words = words_of(rt)?;
     // A line goes out in one write, so that a command that is killed has printed all of its line or nothing.
     let lines = LineWriter::new(rt.alloc(), rt.stdout())?;
-    Ok(perform(rt, words.as_slice(), &mut Output::new(lines), err))
+    Ok(perform(rt, &words, screen_of(rt), &mut Output::new(lines), err))
 }
 
 fn main(rt: HostRuntime) -> ExitCode {

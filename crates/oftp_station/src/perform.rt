@@ -1,10 +1,14 @@
 //! The commands.
 
+use crate::noted::Noted;
+use crate::sources::SOURCES;
+use crate::words::Words;
 use oftp_command_line::{Call, Line, LineFault, VERSION, help, line_of};
 use oftp_commands::{self as commands, Called};
 use oftp_files::{read_book, show};
+use oftp_notes::Screen;
 use oftp_outcomes::{
-    DONE, FAILED, Fault, Outcome, Output, Reader, is_told, status_where, tell, write_line,
+    DONE, FAILED, Fault, Outcome, Output, Reader, is_told, status_after, status_where, write_line,
 };
 use oftp_services as services;
 use std::io::{self, ErrorKind, Write};
@@ -13,18 +17,22 @@ use std::io::{self, ErrorKind, Write};
 const BAD_LINE: u8 = 2;
 
 /// Carries out a command line, given by the arguments after the program's name. Its output goes to `out`; the line of an error, or the text
-/// for a bad command line, goes to `err`. Returns the exit status: 0 done, 1 refused or failed, 2 a bad command line.
+/// for a bad command line, goes to `err`, and so do notes. Returns the exit status: 0 done, 1 refused or failed, 2 a bad command line.
 pub fn perform(
     rt: &HostRuntime,
-    words: &[String],
+    words: &Words,
+    screen: Screen,
     out: &mut Output<impl Write>,
     err: &mut impl Write,
 ) -> u8 {
-    match line_of(rt.alloc(), words) {
-        Ok(line) => match carry_out(rt, &line, out, err) {
-            Ok(status) => status,
-            Err(fault) => tell_fault(fault, reader_of(&line, out), err),
-        },
+    match line_of(rt.alloc(), words.line.as_slice()) {
+        Ok(line) => {
+            let mut noted = Noted::new(rt, words, screen, err);
+            match carry_out(rt, &line, out, &mut noted) {
+                Ok(status) => status,
+                Err(fault) => tell_fault(fault, &line, reader_of(&line, out), &mut noted),
+            }
+        }
         Err(LineFault::Bad(text)) => {
             let _ = err.write_all(text.as_bytes());
             BAD_LINE
@@ -45,10 +53,16 @@ fn reader_of<W>(line: &Line<'_>, out: &Output<W>) -> Reader {
     }
 }
 
-/// Prints the line of an error to `err`, unless nobody is there to read it. Returns the exit status.
-fn tell_fault(fault: Fault, reader: Reader, err: &mut impl Write) -> u8 {
+/// Prints the line of an error and its note, unless nobody is there to read it. Returns the exit status.
+fn tell_fault<W: Write>(
+    fault: Fault,
+    line: &Line<'_>,
+    reader: Reader,
+    noted: &mut Noted<'_, W>,
+) -> u8 {
     if is_told(fault, reader) {
-        let _ = writeln!(err, "{fault}");
+        let _ = writeln!(noted.teller.err, "{fault}");
+        noted.note_fault(line, fault);
     }
     FAILED
 }
@@ -63,9 +77,63 @@ pub fn tell_unread(error: &io::Error, err: &mut impl Write) -> u8 {
     BAD_LINE
 }
 
-/// Carries out a command and writes its line. Returns the exit status. Reports, services and commands over a folder write their lines
-/// themselves.
-fn carry_out(
+/// Carries out a command and writes its line, and beside it its note. Returns the exit status.
+fn carry_out<W: Write>(
+    rt: &HostRuntime,
+    line: &Line<'_>,
+    out: &mut impl Write,
+    noted: &mut Noted<'_, W>,
+) -> Result<u8, Fault> {
+    if let Line::Check { book } = line {
+        noted.explain(book, out);
+    }
+    match outcome_of(rt, line, out)? {
+        Some(outcome) => {
+            noted.note_outcome(line, &outcome);
+            Ok(status_of(line, outcome))
+        }
+        None => {
+            let status = carry_out_alone(rt, line, out, &mut noted.teller.err)?;
+            noted.note_status(line, status);
+            Ok(status)
+        }
+    }
+}
+
+/// Carries out a command whose outcome is one line, and writes that. Returns `None` for another command.
+fn outcome_of(
+    rt: &HostRuntime,
+    line: &Line<'_>,
+    out: &mut impl Write,
+) -> Result<Option<Outcome>, Fault> {
+    let outcome = match line {
+        Line::Submit(submit) => commands::submit(rt, submit, out)?,
+        Line::Resend(resend) => commands::resend(rt, resend, out)?,
+        Line::Release(release) => commands::release(rt, release, out)?,
+        Line::Refuse(refuse) => commands::refuse(rt, refuse, out)?,
+        Line::Backup(backup) => commands::back_up(rt, backup, out)?,
+        Line::Init { database } => told(commands::initiate(rt, database), out)?,
+        Line::Migrate { database } => told(commands::migrate(rt, database), out)?,
+        Line::Check { book } => told(check(rt, book), out)?,
+        Line::Fetch(fetch) => told(commands::fetch(rt, fetch), out)?,
+        Line::Feed(feed) => told(commands::feed(rt, feed), out)?,
+        Line::Stop(stop) => told(commands::stop(rt, stop), out)?,
+        Line::Reload { database } => told(commands::reload(rt, database), out)?,
+        Line::Call(call) => told(call_partner(rt, call), out)?,
+        _ => return Ok(None),
+    };
+    Ok(Some(outcome))
+}
+
+/// Writes the line of an outcome, if there is one, and gives it back.
+fn told(outcome: Result<Outcome, Fault>, out: &mut impl Write) -> Result<Outcome, Fault> {
+    let outcome = outcome?;
+    write_line(out, &outcome)?;
+    Ok(outcome)
+}
+
+/// Carries out a command that writes its lines itself, as reports, services and commands over a folder do. Returns the exit status.
+fn carry_out_alone(
     rt: &HostRuntime,
     line: &Line<'_>,
     out: &mut impl Write,
@@ -73,24 +141,19 @@ fn carry_out(
 ) -> Result<u8, Fault> {
     match line {
         Line::Help => print_help(rt, out),
-        Line::Version => print(VERSION, out),
-        Line::Submit(submit) => tell(commands::submit(rt, submit)?, out),
+        Line::Version => print_version(out),
         Line::Offer(offer) => commands::offer(rt, offer, out),
         Line::Collect(collect) => commands::collect(rt, collect, out),
-        Line::Release(release) => tell(commands::release(rt, release)?, out),
-        Line::Refuse(refuse) => tell(commands::refuse(rt, refuse)?, out),
-        Line::Report(what) => done(commands::write_report(rt, what, out)),
-        Line::Init { database } => tell(commands::initiate(rt, database)?, out),
-        Line::Migrate { database } => tell(commands::migrate(rt, database)?, out),
-        Line::Check { book } => tell(check(rt, book)?, out),
-        Line::Fetch(fetch) => tell(commands::fetch(rt, fetch)?, out),
-        Line::Backup(backup) => tell(commands::back_up(rt, backup)?, out),
-        Line::Feed(feed) => tell(commands::feed(rt, feed)?, out),
+        Line::Report(what) => commands::write_report(rt, what, out),
+        Line::Audit(audit) => commands::audit(rt, audit, out),
+        Line::Status(status) => commands::status(rt, status, out),
+        Line::Health(health) => commands::health(rt, health, out),
+        Line::Settled { database } => commands::settled(rt, database, out),
         Line::Show { input } => Ok(status_where(show(rt, input, out)?)),
-        Line::Call(call) => tell(call_partner(rt, call)?, out),
         Line::Run(run) => done(services::run(rt, run, out)),
         Line::Listen(listen) => done(services::listen(rt, listen, out, err)),
         Line::Http(http) => done(services::http(rt, http, out, err)),
+        _ => Ok(DONE),
     }
 }
 
@@ -99,6 +162,14 @@ fn call_partner(rt: &HostRuntime, line: &Call<'_>) -> Result<Outcome, Fault> {
     match commands::call(rt, line)? {
         Called::Told(outcome) => Ok(outcome),
         Called::Alone(book) => services::call(rt, line, &book),
+    }
+}
+
+/// The exit status of a command whose line was written. Where the command is asked to fail with its session, it is that of the session's end.
+fn status_of(line: &Line<'_>, outcome: Outcome) -> u8 {
+    match line {
+        Line::Call(call) if call.fails => status_after(outcome),
+        _ => status_where(!outcome.is_refusal()),
     }
 }
 
@@ -120,6 +191,12 @@ fn print_help(rt: &HostRuntime, out: &mut impl Write) -> Result<u8, Fault> {
 fn print(text: &str, out: &mut impl Write) -> Result<u8, Fault> {
     write_line(out, &text)?;
     Ok(DONE)
+}
+
+/// Prints the version, and which sources the program was built from.
+fn print_version(out: &mut impl Write) -> Result<u8, Fault> {
+    print(VERSION, out)?;
+    print(SOURCES, out)
 }
 
 /// Reads the book, and counts its partners.

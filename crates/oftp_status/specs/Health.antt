@@ -1,5 +1,6 @@
 -- The verdict on a station.
-use Rattle.std.specs.Prelude.{ℕ, ◌+◌, ◌-◌, ◌^◌, ◌==◌, List, [], ◌∷◌, ◌++◌, Option, None, Some, codes, decimal, fold, if◌then◌else◌, max, min, nat_lt, string_bytes}
+use Rattle.std.specs.Prelude.{ℕ, ◌+◌, ◌-◌, ◌^◌, ◌==◌, List, [], ◌∷◌, ◌++◌, Option, None, Some, codes, decimal, fold, if◌then◌else◌, max, min, nat_eq, nat_lt, string_bytes}
+use Rattle.std.specs.List.{starts_with}
 use Rattle.std.specs.Str.{bytes_eq}
 use Rattle.oftp_status.specs.Ages.{age_text}
 use Rattle.oftp_status.specs.Pictures.{last_good}
@@ -10,6 +11,8 @@ use Rattle.oftp_status.specs.declared.health.Grade.TheVariants.{Fine, Warning, C
 use Rattle.oftp_status.specs.declared.health.Limits.{Limits}
 use Rattle.oftp_status.specs.declared.health.Measure.{Measure}
 use Rattle.oftp_status.specs.declared.health.Measure.TheVariants as measure
+use Rattle.oftp_status.specs.declared.health.Missing.{Missing}
+use Rattle.oftp_status.specs.declared.health.Missing.TheVariants as missing
 use Rattle.oftp_status.specs.declared.health.Overdue.{Overdue}
 use Rattle.oftp_status.specs.declared.health.Terms.{Terms}
 use Rattle.oftp_status.specs.declared.picture.Partner.{Partner}
@@ -159,3 +162,20 @@ begun_line grade =
 
 abbrev pub line_of : Limits → Finding → List ℕ
 line_of l f = with_data l f.ages (begun_line f.grade ++ f.reasons)
+
+-- the grade that a line tells
+abbrev pub grade_in : List ℕ → Grade
+grade_in line =
+    if starts_with nat_eq line (codes "OFTP OK ") then Fine
+    else if starts_with nat_eq line (codes "OFTP WARNING ") then Warning
+    else if starts_with nat_eq line (codes "OFTP CRITICAL ") then Critical
+    else Unknown
+
+-- a station that doesn't run is critical, and of one that gives no verdict nothing is known
+abbrev pub grade_without : Missing → Grade
+grade_without missing.Station = Critical
+grade_without missing.Verdict = Unknown
+
+abbrev pub line_without : Missing → List ℕ
+line_without missing.Station = codes "OFTP CRITICAL - no station runs\n"
+line_without missing.Verdict = codes "OFTP UNKNOWN - the station gives no verdict\n"

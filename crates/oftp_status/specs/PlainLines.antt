@@ -68,11 +68,16 @@ to_do_line t _ text = text
 abbrev pub with_to_do : List ℕ → Tally → List ℕ
 with_to_do text t = to_do_line t t.subject text
 
+-- how much of a file came or went, if its name is known
+abbrev pub with_part : List ℕ → List ℕ → ℕ → List ℕ
+with_part text [] share = text
+with_part text (c ∷ dataset) share = with_texts text (codes ", " ∷ (c ∷ dataset) ∷ codes " " ∷ decimal share ∷ codes " %" ∷ [])
+
 -- the session that is going on
 abbrev pub with_going_line : List ℕ → Option Going → List ℕ
 with_going_line text None = text ++ codes "no session\n"
-with_going_line text (Some g) = with_texts text
-    (codes "session " ∷ way_text g.way ∷ codes " with " ∷ g.partner.now ∷ codes ", " ∷ g.dataset.now ∷ codes " " ∷ decimal g.share ∷ codes " %\n" ∷ [])
+with_going_line text (Some g) =
+    with_part (with_texts text (codes "session " ∷ way_text g.way ∷ codes " with " ∷ g.partner.now ∷ [])) g.dataset.now g.share ++ codes "\n"
 
 -- the version, the age and the database
 abbrev pub with_title : List ℕ → Picture → List ℕ

@@ -1,7 +1,7 @@
 //! The verdict on a station: the line and the exit status of a Nagios plugin.
 
 ghost use Rattle.std.specs.Prelude.{◌≡◌, OnOk, IfOk, fold};
-ghost use Rattle.oftp_status.specs.Health.{found_in, grade_at, grade_text, later_backup, limits_for, line_of, measure_back, measure_front, measure_of, nothing_found, raised, status_of, weighed, with_data, with_datum, with_files, with_limits, with_partner, with_reason, worse};
+ghost use Rattle.oftp_status.specs.Health.{found_in, grade_at, grade_in, grade_text, grade_without, later_backup, limits_for, line_of, line_without, measure_back, measure_front, measure_of, nothing_found, raised, status_of, weighed, with_data, with_datum, with_files, with_limits, with_partner, with_reason, worse};
 
 use crate::picture::{Partner, Picture, last_good};
 use crate::pieces::{Piece, add};
@@ -435,6 +435,52 @@ fn last_backup(since: u64, counters: &[Tally]) -> u64
         time = later_backup(time, tally);
     }
     time
+}
+
+/// Why there is no verdict of a station.
+#[derive(Clone, Copy, Debug, Drop, PartialEq, Eq)]
+pub enum Missing {
+    /// No station runs.
+    Station,
+    /// The station gave none.
+    Verdict,
+}
+
+impl Missing {
+    /// How well the station is.
+    pub fn grade(self) -> Grade
+        ensures { result ≡ grade_without self }
+    {
+        match self {
+            Missing::Station => Grade::Critical,
+            Missing::Verdict => Grade::Unknown,
+        }
+    }
+
+    /// The line.
+    pub fn line(self) -> &'static str
+        ensures { result.now ≡ line_without self }
+    {
+        match self {
+            Missing::Station => "OFTP CRITICAL - no station runs\n",
+            Missing::Verdict => "OFTP UNKNOWN - the station gives no verdict\n",
+        }
+    }
+}
+
+/// The grade that the line of a verdict tells.
+pub fn grade_in(line: &[u8]) -> Grade
+    ensures { result ≡ grade_in line.now }
+{
+    if line.starts_with(b"OFTP OK ") {
+        Grade::Fine
+    } else if line.starts_with(b"OFTP WARNING ") {
+        Grade::Warning
+    } else if line.starts_with(b"OFTP CRITICAL ") {
+        Grade::Critical
+    } else {
+        Grade::Unknown
+    }
 }
 
 /// By which limits a station is judged.

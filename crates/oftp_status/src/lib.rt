@@ -18,7 +18,7 @@ mod tally;
 mod way;
 
 pub use ending::Ending;
-pub use health::{Grade, Limits, Overdue, Terms, Verdict, verdict_on};
+pub use health::{Grade, Limits, Missing, Overdue, Terms, Verdict, grade_in, verdict_on};
 pub use lines::status_lines;
 pub use object::status_json;
 pub use picture::{Going, Partner, Picture, last_good};

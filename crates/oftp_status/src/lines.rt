@@ -1,7 +1,7 @@
 //! The picture of a station for people, in lines.
 
 ghost use Rattle.std.specs.Prelude.{◌≡◌, OnOk, IfOk, fold};
-ghost use Rattle.oftp_status.specs.PlainLines.{status_lines, with_called, with_count, with_general, with_going_line, with_next_call, with_of, with_own, with_partner_lines, with_title, with_to_do};
+ghost use Rattle.oftp_status.specs.PlainLines.{status_lines, with_called, with_count, with_general, with_going_line, with_next_call, with_of, with_own, with_part, with_partner_lines, with_title, with_to_do};
 
 use crate::ending::{Ending, add_words};
 use crate::picture::{Going, Partner, Picture};
@@ -233,27 +233,46 @@ fn add_to_dos(alloc: Global, tallies: &[Tally], text: &mut Vec<u8>) -> Result<()
     Ok(())
 }
 
+// Appends how much of a file came or went, if its name is known.
+fn add_part(alloc: Global, dataset: &str, share: u64, text: &mut Vec<u8>) -> Result<(), AllocError>
+    ensures { OnOk result (text.new.items ≡ with_part text.old.items dataset.now share) }
+{
+    if dataset.is_empty() {
+        return Ok(());
+    }
+    add(
+        alloc,
+        &[
+            Piece::Text(", "),
+            Piece::Text(dataset),
+            Piece::Text(" "),
+            Piece::Number(share),
+            Piece::Text(" %"),
+        ],
+        text,
+    )
+}
+
 // Appends the session that is going on.
 fn add_going(alloc: Global, going: Option<Going<'_>>, text: &mut Vec<u8>) -> Result<(), AllocError>
     ensures { OnOk result (text.new.items ≡ with_going_line text.old.items going.entry) }
 {
     match going {
         None => text.extend_from_slice(b"no session\n"),
-        Some(going) => add(
-            alloc,
-            &[
-                Piece::Text("session "),
-                Piece::Text(going.way.word()),
-                Piece::Text(" with "),
-                Piece::Text(going.partner),
-                Piece::Text(", "),
-                Piece::Text(going.dataset),
-                Piece::Text(" "),
-                Piece::Number(going.share),
-                Piece::Text(" %\n"),
-            ],
-            text,
-        ),
+        Some(going) => {
+            add(
+                alloc,
+                &[
+                    Piece::Text("session "),
+                    Piece::Text(going.way.word()),
+                    Piece::Text(" with "),
+                    Piece::Text(going.partner),
+                ],
+                text,
+            )?;
+            add_part(alloc, going.dataset, going.share, text)?;
+            text.extend_from_slice(b"\n")
+        }
     }
 }
 

@@ -2,7 +2,9 @@
 
 use crate::line::Line;
 use crate::octets::print_whole;
-use oftp_channel::{ListedFile, Request, Tracing, fits, read_request, write_entry, write_request};
+use oftp_channel::{
+    Form, Haste, ListedFile, Request, Tracing, fits, read_request, write_entry, write_request,
+};
 use oftp_engine::{Operator, Submission};
 use oftp_io::Port;
 use oftp_listing::ReportKind;
@@ -39,6 +41,20 @@ impl<'a> Given<'a> {
         match self.text(at) {
             "kept" => Tracing::Kept,
             _ => Tracing::None,
+        }
+    }
+
+    fn haste(&self, at: usize) -> Haste {
+        match self.text(at) {
+            "now" => Haste::AtOnce,
+            _ => Haste::InTurn,
+        }
+    }
+
+    fn form(&self, at: usize) -> Form {
+        match self.text(at) {
+            "json" => Form::Json,
+            _ => Form::Lines,
         }
     }
 
@@ -79,11 +95,10 @@ impl<'a> Given<'a> {
     fn request(&self) -> Request<'a> {
         match self.text(0) {
             "call" => Request::Call {
-                book: self.octets(1),
-                partner: self.text(2),
-                patience: self.number(3),
-                longest: self.number(4),
-                tracing: self.tracing(5),
+                partner: self.text(1),
+                patience: self.number(2),
+                longest: self.number(3),
+                tracing: self.tracing(4),
             },
             "report" => Request::Report(self.report(1)),
             "unanswered" => Request::Unanswered,
@@ -95,6 +110,20 @@ impl<'a> Given<'a> {
             },
             "backup" => Request::Backup,
             "init" => Request::Init,
+            "stop" => Request::Stop(self.haste(1)),
+            "reload" => Request::Reload,
+            "resend" => Request::Resend {
+                book: self.octets(1),
+                no: self.number(2),
+                date: self.text(3),
+                time: self.text(4),
+            },
+            "status" => Request::Status(self.form(1)),
+            "health" => Request::Health {
+                warn: self.number(1),
+                critical: self.number(2),
+            },
+            "settled" => Request::Settled,
             _ => Request::Operate {
                 book: self.octets(1),
                 call: self.call(),
@@ -187,6 +216,19 @@ fn print_call(rt: &HostRuntime, call: &Operator<'_>) -> io::Result<()> {
     }
 }
 
+/// Prints the stamps and the book of a request to submit a file again.
+fn print_again(rt: &HostRuntime, request: &Request<'_>) -> io::Result<()> {
+    match request {
+        Request::Resend {
+            book,
+            date,
+            time,
+            ..
+        } => print_all(rt, &[date.as_bytes(), time.as_bytes(), book]),
+        _ => Ok(()),
+    }
+}
+
 /// Prints a request.
 fn print_request(rt: &HostRuntime, request: &Request<'_>) -> io::Result<()> {
     match request {
@@ -195,14 +237,13 @@ fn print_request(rt: &HostRuntime, request: &Request<'_>) -> io::Result<()> {
             print_whole(rt, book)
         }
         Request::Call {
-            book,
             partner,
             patience,
             longest,
             tracing,
         } => {
             print!(rt; " call {patience} {longest} {tracing:?}")?;
-            print_all(rt, &[partner.as_bytes(), book])
+            print_whole(rt, partner.as_bytes())
         }
         Request::Report(kind) => print!(rt; " report {kind:?}"),
         Request::Unanswered => print!(rt; " unanswered"),
@@ -217,6 +258,15 @@ fn print_request(rt: &HostRuntime, request: &Request<'_>) -> io::Result<()> {
         }
         Request::Backup => print!(rt; " backup"),
         Request::Init => print!(rt; " init"),
+        Request::Stop(haste) => print!(rt; " stop {haste:?}"),
+        Request::Reload => print!(rt; " reload"),
+        Request::Resend { no, .. } => {
+            print!(rt; " resend {no}")?;
+            print_again(rt, request)
+        }
+        Request::Status(form) => print!(rt; " status {form:?}"),
+        Request::Health { warn, critical } => print!(rt; " health {warn} {critical}"),
+        Request::Settled => print!(rt; " settled"),
     }
 }
 

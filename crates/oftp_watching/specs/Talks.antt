@@ -20,11 +20,11 @@ counted event.Came t = record t { received = one_more t.received }
 counted event.ResponseReceived t = record t { received = one_more t.received }
 counted _ t = t
 
--- each key of its beginning with its value, in their order; those without one aren't written
-abbrev pub begun_members : List ℕ → Talk → List (List ℕ × Option Data)
-begun_members at t =
+-- each key of an event of a session with its value, in their order, but for what its end says; those without one aren't written
+abbrev pub talk_members : Event → List ℕ → Talk → List (List ℕ × Option Data) → List (List ℕ × Option Data)
+talk_members what at t rest =
     (codes "at", Some (string at))
-    ∷ (codes "event", Some (string (event_text event.SessionBegun)))
+    ∷ (codes "event", Some (string (event_text what)))
     ∷ (codes "session", Some (number (unsigned t.number)))
     ∷ (codes "partner", text_value (option_map string_bytes t.partner))
     ∷ (codes "way", Some (string (direction_text t.way)))
@@ -42,42 +42,30 @@ begun_members at t =
     ∷ (codes "reason", None)
     ∷ (codes "words", None)
     ∷ (codes "text", None)
-    ∷ (codes "sent", None)
+    ∷ rest
+
+-- the members of its beginning
+abbrev pub begun_members : List ℕ → Talk → List (List ℕ × Option Data)
+begun_members at t =
+    talk_members event.SessionBegun at t (
+    (codes "sent", None)
     ∷ (codes "received", None)
     ∷ (codes "octets_in", None)
     ∷ (codes "octets_out", None)
     ∷ (codes "seconds", None)
     ∷ (codes "uid", None)
     ∷ (codes "end", None)
-    ∷ []
+    ∷ [])
 
--- the same of its end
+-- the members of its end
 abbrev pub ended_members : List ℕ → Farewell → Talk → List (List ℕ × Option Data)
 ended_members at f t =
-    (codes "at", Some (string at))
-    ∷ (codes "event", Some (string (event_text event.SessionEnded)))
-    ∷ (codes "session", Some (number (unsigned t.number)))
-    ∷ (codes "partner", text_value (option_map string_bytes t.partner))
-    ∷ (codes "way", Some (string (direction_text t.way)))
-    ∷ (codes "peer", text_value (option_map string_bytes t.peer))
-    ∷ (codes "no", None)
-    ∷ (codes "dataset", None)
-    ∷ (codes "date", None)
-    ∷ (codes "time", None)
-    ∷ (codes "originator", None)
-    ∷ (codes "destination", None)
-    ∷ (codes "format", None)
-    ∷ (codes "rows", None)
-    ∷ (codes "units", None)
-    ∷ (codes "kind", None)
-    ∷ (codes "reason", None)
-    ∷ (codes "words", None)
-    ∷ (codes "text", None)
-    ∷ (codes "sent", Some (number (unsigned t.sent)))
+    talk_members event.SessionEnded at t (
+    (codes "sent", Some (number (unsigned t.sent)))
     ∷ (codes "received", Some (number (unsigned t.received)))
     ∷ (codes "octets_in", Some (number (unsigned f.octets_in)))
     ∷ (codes "octets_out", Some (number (unsigned f.octets_out)))
     ∷ (codes "seconds", Some (number (unsigned f.seconds)))
     ∷ (codes "uid", None)
     ∷ (codes "end", Some (string f.end.now))
-    ∷ []
+    ∷ [])

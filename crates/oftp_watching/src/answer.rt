@@ -4,9 +4,8 @@ ghost use Rattle.std.specs.Prelude.{◌≡◌, ℕ, List, IfOk, Some, option_map
 ghost use Rattle.std.specs.Borrow.{Bor};
 ghost use Rattle.oftp_watching.specs.Answers.{answer_in, answer_of, answer_reason, answer_text, answer_words, kind_text, response_answer, said_if};
 
-use crate::phrases::{end_phrase, negative_phrase, start_phrase};
 use oftp_register::{Change, IssuedResponse, Note, ResponseKind};
-use oftp_wire::{Count, Text};
+use oftp_wire::{Count, Text, end_phrase, negative_phrase, start_phrase};
 use std::alloc::{AllocError, Global};
 
 /// An answer that ends a file's way, or refuses it.

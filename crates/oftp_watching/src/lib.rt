@@ -10,7 +10,6 @@ mod known;
 mod moment;
 mod news;
 mod notices;
-mod phrases;
 mod talk;
 mod watched;
 

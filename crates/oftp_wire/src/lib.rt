@@ -19,3 +19,4 @@ pub use fault::WireFault;
 pub use field::{Count, Digits, Octets, Text, X};
 pub use reason::{EndReason, SessionReason, StartReason};
 pub use scan::{all_digits, is_allowed};
+pub use words::{end_phrase, negative_phrase, session_phrase, start_phrase};

@@ -9,7 +9,7 @@ use std::fmt;
 
 /// What a reason of SFNA is called (RFC 5024, section 5.3.5). Nothing for a number that isn't listed.
 #[tactic(auto, unfolding(crate::specs::Reasons::start_phrase))]
-fn start_phrase(number: Count<2>) -> &'static str
+pub fn start_phrase(number: Count<2>) -> &'static str
     ensures { result.now ≡ start_phrase number }
 {
     match number.get() {
@@ -37,7 +37,7 @@ fn start_phrase(number: Count<2>) -> &'static str
 
 /// What a reason of EFNA is called: as one of SFNA, and three of its own (section 5.3.10).
 #[tactic(auto, unfolding(crate::specs::Reasons::end_phrase))]
-fn end_phrase(number: Count<2>) -> &'static str
+pub fn end_phrase(number: Count<2>) -> &'static str
     ensures { result.now ≡ end_phrase number }
 {
     match number.get() {
@@ -50,7 +50,7 @@ fn end_phrase(number: Count<2>) -> &'static str
 
 /// What a reason of ESID is called (section 5.3.11).
 #[tactic(auto, unfolding(crate::specs::Reasons::session_phrase))]
-fn session_phrase(number: Count<2>) -> &'static str
+pub fn session_phrase(number: Count<2>) -> &'static str
     ensures { result.now ≡ session_phrase number }
 {
     match number.get() {
@@ -74,7 +74,7 @@ fn session_phrase(number: Count<2>) -> &'static str
 
 /// What a reason of NERP is called (section 5.3.14).
 #[tactic(auto, unfolding(crate::specs::Reasons::negative_phrase))]
-fn negative_phrase(number: Count<2>) -> &'static str
+pub fn negative_phrase(number: Count<2>) -> &'static str
     ensures { result.now ≡ negative_phrase number }
 {
     match number.get() {

@@ -10,7 +10,7 @@ use clap::builder::ValueParser;
 use clap::{Arg, ArgAction, Command};
 use std::alloc::{AllocError, Global};
 
-/// The greatest number of an incoming file.
+/// The greatest number of a file.
 pub(super) const MOST_NO: u64 = 9_999_999;
 
 /// The greatest port.
@@ -33,6 +33,9 @@ pub(super) const MOST_INTERVAL: u64 = 86_400;
 
 /// The greatest number of jobs after which a station ends.
 pub(super) const MOST_JOBS: u64 = 1_000_000;
+
+/// The greatest age that isn't overdue, in hours: ten years.
+pub(super) const MOST_HOURS: u64 = 87_600;
 
 /// The greatest longest record, in octets.
 pub(super) const MOST_LONGEST: u64 = 99_999;

@@ -4,22 +4,26 @@ ghost use Rattle.oftp_command_line.specs.Arguments.{HasValues, values_in};
 ghost use Rattle.oftp_command_line.specs.Fault.{is_bad};
 ghost use Rattle.oftp_command_line.specs.Line.{app_named, said, said_by};
 
+pub(super) mod audit;
 pub(super) mod feed;
 pub(super) mod files;
 pub(super) mod folders;
 pub(super) mod operators;
 pub(super) mod registers;
 pub(super) mod services;
+pub(super) mod standings;
 pub(super) mod terms;
 
 use super::values::given;
 use super::{Line, LineFault};
+use audit::audit_read;
 use clap::ArgMatches;
 use feed::feed_read;
 use folders::{collect_read, offer_read};
-use operators::{refuse_read, release_read, submit_read};
+use operators::{refuse_read, release_read, resend_read, submit_read};
 use registers::{backup_read, fetch_read, report_read};
-use services::{call_read, http_read, listen_read, run_read};
+use services::{call_read, http_read, listen_read, run_read, stop_read};
+use standings::{health_read, status_read};
 use std::alloc::Global;
 
 /// The name of a command.
@@ -30,14 +34,21 @@ pub(super) enum Name {
     Check,
     Submit,
     Offer,
+    Resend,
     Release,
     Refuse,
     Fetch,
     Collect,
     Report,
+    Status,
+    Health,
+    Settled,
     Backup,
+    Stop,
+    Reload,
     Show,
     Feed,
+    Audit,
     Run,
     Listen,
     Call,
@@ -68,16 +79,27 @@ impl Name {
             }),
             Name::Submit => submit_read(alloc, matches).map(Line::Submit),
             Name::Offer => offer_read(alloc, matches).map(Line::Offer),
+            Name::Resend => Ok(Line::Resend(resend_read(matches))),
             Name::Release => Ok(Line::Release(release_read(matches))),
             Name::Refuse => Ok(Line::Refuse(refuse_read(matches))),
             Name::Fetch => Ok(Line::Fetch(fetch_read(matches))),
             Name::Collect => Ok(Line::Collect(collect_read(matches))),
             Name::Report => report_read(alloc, matches).map(Line::Report),
+            Name::Status => Ok(Line::Status(status_read(matches))),
+            Name::Health => Ok(Line::Health(health_read(matches))),
+            Name::Settled => Ok(Line::Settled {
+                database: given(matches, "db"),
+            }),
             Name::Backup => Ok(Line::Backup(backup_read(matches))),
+            Name::Stop => Ok(Line::Stop(stop_read(matches))),
+            Name::Reload => Ok(Line::Reload {
+                database: given(matches, "db"),
+            }),
             Name::Show => Ok(Line::Show {
                 input: given(matches, "in"),
             }),
             Name::Feed => feed_read(alloc, matches).map(Line::Feed),
+            Name::Audit => Ok(Line::Audit(audit_read(matches))),
             Name::Run => Ok(Line::Run(run_read(matches))),
             Name::Listen => Ok(Line::Listen(listen_read(matches))),
             Name::Call => Ok(Line::Call(call_read(matches))),

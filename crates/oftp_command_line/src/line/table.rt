@@ -5,8 +5,8 @@ ghost use Rattle.oftp_command_line.specs.Line.{app_named, command_names, name_of
 ghost use Rattle.oftp_command_line.specs.Told.{IsTold, app_told, with_name, word_of};
 
 use super::arguments::{
-    Argument, Kind, MOST_ADMISSION, MOST_CALLERS, MOST_DURATION, MOST_INTERVAL, MOST_JOBS,
-    MOST_LONGEST, MOST_NO, MOST_PATIENCE, MOST_PORT, MOST_REASON,
+    Argument, Kind, MOST_ADMISSION, MOST_CALLERS, MOST_DURATION, MOST_HOURS, MOST_INTERVAL,
+    MOST_JOBS, MOST_LONGEST, MOST_NO, MOST_PATIENCE, MOST_PORT, MOST_REASON,
 };
 use super::commands::Name;
 
@@ -83,6 +83,9 @@ macro_rules! shared {
     ($to:ident $head:tt $tail:tt trace) => {
         shared!($to $head $tail = Optional("trace", "FILE", "The file to which what goes over the connection is appended in words"))
     };
+    ($to:ident $head:tt $tail:tt events) => {
+        shared!($to $head $tail = Optional("events", "FILE", "The file to which what happens is appended, a line of JSON each"))
+    };
     ($to:ident {$($head:tt)*} {$($tail:tt)*} = $($argument:tt)*) => { $to!($($head)* $($argument)* $($tail)*) };
 }
 
@@ -113,9 +116,10 @@ const SUBMIT: Declaration =
     declaration! { Submit, "submit", "Hands over file FILE, which is to be sent to a partner", [
         Shared(database),
         Shared(book),
+        Shared(events),
         Needed("dataset", "NAME", "The virtual file's dataset name"),
-        Needed("date", "DATE", "Its date stamp, as 20240131"),
-        Needed("time", "TIME", "Its time stamp, as 1015300001"),
+        Optional("date", "DATE", "Its date stamp, as 20240131; today's where it is missing"),
+        Optional("time", "TIME", "Its time stamp, as 1015300001; that of the moment where it is missing"),
         Needed("to", "CODE", "The code of the partner that it goes to"),
         Needed("format", "FORMAT", "The format of its records: F, V, U or T"),
         Defaulted("longest", "OCTETS", "The length of its records in F, or of the longest in V, 1 to 16384", "0", 0, MOST_LONGEST),
@@ -127,16 +131,31 @@ const OFFER: Declaration =
     declaration! { Offer, "offer", "Hands over the files in folder FOLDER, which are to be sent to a partner", [
         Shared(database),
         Shared(book),
+        Shared(events),
         Needed("to", "CODE", "The code of the partner that they go to"),
         Needed("from", "FOLDER", "The folder that holds them in their local form"),
+        Optional("dataset", "NAME", "The dataset name of each; its own name where this is missing"),
+        Defaulted("description", "TEXT", "What each is, in words", ""),
+        Flag("describe", "Takes the name of each file as its description"),
         Defaulted("format", "FORMAT", "The format of their records: F, V, U or T", "U"),
         Defaulted("longest", "OCTETS", "The length of their records in F, or of the longest in V, 1 to 16384", "0", 0, MOST_LONGEST),
+    ] };
+
+const RESEND: Declaration =
+    declaration! { Resend, "resend", "Hands over the content of an outgoing file once more, under another date and time", [
+        Shared(database),
+        Shared(book),
+        Shared(events),
+        Optional("date", "DATE", "The new date stamp, as 20240131; today's where it is missing"),
+        Optional("time", "TIME", "The new time stamp, as 1015300001; that of the moment where it is missing"),
+        Word("no", "NO", "The outgoing file's number, 1 to 9999999", 1, MOST_NO),
     ] };
 
 const RELEASE: Declaration =
     declaration! { Release, "release", "Says that an incoming file was delivered", [
         Shared(database),
         Shared(book),
+        Shared(events),
         Shared(number),
     ] };
 
@@ -144,6 +163,7 @@ const REFUSE: Declaration =
     declaration! { Refuse, "refuse", "Says that an incoming file wasn't delivered", [
         Shared(database),
         Shared(book),
+        Shared(events),
         Shared(number),
         Word("reason", "REASON", "Why it wasn't, 0 to 99", 0, MOST_REASON),
         Word("text", "TEXT", "The reason in words"),
@@ -160,21 +180,55 @@ const COLLECT: Declaration =
     declaration! { Collect, "collect", "Writes the incoming files that are whole and not answered to folder FOLDER", [
         Shared(database),
         Shared(book),
+        Shared(events),
         Needed("to", "FOLDER", "The folder that is given their local forms"),
+        Optional("from", "CODE", "The code of the partner whose files alone are written"),
+        Optional("dataset", "PATTERN", "What the dataset names of the files match that alone are written: * is any text, ? any character"),
         Flag("release", "Releases each file once it is there"),
     ] };
 
 const REPORT: Declaration =
     declaration! { Report, "report", "Tells what the database holds, as comma-separated values", [
         Shared(database),
+        Optional("state", "STATE", "The state of the files that alone are told"),
+        Optional("partner", "CODE", "The code of the partner whose files and responses alone are told"),
+        Optional("since", "DATE", "The first date of the files and responses that alone are told, as 20240131"),
+        Flag("json", "Tells them as JSON"),
         Word("kind", "KIND", "What is reported: in, out, issued or received"),
     ] };
+
+const STATUS: Declaration = declaration! { Status, "status", "Tells how the station stands", [
+        Shared(database),
+        Flag("json", "Tells it as JSON"),
+    ] };
+
+const HEALTH: Declaration =
+    declaration! { Health, "health", "Tells in one line whether something is overdue, as a plugin of Nagios", [
+        Shared(database),
+        Defaulted("warn", "HOURS", "After how many hours something is overdue, 0 to 87600", "24", 0, MOST_HOURS),
+        Defaulted("critical", "HOURS", "After how many hours that is critical, 0 to 87600", "48", 0, MOST_HOURS),
+    ] };
+
+const SETTLED: Declaration =
+    declaration! { Settled, "settled", "Tells which files are still open", [Shared(database)] };
 
 const BACKUP: Declaration =
     declaration! { Backup, "backup", "Copies the database as it stands to file TO", [
         Shared(database),
+        Shared(events),
         Word("to", "TO", "The file that is given the copy"),
     ] };
+
+const STOP: Declaration =
+    declaration! { Stop, "stop", "Has the station that runs over the database end once its session is over", [
+        Shared(database),
+        Flag("now", "Cuts the session off"),
+    ] };
+
+const RELOAD: Declaration =
+    declaration! { Reload, "reload", "Has the station that runs over the database read its book again", [
+    Shared(database),
+] };
 
 const SHOW: Declaration =
     declaration! { Show, "show", "Prints the commands in file IN, a line each, up to the first fault", [
@@ -192,6 +246,12 @@ const FEED: Declaration =
         Word("out", "OUT", "The file that is given what the station sends"),
     ] };
 
+const AUDIT: Declaration =
+    declaration! { Audit, "audit", "Tells what is unsound in the database, and what it has lost of an older one", [
+        Shared(database),
+        Optional("old", "BACKUP", "The file that holds the older database"),
+    ] };
+
 const RUN: Declaration =
     declaration! { Run, "run", "Serves partners and commands by day and night, one after another", [
         Shared(database),
@@ -205,6 +265,7 @@ const RUN: Declaration =
         Shared(patience),
         Shared(duration),
         Shared(trace),
+        Shared(events),
         Defaulted("jobs", "COUNT", "After how many jobs it ends, 0 to 1000000, 0 for never", "0", 0, MOST_JOBS),
     ] };
 
@@ -219,15 +280,18 @@ const LISTEN: Declaration =
         Shared(patience),
         Shared(duration),
         Shared(trace),
+        Shared(events),
     ] };
 
 const CALL: Declaration = declaration! { Call, "call", "Calls a partner for one session", [
     Shared(database),
     Shared(book),
     Needed("partner", "CODE", "The code of the partner that is called"),
+    Flag("fail", "Ends with status 1 where the session ends otherwise than by 00"),
     Shared(patience),
     Shared(duration),
     Shared(trace),
+    Shared(events),
 ] };
 
 const HTTP: Declaration =
@@ -252,14 +316,21 @@ impl Name {
             Name::Check => CHECK,
             Name::Submit => SUBMIT,
             Name::Offer => OFFER,
+            Name::Resend => RESEND,
             Name::Release => RELEASE,
             Name::Refuse => REFUSE,
             Name::Fetch => FETCH,
             Name::Collect => COLLECT,
             Name::Report => REPORT,
+            Name::Status => STATUS,
+            Name::Health => HEALTH,
+            Name::Settled => SETTLED,
             Name::Backup => BACKUP,
+            Name::Stop => STOP,
+            Name::Reload => RELOAD,
             Name::Show => SHOW,
             Name::Feed => FEED,
+            Name::Audit => AUDIT,
             Name::Run => RUN,
             Name::Listen => LISTEN,
             Name::Call => CALL,
@@ -282,7 +353,7 @@ impl Name {
 }
 
 /// All commands, in their order in texts.
-pub fn declarations() -> [Declaration; 17]
+pub fn declarations() -> [Declaration; 24]
     ensures names { map with_name result ≡ command_names }
     ensures told { All IsTold result }
 {
@@ -292,14 +363,21 @@ pub fn declarations() -> [Declaration; 17]
         Name::Check.declaration(),
         Name::Submit.declaration(),
         Name::Offer.declaration(),
+        Name::Resend.declaration(),
         Name::Release.declaration(),
         Name::Refuse.declaration(),
         Name::Fetch.declaration(),
         Name::Collect.declaration(),
         Name::Report.declaration(),
+        Name::Status.declaration(),
+        Name::Health.declaration(),
+        Name::Settled.declaration(),
         Name::Backup.declaration(),
+        Name::Stop.declaration(),
+        Name::Reload.declaration(),
         Name::Show.declaration(),
         Name::Feed.declaration(),
+        Name::Audit.declaration(),
         Name::Run.declaration(),
         Name::Listen.declaration(),
         Name::Call.declaration(),

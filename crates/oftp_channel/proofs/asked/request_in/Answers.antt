@@ -11,3 +11,6 @@ returns-in-Refuse-clause-none c = λ e. subst (λ (kind : RequestKind). IsNoRequ
 
 pub returns-in-Call-clause-none : goal.returns-in-Call-clause-none
 returns-in-Call-clause-none c = λ e. subst (λ (kind : RequestKind). IsNoRequest kind (map (λ word. word.items) c.args.fields.now)) (sym c.in-Call.is) (c.call_in.ensures.none e)
+
+pub returns-in-Resend-clause-none : goal.returns-in-Resend-clause-none
+returns-in-Resend-clause-none c = λ e. subst (λ (kind : RequestKind). IsNoRequest kind (map (λ word. word.items) c.args.fields.now)) (sym c.in-Resend.is) (c.resend_in.ensures.none e)

@@ -1,22 +1,24 @@
-//! The two files that most commands name.
+//! The files that most commands name.
 ghost use Rattle.std.specs.Prelude.{◌≡◌, IsSome, codes};
 ghost use Rattle.clap.specs.Words.{first_of};
 ghost use Rattle.oftp_command_line.specs.Arguments.{values_in};
 ghost use Rattle.oftp_command_line.specs.Files.{files_said, files_with};
 
-use crate::line::values::given;
+use crate::line::values::{given, value_of};
 use clap::ArgMatches;
 
-/// The two files of a command that names both.
+/// The files of a command that names a database and a book.
 #[derive(Debug, Clone, Copy, PartialEq, Eq)]
 pub struct Files<'a> {
     /// The database's file.
     pub database: &'a str,
     /// The book's file.
     pub book: &'a str,
+    /// The file to which its events are appended, if there is one.
+    pub events: Option<&'a str>,
 }
 
-/// Reads the two files from the values of the options.
+/// Reads the files from the values of the options.
 pub(super) fn files_read<'a>(matches: &ArgMatches<'a>) -> Files<'a>
     requires database { IsSome (first_of (codes "db") (values_in matches.now)) }
     requires book { IsSome (first_of (codes "book") (values_in matches.now)) }
@@ -25,5 +27,6 @@ pub(super) fn files_read<'a>(matches: &ArgMatches<'a>) -> Files<'a>
     Files {
         database: given(matches, "db"),
         book: given(matches, "book"),
+        events: value_of(matches, "events"),
     }
 }

@@ -9,7 +9,7 @@ ghost use Rattle.oftp_command_line.specs.FolderLines.{collect_app, collect_said,
 use super::files::{Files, files_read};
 use super::operators::FORMATS;
 use crate::line::LineFault;
-use crate::line::values::{choice, given, has_flag, number};
+use crate::line::values::{choice, given, has_flag, number, value_of};
 use clap::ArgMatches;
 use oftp_vfile::Format;
 use std::alloc::Global;
@@ -21,6 +21,10 @@ pub struct Collect<'a> {
     pub files: Files<'a>,
     /// The folder to which their local forms are written.
     pub folder: &'a str,
+    /// The code of the partner whose files alone are written, if there is one.
+    pub from: Option<&'a str>,
+    /// The pattern that their dataset names have to match, if there is one.
+    pub dataset: Option<&'a str>,
     /// Whether each is released once it is there.
     pub releases: bool,
 }
@@ -33,6 +37,8 @@ pub(super) fn collect_read<'a>(matches: &ArgMatches<'a>) -> Collect<'a>
     Collect {
         files: files_read(matches),
         folder: given(matches, "to"),
+        from: value_of(matches, "from"),
+        dataset: value_of(matches, "dataset"),
         releases: has_flag(matches, "release"),
     }
 }
@@ -46,6 +52,12 @@ pub struct Offer<'a> {
     pub to: &'a str,
     /// The folder with their local forms.
     pub folder: &'a str,
+    /// The dataset name of each. `None` is the name of its file.
+    pub dataset: Option<&'a str>,
+    /// The description of each, unless they are described by the names of their files.
+    pub description: &'a str,
+    /// Whether each is described by the name of its file.
+    pub describes: bool,
     /// The format of their records.
     pub format: Format,
     /// Their longest record in octets, 0 to 99,999.
@@ -66,6 +78,9 @@ pub(super) fn offer_read<'a>(
         files: files_read(matches),
         to: given(matches, "to"),
         folder: given(matches, "from"),
+        dataset: value_of(matches, "dataset"),
+        description: given(matches, "description"),
+        describes: has_flag(matches, "describe"),
         format,
         longest: number(matches, "longest") as u32,
     })

@@ -7,7 +7,7 @@ ghost use Rattle.oftp_command_line.specs.Fault.{is_bad};
 ghost use Rattle.oftp_command_line.specs.RegisterLines.{backup_app, backup_said, backup_with, fetch_app, fetch_said, fetch_with, report_app, report_in, report_said};
 
 use crate::line::LineFault;
-use crate::line::values::{choice, given, number};
+use crate::line::values::{choice, given, has_flag, number, value_of};
 use clap::ArgMatches;
 use oftp_listing::ReportKind;
 use std::alloc::Global;
@@ -50,6 +50,14 @@ pub struct Report<'a> {
     pub database: &'a str,
     /// The kind of report.
     pub kind: ReportKind,
+    /// The state of what alone is told, if there is one.
+    pub state: Option<&'a str>,
+    /// The code of the partner of what alone is told, if there is one.
+    pub partner: Option<&'a str>,
+    /// The first date of what alone is told, if there is one.
+    pub since: Option<&'a str>,
+    /// Whether it is told as JSON.
+    pub json: bool,
 }
 
 /// Reads the values of the options and words of `report`.
@@ -64,6 +72,10 @@ pub(super) fn report_read<'a>(
     Ok(Report {
         database: given(matches, "db"),
         kind: choice(alloc, matches, "kind", "<KIND>", KINDS)?,
+        state: value_of(matches, "state"),
+        partner: value_of(matches, "partner"),
+        since: value_of(matches, "since"),
+        json: has_flag(matches, "json"),
     })
 }
 
@@ -72,6 +84,8 @@ pub(super) fn report_read<'a>(
 pub struct Backup<'a> {
     /// The database's file.
     pub database: &'a str,
+    /// The file to which its event is appended, if there is one.
+    pub events: Option<&'a str>,
     /// The file to which the copy is written.
     pub to: &'a str,
 }
@@ -83,6 +97,7 @@ pub(super) fn backup_read<'a>(matches: &ArgMatches<'a>) -> Backup<'a>
 {
     Backup {
         database: given(matches, "db"),
+        events: value_of(matches, "events"),
         to: given(matches, "to"),
     }
 }

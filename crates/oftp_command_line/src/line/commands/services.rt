@@ -1,12 +1,12 @@
-//! The commands `run`, `listen`, `call` and `http`, which are services over sockets.
+//! The commands `run`, `listen`, `call` and `http`, which are services over sockets, and `stop`, which ends one.
 
 ghost use Rattle.std.specs.Prelude.{◌≡◌, codes};
 ghost use Rattle.oftp_command_line.specs.Arguments.{HasValues, values_in};
-ghost use Rattle.oftp_command_line.specs.ServiceLines.{call_app, call_said, call_with, http_app, http_said, http_with, listen_app, listen_said, listen_with, run_app, run_said, run_with};
+ghost use Rattle.oftp_command_line.specs.ServiceLines.{call_app, call_said, call_with, http_app, http_said, http_with, listen_app, listen_said, listen_with, run_app, run_said, run_with, stop_app, stop_said, stop_with};
 
 use super::files::{Files, files_read};
 use super::terms::{Entrance, SessionTerms, entrance_read, terms_read};
-use crate::line::values::{given, number, port, value_of};
+use crate::line::values::{given, has_flag, number, port, value_of};
 use clap::ArgMatches;
 
 /// The command `run`, which serves partners and commands until it is stopped.
@@ -45,6 +45,27 @@ pub(super) fn run_read<'a>(matches: &ArgMatches<'a>) -> Run<'a>
     }
 }
 
+/// The command `stop`, which has the station that runs over the database end.
+#[derive(Debug, Clone, Copy, PartialEq, Eq)]
+pub struct Stop<'a> {
+    /// The database's file.
+    pub database: &'a str,
+    /// Whether the session that goes on is cut off.
+    pub now: bool,
+}
+
+/// Reads the values of the options of `stop`.
+#[tactic(auto, using(crate::proofs::Values::has_text), unfolding(crate::specs::ServiceLines::stop_app))]
+pub(super) fn stop_read<'a>(matches: &ArgMatches<'a>) -> Stop<'a>
+    requires { HasValues stop_app (values_in matches.now) }
+    ensures { stop_said result ≡ stop_with (values_in matches.now) }
+{
+    Stop {
+        database: given(matches, "db"),
+        now: has_flag(matches, "now"),
+    }
+}
+
 /// The command `listen`, which serves sessions of partners that call.
 #[derive(Debug, Clone, Copy, PartialEq, Eq)]
 pub struct Listen<'a> {
@@ -79,6 +100,8 @@ pub struct Call<'a> {
     pub files: Files<'a>,
     /// The code of the partner that is called.
     pub partner: &'a str,
+    /// Whether a session that ends otherwise than by 00 is a failure.
+    pub fails: bool,
     /// The limits and the trace of its session.
     pub terms: SessionTerms<'a>,
 }
@@ -92,6 +115,7 @@ pub(super) fn call_read<'a>(matches: &ArgMatches<'a>) -> Call<'a>
     Call {
         files: files_read(matches),
         partner: given(matches, "partner"),
+        fails: has_flag(matches, "fail"),
         terms: terms_read(matches),
     }
 }
