@@ -157,10 +157,12 @@ class Tab:
         asked = [event["request"]["url"] for event in self.events("Network.requestWillBeSent")]
         return [url for url in asked if not url.startswith("data:")]
 
-    def complaints(self):
-        """The exceptions of the page's script, what the browser blocked or reported, and the dialogs that it opened."""
+    def complaints(self, missing=()):
+        """The exceptions of the page's script, what the browser blocked or reported, and the dialogs that it opened. That one of these paths has
+        nothing is no complaint."""
         thrown = [event["exceptionDetails"]["text"] for event in self.events("Runtime.exceptionThrown")]
-        noticed = [event["entry"]["text"] for event in self.events("Log.entryAdded")]
+        entries = [event["entry"] for event in self.events("Log.entryAdded")]
+        noticed = [it["text"] for it in entries if not (it.get("url", "").endswith(tuple(missing)) and "404" in it["text"])]
         said = [str(event["args"]) for event in self.events("Runtime.consoleAPICalled")]
         return thrown + noticed + said + [event["message"] for event in self.events("Page.javascriptDialogOpening")]
 

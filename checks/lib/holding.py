@@ -16,11 +16,11 @@ class Holding(Resident):
     # A database of 1 GiB takes minutes to open on a loaded machine.
     patience = 1800
 
-    def __init__(self, folder, database, book):
+    def __init__(self, folder, database, book, *words):
         self.requests = free_port()
         folder.mkdir(exist_ok=True)
         copied(database, folder / "database")
-        super().__init__(folder, "--http-port", str(self.requests), book=book)
+        super().__init__(folder, "--http-port", str(self.requests), *words, book=book)
 
     def taken(self):
         """The processor seconds that it has taken."""

@@ -287,7 +287,7 @@ class Argument:
     """An argument of a command: its name in texts, the words that give it, and whether it is required."""
 
     def __init__(self, words, is_needed):
-        # `--db <DATABASE> db` is an option with its value, `--release` one without, `<FILE> content` a word.
+        # `--db <DATABASE> db` is an option with its value, `--release` one without, `<FILE> content` a word, `[IN] given` one that may be missing.
         self.is_option = words[0].startswith("--")
         self.shown = " ".join(words[:-1] or words)
         self.words = words[::max(len(words) - 1, 1)] if self.is_option else [words[-1]]
@@ -307,7 +307,7 @@ class Command:
         self.arguments.append(Argument(rest, first == "needs"))
 
     def usage(self):
-        parts = [each.shown if each.is_needed else f"[{each.shown}]" for each in self.arguments]
+        parts = [each.shown if each.is_needed or not each.is_option else f"[{each.shown}]" for each in self.arguments]
         return " ".join(["oftp_station", self.name, *parts])
 
     def words(self, left_out=None):
@@ -335,6 +335,9 @@ class Command:
     def twice(self, argument):
         """The bad line in which an argument is given twice."""
         words = [*self.words(), *argument.words, *([] if argument.is_needed else argument.words)]
+        if not argument.is_needed and not argument.is_option:
+            # one word more than the command takes
+            words = [self.name, *(word for each in self.arguments if not each.is_option for word in each.words), *argument.words]
         error = f"unexpected argument '{argument.words[0]}' found"
         if argument.is_option:
             error = f"the argument '{argument.shown}' cannot be used multiple times"

@@ -106,7 +106,6 @@ def verified():
 
 MINUTES = verified()
 CLAIMS = (ROOT / "docs/claims.csv").read_text(encoding="utf-8")
-# Those of the claims P1 to P17. docs/PERFORMANCE.md has how long it takes to prove them.
 NAMED = {crate for name, crate in re.findall(r"(?m)^P(\d+)(?:\.\d+)?,.*,(oftp_\w+),(?:src|specs)/", CLAIMS) if int(name) < 18}
 MEASURED = {it: minutes for it, minutes in MINUTES.items() if it in NAMED}
 
@@ -159,7 +158,6 @@ BOUNDS = [
     ("docs/COMMANDS.md", rf"about {N} buffers are made at once", (TURNS,)),
     ("docs/ARCHITECTURE.md", rf"until {N} exchange buffers of a file", (TURNS,)),
     ("docs/DECISIONS.md", rf"pauses after {N} turns", (TURNS,)),
-    ("docs/PROOF-MAP.md", rf"crates of P1 to P17 this takes {N} to {N} minutes of a processor", (min(MEASURED.values()), max(MEASURED.values()))),
     *(("docs/PERFORMANCE.md", rf"\b{N}\s+for {crate}\b", (minutes,)) for crate, minutes in MEASURED.items()),
 ]
 

@@ -36,6 +36,8 @@ STANDS_FOR = re.compile(r"\b[A-Z]{2,}\b|\*")
 # What is built, or lies on another machine, and isn't in the tree.
 MADE = re.compile(r"/out(/|$)|^oftp_station\.|/NAME|\.part$")
 PROGRAMS = {"oftp_station"}
+# What the program writes.
+WRITTEN = {"verify.sh"}
 # Documents that also name what was weighed and isn't there.
 WEIGHED = {"DECISIONS.md"}
 FILE = re.compile(r"(?<![\w./@*-])([A-Za-z][\w/.-]*\.(?:rt|antt|py|sh|c|edit|row|lines|rattle|html))(?!\w)")
@@ -142,7 +144,7 @@ def named(text):
 def lost_names(tree, text):
     """Files, and names in code type: anywhere, and in the file that follows them."""
     for name in FILE.findall(text):
-        yield name, tree.files_of(name)
+        yield name, name in WRITTEN or tree.files_of(name)
     for names, file in NAMES_IN.findall(text):
         for name in named(names):
             yield f"{name} in {file}", any(name in tree.words[it] for it in tree.files_of(file))

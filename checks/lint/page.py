@@ -104,7 +104,7 @@ def judged(text):
     yield "its policy says nothing else", len(policy) == len(POLICY) + 2
     for word in FORBIDDEN:
         yield f"it has no {word.strip()}", word not in text
-    for name, phrase in (("START_REASONS", "start_phrase"), ("NEGATIVE_REASONS", "negative_phrase")):
+    for name, phrase in (("START_REASONS", "start_phrase"), ("NEGATIVE_REASONS", "negative_phrase"), ("SESSION_REASONS", "session_phrase")):
         told, shown = words_of(phrase), reasons_shown(text, name)
         for number, words in told.items():
             yield f"{name} has the reason {number} {words}", (number, words) in shown

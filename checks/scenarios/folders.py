@@ -461,7 +461,8 @@ class Home:
     def __init__(self, path):
         self.path, self.database = Path(path), Path(path) / "database"
         self.path.chmod(0o755)
-        shutil.copy(PROGRAM, self.path / "program")
+        # By a process of its own: another thread's child would hold the copy open for writing, and it couldn't be run meanwhile.
+        subprocess.run(["cp", PROGRAM, self.path / "program"], check=True)
         shutil.copy(BOOK, self.path / "book")
         self.how = {"user": USER, "group": USER, "extra_groups": []} if os.geteuid() == 0 else {}
 

@@ -253,6 +253,8 @@ def refusals(room):
     yield Case(["call", *files, "--partner", "NOBODY"], "refused: 2 unknown", "note: NOBODY: no partner in book has this code")
     yield Case(["offer", *files, "--to", "NOBODY", "--from", "."], "refused: 2 unknown", "note: NOBODY: no partner in book has this code")
     yield Case(["feed", "--book", "book", "--role", "initiator", "file", "out"], "refused: 2 unknown", "note: --partner: an initiator needs it")
+    (room / "events").write_text('{"at":"2026-11-01T10:00:00.000000Z","event":"submitted","way":"out","no":1}\n')
+    yield Case(["history", "--events", "events", "9"], "refused: 2 unknown", "note: 9: no event of events has this number")
     yield Case(["resend", *files, "9"], "refused: 2 unknown", "note: 9: no outgoing file has this number")
     yield Case(["resend", *files, "1"], "refused: 3 state", "note: 1: this outgoing file isn't sent yet")
     yield Case(["stop", "--db", "database"], "fault: 8 socket", "note: the station: isn't there, or ended before this command's turn: nothing was done")

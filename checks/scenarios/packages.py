@@ -37,7 +37,8 @@ from services import LONG, NotTried, Wrong, expect
 from typist import blocks_below, typed
 
 SERVICE = ROOT / "examples/service"
-MONITORING = ROOT / "examples/monitoring"
+# Folders whose files are all in the package.
+WHOLE = (ROOT / "examples/monitoring", ROOT / "examples/interop")
 TUTORIAL = ROOT / "docs/tutorials/first-delivery.md"
 PLACES = {".service": "usr/lib/systemd/system", ".timer": "usr/lib/systemd/system", ".path": "usr/lib/systemd/system"}
 DOCUMENTS = "usr/share/doc/oftp-station"
@@ -94,7 +95,7 @@ def has_its_files(package):
     wanted |= {f"{DOCUMENTS}/{name}" for name in ("README.md", "SECURITY.md", "copyright", "changelog.gz")}
     wanted |= {f"{DOCUMENTS}/docs/{it.relative_to(ROOT / 'docs')}" for it in (ROOT / "docs").rglob("*.*")}
     wanted |= {f"{DOCUMENTS}/examples/service/{name}" for name in ("book.toml", "stunnel.conf", "logrotate.conf")}
-    wanted |= {f"{DOCUMENTS}/examples/monitoring/{it.name}" for it in MONITORING.iterdir()}
+    wanted |= {f"{DOCUMENTS}/{it.relative_to(ROOT)}" for folder in WHOLE for it in folder.iterdir()}
     expect((package.files() - wanted, wanted - package.files()), (set(), set()), "files that it has beside them, and that it lacks")
     expect((package.tree / "usr/bin/oftp_station").read_bytes() == PROGRAM.read_bytes(), True, "whether the program is that which was tried")
 
@@ -187,7 +188,7 @@ def completes_in_bash(package):
     for name in commands():
         expect(completed(package, name, "--"), options_of(name), f"the options of {name}")
     for words, wanted in (
-        (("re",), {"release", "refuse", "reload", "report", "resend"}),
+        (("re",), {"release", "refuse", "reload", "report", "resend", "replay"}),
         (("submit", "--format", ""), {"F", "V", "U", "T"}),
         (("feed", "--role", "r"), {"responder"}),
         (("report", "--db", "database", ""), {"in", "out", "issued", "received"}),

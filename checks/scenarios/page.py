@@ -11,11 +11,11 @@ lists, and `run` also the page. The browser resolves no address but this machine
 docs/howto/page.md is `--screenshot docs/page.png`, and nothing compares it. Without a browser nothing is tried. The last line is
 `N passed, M failed`; before it comes the time for 10,000 files.
 
-Shows: where there is a browser: the page without a file, with 30 in every state, with 10,000 and with hostile texts, at 1,280, 1,024, 400 and 320
-pixels, light and dark, over made lists and over those of `http` and `run`. Its rows, words and sentences, and what is to be done: each state with a
+Shows: where there is a browser: the page without a file, with 30 in every state, with 10,000 and with hostile texts, with events and without, at
+1,280, 1,024, 400 and 320 pixels, light and dark, over made lists and over those of `http` and `run`. Its rows, words and sentences, and what is to be done: each state with a
 bound just before and just after it, a file that was seen closing for ten minutes, stamps that tell no age, files whose name was used again, and
-files that were refused as duplicates, with and without their response, also after a restore; that it never says that there is nothing to do. Stamps
-by a browser in Berlin and in Mexico City, sizes, sorting by each column, the filter, details, and the command to copy. That all fits the window,
+files that were refused as duplicates, with and without their response, also after a restore; that it says that there is nothing to do only where
+it has looked at all. With events the last change and the history of each file, sessions, and the last contact with each partner. Stamps by a browser in Berlin and in Mexico City, sizes, sorting by each column, the filter, details, and the command to copy. That all fits the window,
 that a file takes one line, and that texts, borders and the mark of the keyboard have the contrast that WCAG 2.1 wants; that nothing of a text runs,
 and that nobody else is asked; the keyboard, how it renews itself under somebody who types, sorts and scrolls, and what it says where it can't. It
 prints what 10,000 files take to draw, to filter and to sort, and bounds it
@@ -28,6 +28,7 @@ import sys
 import tempfile
 import threading
 import time
+import urllib.error
 import urllib.request
 from datetime import timedelta
 from http.server import BaseHTTPRequestHandler, ThreadingHTTPServer
@@ -51,12 +52,16 @@ HEIGHT = 800
 # The height in pixels of a file's line, where nobody has to act.
 LINE_HEIGHT = 40
 # The requests that a page may make to its station.
-ASKED = {"/", "/in", "/out", "/responses"}
+ASKED = {"/", "/in", "/out", "/responses", "/status", "/events"}
+# Those of them that not every station answers.
+TOLD = ("/status", "/events")
 # How many rows the page draws at once.
 ROWS_DRAWN = 100
 # The interval in seconds at which it renews itself.
 PAUSE = 10
 MANY = 10_000
+# How many events are about as long as what a station tells at most.
+MOST_EVENTS = 4000
 # The milliseconds that the page may take to draw this many files, and to filter them, on a loaded machine.
 DRAWN_WITHIN = 1500
 FILTERED_WITHIN = 750
@@ -107,7 +112,8 @@ class Server:
             send(request, self.fault[0], "application/json", self.fault[1])
         else:
             text = self.lists.answer(request.path)
-            send(request, 200 if text else 404, "application/json", text or '{"error":404}')
+            kind = "application/x-ndjson" if request.path == "/events" else "application/json"
+            send(request, *((404, "application/json", '{"error":404}') if text is None else (200, kind, text)))
 
 
 def send(request, status, kind, text):
@@ -128,8 +134,12 @@ class Elsewhere:
     def answer(self, path):
         if path not in ASKED:
             return None
-        with urllib.request.urlopen(self.url.rstrip("/") + path, timeout=60) as reply:
-            return reply.read().decode()
+        try:
+            with urllib.request.urlopen(self.url.rstrip("/") + path, timeout=60) as reply:
+                return reply.read().decode()
+        except urllib.error.HTTPError as error:
+            expect(error.code, 404, f"the status of the reply for {path}")
+            return None
 
 
 # ---- the content of the page
@@ -139,8 +149,9 @@ READ_ROWS = """
 [...document.querySelectorAll("#list tbody")].map((body) => {
   const part = (name) => body.querySelector(name);
   const text = (name) => part(name)?.textContent ?? null;
-  return [text(".number"), text("td.partner"), text(".name .few"), text(".about"), text("td.when"), part("td.when [title]")?.title,
-    text("td.size, td.file"), part("td.size [title]")?.title ?? null, text(".words"), text(".detail"), body.className.split(" ")[0], text(".duty")];
+  return [text(".number"), text("td.partner bdi"), text(".name .few"), text(".about"), text("td.when"), part("td.when [title]")?.title ?? null,
+    text("td.size, td.file"), part("td.size [title]")?.title ?? null, text(".words"), text(".detail"), body.className.split(" ")[0], text(".duty"),
+    text("td.changed"), part("td.changed [title]")?.title ?? null];
 })"""
 # How far any visible element extends beyond the window, cells with more than their width, parts with more than their height, which lies over
 # others then, and names and partners that are cut off.
@@ -240,7 +251,7 @@ def expect_shown(tab, lists, now, zone="UTC", is_cut=False):
     told from what surrounds it. Only a name that no protocol allows may be cut off."""
     found = page_lists.items(lists, now, zone)
     wanted = page_lists.shown(lists, now, zone)
-    for view in VIEWS:
+    for view in lists.views:
         choose(tab, view)
         rows = rows_of(tab)
         for row, model in zip(rows, wanted[view]):
@@ -248,22 +259,25 @@ def expect_shown(tab, lists, now, zone="UTC", is_cut=False):
         expect(len(rows), min(len(wanted[view]), ROWS_DRAWN), f"{view}: rows")
         expect([row.duty is not None for row in rows], [row.look in page_lists.TO_DO for row in rows], f"{view}: rows with a sentence")
         expect(tab.value('document.querySelector("#none").hidden'), bool(rows), f"{view}: whether it says that there is nothing")
-        expect(text_of(tab, "#stamps"), stamps_told(view, zone, now), f"{view}: what it says of the stamps")
+        expect(text_of(tab, "#stamps"), stamps_told(lists, view, zone, now), f"{view}: what it says of the stamps")
         expect_fits(tab, view, is_cut)
     counts = tab.value('[...document.querySelectorAll("#views .count")].map((it) => it.textContent)')
-    expect(counts, [f"{len(wanted[view]):,}" for view in VIEWS], "how many each list has")
+    expect(counts, [f"{len(wanted[view]):,}" for view in lists.views], "how many each list has")
     expect(tiles_of(tab), page_lists.to_do(found), "what is to be done")
     idle = tab.value('[document.querySelector("#idle").hidden, document.querySelector("#idle").textContent]')
-    expect(idle, [bool(tiles_of(tab)), page_lists.IDLE], "whether it says that nothing needs anybody")
-    expect(text_of(tab, "#rules"), page_lists.RULES, "from when on a file is late")
-    expect(text_of(tab, "#unlooked"), page_lists.unlooked(found), "what isn't looked at")
+    expect(idle, [bool(tiles_of(tab)), page_lists.idle_told(lists, found)], "whether it says that nothing needs anybody")
+    rules = page_lists.RULES if lists.events is None else page_lists.RULES_OF_EVENTS
+    expect(text_of(tab, "#rules"), rules, "from when on a file is late")
+    expect(text_of(tab, "#unlooked"), page_lists.unlooked(found, lists), "what isn't looked at")
 
 
-def stamps_told(view, zone, now):
+def stamps_told(lists, view, zone, now):
     """What the page says of the stamps of a list."""
+    own = f"in your zone, {page_lists.zone_text(zone, now)}."
     if view in ("in", "issued"):
-        return "Stamps are shown as the sender wrote them. They tell no zone."
-    return f"Stamps are read as UTC, and shown in your zone, {page_lists.zone_text(zone, now)}."
+        changes = "" if lists.events is None else f" Changes are shown {own}"
+        return f"Stamps are shown as the sender wrote them. They tell no zone.{changes}"
+    return f"{'Stamps are read as UTC, and' if view in VIEWS else 'Times are'} shown {own}"
 
 
 def expect_fits(tab, what, is_cut=False):
@@ -281,7 +295,7 @@ def expect_quiet(tab, server):
     asked = {url.partition("#")[0] for url in tab.requests()}
     expect(asked - {server.url.rstrip("/") + path for path in ASKED}, set(), "what else was asked, here or elsewhere")
     expect(tab.value("typeof window.ran"), "undefined", "whether a text of a partner ran")
-    expect(tab.complaints(), [], "what the browser complains of")
+    expect(tab.complaints(TOLD), [], "what the browser complains of")
 
 
 # ---- cases: each gets the browser, and a function that takes a screenshot under a name
@@ -302,7 +316,8 @@ def every_state(browser, picture):
     now = utc_now()
     lists = page_lists.in_every_state(30, now)
     said = {view: {it.state for it in found} for view, found in page_lists.items(lists, now).items()}
-    expect(said, {view: set(states) for view, states in page_lists.STATES.items()}, "states that the files are in")
+    late = {f"{state}_late" for state in page_lists.BY_EVENTS}
+    expect(said, {view: set(page_lists.STATES[view]) - late for view in VIEWS}, "states that the files are in")
     with Server(lists) as server:
         for width in WIDTHS:
             for scheme in ("light", "dark"):
@@ -358,7 +373,7 @@ def late_by_age(browser, picture):
         "closing": lambda lists, age: lists.went("closing", age=age, now=now),
         "handed": lambda lists, age: lists.went("handed", age=age, now=now),
     }
-    expect(set(rules), set(LATE_FROM), "states with a bound")
+    expect(set(rules), set(LATE_FROM) - page_lists.BY_EVENTS, "states with a bound")
     with Server(Lists()) as server, opened(browser, server, WIDE[0]) as tab:
         for state, add in rules.items():
             view = "in" if state in ("open", "release") else "out"
@@ -403,7 +418,8 @@ def of_unknown_age(browser, picture):
 
 
 def never_nothing_to_do(browser, _picture):
-    """The page never says that there is nothing to do: it hasn't looked at whether partners are reached, and says so, whatever the files are."""
+    """Without events the page never says that there is nothing to do: it hasn't looked at whether partners are reached, and says so, whatever the
+    files are."""
     now = utc_now()
     done = Lists()
     done.came("whole", "EERP", True)
@@ -516,8 +532,7 @@ def details(browser, picture):
                     body = f'document.querySelector(\'#list tbody[data-no="{no}"]\')'
                     tab.value(f"{body}.querySelector('.words').click()")
                     expect(tab.value(f"{body}.querySelector('.open').getAttribute('aria-expanded')"), "true", "whether it is open")
-                    facts = dict(tab.value(f"""[...{body}.querySelectorAll("dt")].map((it) => [it.textContent, it.nextSibling.textContent])"""))
-                    expect(facts, facts_of(item), f"{view}: all about {no}")
+                    expect(facts_in(tab, body), facts_of(item), f"{view}: all about {no}")
                     expect_fits(tab, f"{view}: open details")
                     tab.value(f"{body}.querySelector('.open').focus()")
                     tab.key("Enter")
@@ -530,17 +545,24 @@ def details(browser, picture):
                 expect_quiet(tab, server)
 
 
-def facts_of(item):
-    """All that the page knows of an item."""
+def facts_in(tab, body):
+    """The details of a row, as pairs."""
+    return tab.value(f"""[...{body}.querySelectorAll("dt")].map((it) => [it.textContent, it.nextSibling.textContent])""")
+
+
+def facts_of(item, zone="UTC"):
+    """All that the page knows of an item, with its history by the events."""
     file, shown, response = item.file, item.shown, item.response or {}
     facts = {
         **{"Name": shown.name, "Description": shown.about, "From": file.get("originator", file.get("from")), "To": file.get("destination")},
-        **{"Stamp": shown.stamp, "Size": shown.exact, "Reason": item.reason, "Text": response.get("note"), "Created by": response.get("creator")},
+        **{"Stamp": shown.stamp, "Size": page_lists.exact_size(file) if "units" in file else "", "Acknowledged": "", "Reason": item.reason, "Text": response.get("note")},
+        "Created by": response.get("creator"),
     }
     if item.state.startswith("partly"):
         rows = page_lists.counted(file["rows"], "record" if file["format"] in "FV" else "block")
         facts["Acknowledged"] = f"{file['mark']:,} of {rows}"
-    return {key: page_lists.plain(text) for key, text in facts.items() if text}
+    history = [(f"{page_lists.local_of(page_lists.at_of(it), zone):%Y-%m-%d %H:%M:%S}", page_lists.words_of(it)) for it in item.changes]
+    return [[key, page_lists.plain(text)] for key, text in [*facts.items(), *history] if text]
 
 
 def sorting(browser, picture):
@@ -588,14 +610,14 @@ def hostile_texts(browser, picture):
     """Texts that would be executed, be loaded or change their surroundings are shown as texts, and a long one stays within its row."""
     now = utc_now()
     kinds = {"tr", "th", "td", "bdi", "span", "div", "button", "p", "code", "dl", "dt", "dd"}
-    with Server(page_lists.hostile(now)) as server:
+    with Server(page_lists.hostile_events(now)) as server:
         for width in WIDTHS:
             with opened(browser, server, width) as tab:
                 expect_shown(tab, server.lists, now, is_cut=True)
-                for view in VIEWS:
+                for view in server.lists.views:
                     choose(tab, view)
                     heights = tab.value('[...document.querySelectorAll("#list tbody")].map((it) => it.offsetHeight)')
-                    expect([it for it in heights if it > HEIGHT / 2], [], "heights of rows that leave no room for others")
+                    expect([it for it in heights if it > HEIGHT / 2], [], f"heights of rows that leave no room for others: {view}, {width} pixels")
                     picture(tab, f"hostile_{view}_{width}", is_whole=True)
                     tab.value('document.querySelectorAll(".open").forEach((it) => it.click())')
                     expect_fits(tab, f"{view}, with all texts open", is_cut=True)
@@ -630,7 +652,16 @@ def many_files(browser, picture):
         window.drawn = performance.now() - performance.getEntriesByType("resource").at(-1).responseEnd;
       }
     }).observe(document, { childList: true, subtree: true });"""
-    with Server(page_lists.in_every_state(MANY, now)) as server:
+    lists = page_lists.in_every_state(MANY, now)
+    few = page_lists.with_events(Lists(lists.incoming[-1500:], lists.outgoing[-1500:], lists.issued, lists.received), now)
+    for events, status in ((None, None), (few.events[-MOST_EVENTS:], few.status)):
+        lists.events, lists.status = events, status
+        of_many(browser, picture, lists, now, watch)
+
+
+def of_many(browser, picture, lists, now, watch):
+    """The page over many files, with the events that a station tells at most or without."""
+    with Server(lists) as server:
         for width in (WIDE[0], NARROW[0]):
             with Tab(browser, width, HEIGHT) as tab:
                 tab.first(watch)
@@ -641,7 +672,7 @@ def many_files(browser, picture):
                 filtered, ordered = typed_at_once(tab, server.lists), sorted_at_once(tab, server.lists, now)
                 expect_quiet(tab, server)
                 times = f"drawn in {drawn:.0f} ms behind the last answer, filtered in {filtered:.0f} ms, sorted in {ordered:.0f} ms"
-                print(f"{MANY} files each way, {width} pixels: {times}")
+                print(f"{MANY} files each way, {len(lists.events or [])} events, {width} pixels: {times}")
                 picture(tab, f"many_{width}")
                 expect(drawn < DRAWN_WITHIN, True, f"drawn within {DRAWN_WITHIN} ms")
                 expect(max(filtered, ordered) < FILTERED_WITHIN, True, f"filtered and sorted within {FILTERED_WITHIN} ms")
@@ -873,29 +904,40 @@ def says_when_it_cannot(browser, picture):
 def by_keyboard(browser, _picture):
     """Everything can be done by keyboard, with a mark that can be seen; each control has a name, and a table has its role at any width."""
     now = utc_now()
-    with Server(page_lists.in_every_state(30, now)) as server:
-        for width in WIDTHS:
-            with opened(browser, server, width) as tab:
-                expect_named(tab, width)
-                found = page_lists.items(server.lists, now)
-                tiles = page_lists.to_do(found)
-                links = [*tiles, *page_lists.unlooked(found).rpartition(": ")[2].rstrip(".").split(", ")]
-                lists = [f"{title} {len(found[view])}" for view, title in TITLES.items()]
-                heads = ["No. ↓", *HEADS[1:]] if width in WIDE else []
-                fields = ["select#partner", "select#state", "input#since", "input#until", "input#name"]
-                rows = [name for it in found["in"] for name in ("button ▸", *(["button Copy"] if "release" in it.state else []))]
-                wanted = ["a Skip to the list", *(f"a {it}" for it in links), "summary Paths in the commands to copy", *(f"a {it}" for it in lists)]
-                wanted += fields if width in WIDE else ["button Filter and sort"]
-                expect(tabbed(tab), wanted + [f"button {it}" for it in heads] + rows, f"what the keyboard passes at {width} pixels")
-                skips(tab, width)
-                expect_quiet(tab, server)
+    bare = page_lists.in_every_state(30, now)
+    for shown in (bare, page_lists.with_events(page_lists.in_every_state(30, now), now)):
+        with Server(shown) as server:
+            by_keyboard_at_each_width(browser, server, now)
+
+
+def by_keyboard_at_each_width(browser, server, now):
+    """The same for these lists."""
+    told = [] if server.lists.events is None else ["Last change"]
+    for width in WIDTHS:
+        with opened(browser, server, width) as tab:
+            # Where there is no room for both, the last change stands in place of the stamp.
+            heads = [it for it in [*HEADS[:-1], *told, HEADS[-1]] if not (told and width in WIDE and it == "Sender's stamp")]
+            expect_named(tab, width, heads)
+            found = page_lists.items(server.lists, now)
+            tiles = page_lists.to_do(found)
+            links = [*tiles, *page_lists.unlooked(found, server.lists).rpartition(": ")[2].rstrip(".").split(", ")]
+            lists = [f"{TITLES[view]} {len(found[view])}" for view in server.lists.views]
+            heads = ["No. ↓", *heads[1:]] if width in WIDE else []
+            fields = ["select#partner", "select#state", "input#since", "input#until", "input#name"]
+            rows = [name for it in found["in"] for name in ("button ▸", *(["button Copy"] if "release" in it.state else []))]
+            wanted = ["a Skip to the list", *(f"a {it}" for it in links), "summary Paths in the commands to copy", *(f"a {it}" for it in lists)]
+            wanted += fields if width in WIDE else ["button Filter and sort"]
+            expect(tabbed(tab), wanted + [f"button {it}" for it in heads] + rows, f"what the keyboard passes at {width} pixels")
+            skips(tab, width)
+            expect_quiet(tab, server)
 
 
 TITLES = {"in": "Incoming", "out": "Outgoing", "received": "Responses received", "issued": "Responses issued"}
+TITLES |= {"sessions": "Sessions", "partners": "Partners"}
 HEADS = ["No.", "From", "File", "Sender's stamp", "Size", "State"]
 
 
-def expect_named(tab, width):
+def expect_named(tab, width, heads):
     """Each control has a name, and the table is one."""
     if width in NARROW:
         tab.value('document.querySelector("#fold").click()')
@@ -905,7 +947,7 @@ def expect_named(tab, width):
         names.setdefault(node["role"]["value"], []).append(node.get("name", {}).get("value", ""))
     choices = ["Partner", "State", *(["Sorted by"] if width in NARROW else [])]
     expect((names["combobox"], names["searchbox"]), (choices, ["File name, description or number"]), f"fields at {width} pixels")
-    expect(names["columnheader"], HEADS, f"heads of the columns at {width} pixels")
+    expect(names["columnheader"], heads, f"heads of the columns at {width} pixels")
     expect(names["table"], ["Incoming files"], f"the table at {width} pixels")
     more = tab.value("document.querySelectorAll('#list .more').length")
     expect((len(names["row"]), len(names["rowheader"])), (31 + more, 30), f"rows at {width} pixels, and their heads")
@@ -981,28 +1023,32 @@ class There:
 
 
 def served_by_run(browser, picture):
-    """The page that `run` serves is the file's. It shows the content of the database, a submitted file, that the station is gone, and that
-    it is there again."""
+    """The page that `run` serves is the file's. It shows the content of the database, a submitted file with its event, that the station is gone,
+    and that it is there again."""
     with tempfile.TemporaryDirectory() as name:
         room, port, own = Path(name), free_port(), free_port()
         filled(room, ROWS / "listing/incoming_states.listing")
         there = There(f"http://127.0.0.1:{port}/")
-        answer = Elsewhere(there.url).answer
-        with Resident(room, "--http-port", str(port), port=own) as station, opened(browser, there, 400) as tab:
+        answer, events = Elsewhere(there.url).answer, room / "events"
+        words = ["--http-port", str(port), "--events", events]
+        with Resident(room, *words, port=own) as station, opened(browser, there, 400) as tab:
             expect(answer("/"), PAGE.read_text(encoding="utf-8"), "the page")
             expect_shown(tab, page_lists.read_lists(answer), utc_now())
             (room / "content").write_bytes(b"content")
             station.submit(room / "content")
+            until = time.monotonic() + 60
+            while b'"submitted"' not in events.read_bytes() and time.monotonic() < until:
+                time.sleep(0.1)
             renewed(tab)
             choose(tab, "out")
-            expect([row.name for row in rows_of(tab)], ["INV.1"], "the outgoing files")
+            expect([(row.name, row.changes[20:]) for row in rows_of(tab)], [("INV.1", "Submitted")], "the outgoing files and their changes")
             expect_shown(tab, page_lists.read_lists(answer), utc_now())
             expect_quiet(tab, there)
             station.program.kill()
             station.program.wait()
             tab.value(f"void ({RENEW})")
             tab.until('document.querySelector("#trouble").textContent.includes("it can\'t be reached. What you see is of ")')
-            with Resident(room, "--http-port", str(port), port=own):
+            with Resident(room, *words, port=own):
                 tab.value(f"void ({RENEW})")
                 tab.until('document.querySelector("#trouble").hidden')
                 expect_shown(tab, page_lists.read_lists(answer), utc_now())
@@ -1074,6 +1120,153 @@ def closing_for_long(browser, _picture):
         expect_quiet(tab, server)
 
 
+def with_events(browser, picture):
+    """30 files each way in all states, sessions and partners, as the events and the status tell them: each row, in a light and in a dark scheme, and
+    all that is known of a file, with its history."""
+    now = utc_now()
+    lists = page_lists.with_events(page_lists.in_every_state(30, now), now)
+    found = page_lists.items(lists, now)
+    said = {view: {it.state for it in items} for view, items in found.items()}
+    expect((said["in"] >= {"eerp_due_late", "nerp_due_late"}, said["sessions"], said["partners"]), (True, *STATES_TOLD), "states that are told")
+    lists.torn = '{"at":"2026-01-01T00:00:00.000000Z","event":"ca\n\nnull\n7\n{"at":"now"}\n', ""
+    with Server(lists) as server:
+        for width in WIDTHS:
+            for scheme in ("light", "dark"):
+                with opened(browser, server, width, scheme=scheme) as tab:
+                    expect_shown(tab, lists, now)
+                    for view in lists.views:
+                        choose(tab, view)
+                        tab.value('document.querySelectorAll(".open").forEach((it) => it.click())')
+                        expect_fits(tab, f"{view}, open")
+                        picture(tab, f"with_events_{view}_{width}_{scheme}", is_whole=True)
+                        for row in found[view] if view in VIEWS and scheme == "light" else []:
+                            body = f'document.querySelector(\'#list tbody[data-no="{row.file["no"]}"]\')'
+                            expect(facts_in(tab, body), facts_of(row), f"{view}: all about {row.file['no']}")
+                    expect_quiet(tab, server)
+
+
+STATES_TOLD = set(page_lists.STATES["sessions"]), set(page_lists.STATES["partners"])
+
+
+def late_by_events(browser, _picture):
+    """A file is late by the event with which its state began, whatever its stamp is, and by the stamp where no event tells that. A response is late
+    by events alone. The file of another database, with another identity, doesn't count."""
+    now = utc_now()
+    begun = {
+        **{("open", "none", None): "started to come", ("whole", "none", None): "came", ("whole", "EERP", False): "released"},
+        ("whole", "NERP", False): "refused here",
+    }
+    gone = {"waiting": "submitted", "closing": "sent", "handed": "handed over"}
+    old, young = timedelta(days=3), timedelta(minutes=20)
+    for is_late, told_of in ((True, old), (False, young)):
+        lists = Lists(events=[], status=page_lists.status_of(now))
+        for (state, kind, is_sent), name in begun.items():
+            lists.came(state, kind, is_sent, "34" if kind == "NERP" else "", young if is_late else old, now)
+            lists.events.append(page_lists.of_file(now - told_of, name, "in", lists.incoming[-1]))
+            lists.events.append(page_lists.of_file(now - timedelta(minutes=1), "broken off", "in", lists.incoming[-1]))
+            other = {**lists.incoming[-1], "time": "0000000000"}
+            lists.events.append(page_lists.of_file(now - (young if is_late else old), name, "in", other))
+        for state, name in gone.items():
+            file = lists.went(state, age=young if is_late else old, now=now)
+            lists.events.append(page_lists.of_file(now - told_of, name, "out", file))
+        lists.came("whole", "EERP", False, "", old, now)
+        lists.went("handed", age=old, now=now)
+        with Server(lists) as server, opened(browser, server, WIDE[0]) as tab:
+            late = [page_lists.moment_of(it) is not None and "late" in row.words for it, row in zip(lists.incoming, rows_of(tab)[::-1])]
+            expect(late, [*4 * [is_late], False], f"incoming files that are late where their events are {told_of} old")
+            choose(tab, "out")
+            expect([row.look == "act" for row in rows_of(tab)[::-1]], [*3 * [is_late], True], f"outgoing ones, {told_of}")
+            expect_shown(tab, lists, now)
+            told = "Not looked at, since neither events nor the stamp tell an age: incoming 5. "
+            expect(text_of(tab, "#unlooked"), told, "whose age nothing tells")
+
+
+def nothing_to_do_where_looked(browser, picture):
+    """"Nothing to do" is said only where events and the status were looked at, and neither a file, nor a response, nor a partner needs anybody. A
+    partner who isn't reached, or with whom the last session failed, is to do until a session ends in order."""
+    now = utc_now()
+    minute = timedelta(minutes=1)
+    partner = page_lists.PARTNERS[0]
+
+    def done(status, events):
+        lists = Lists(status=status, events=events)
+        lists.came("whole", "EERP", True, now=now)
+        lists.went("delivered", "EERP", now=now)
+        return lists
+
+    with Server(Lists()) as server, opened(browser, server, WIDE[0]) as tab:
+        for status, events in ((None, None), (page_lists.status_of(now), None), (None, []), (page_lists.status_of(now), [])):
+            server.lists = done(status, events)
+            renewed(tab)
+            says = page_lists.NOTHING in tab.value("document.body.innerText")
+            expect(says, status is not None and events is not None, f"whether it says so, status {bool(status)}, events {events}")
+            expect_shown(tab, server.lists, now)
+        failed = page_lists.not_reached(now - 9 * minute, partner, "no route"), page_lists.session(now - 8 * minute, partner, "end: partner 04")
+        good = page_lists.session(now - 7 * minute, partner, "end: own 00")
+        tiles = [["1 partner not reached, no route"], ["1 partner whose last session failed, 04 invalid password, sent by the partner"], []]
+        for count, wanted in enumerate(tiles, 1):
+            server.lists.events = [*failed, good][:count]
+            renewed(tab)
+            expect(tiles_of(tab), wanted, f"what is to be done behind {count} contacts")
+            expect(text_of(tab, "#idle"), page_lists.NOTHING, "what it says where nothing is to be done")
+            expect_shown(tab, server.lists, now)
+        counted = page_lists.counter("not reached", now - minute, partner=partner)
+        server.lists.status = page_lists.status_of(now, [counted])
+        renewed(tab)
+        expect(tiles_of(tab), ["1 partner not reached"], "what is to be done about a later call that only the counters tell")
+        expect(text_of(tab, "#said"), "To do: 1 partner.", "what is said of one partner")
+        tab.value('document.querySelector("#todo a").click()')
+        tab.until(f"{CHOSEN} === 'partners'")
+        expect([(row.partner, row.words) for row in rows_of(tab)], [(partner, "Not reached")], "where that leads")
+        picture(tab, "not_reached")
+        expect_shown(tab, server.lists, now)
+        expect_quiet(tab, server)
+
+
+def events_come_and_go(browser, _picture):
+    """Events that are there from a later start on are shown once they are, and no more once they are gone: then the page shows no list of them."""
+    now = utc_now()
+    told = page_lists.with_events(page_lists.in_every_state(8, now), now)
+    bare = Lists(told.incoming, told.outgoing, told.issued, told.received)
+    with Server(bare) as server, opened(browser, server, WIDE[0]) as tab:
+        for server.lists in (bare, told, bare):
+            renewed(tab)
+            expect_shown(tab, server.lists, now)
+        server.lists = told
+        renewed(tab)
+        choose(tab, "sessions", state="good")
+        expect([row.words for row in rows_of(tab)], ["Ended in order"], "sessions that ended in order")
+        tab.value("void location.reload()")
+        time.sleep(0.5)
+        tab.until(IS_DRAWN)
+        expect(tab.value(CHOSEN), "sessions", "the list once the page is loaded again")
+        server.lists = bare
+        renewed(tab)
+        expect(tab.value(CHOSEN), "in", "the list where there are no sessions any more")
+        expect_quiet(tab, server)
+
+
+def sorted_by_change(browser, _picture):
+    """Where there are events the lists are sorted by the last change, too, and the filter by days finds a file by the days of its changes."""
+    now = utc_now()
+    lists = page_lists.with_events(page_lists.in_every_state(30, now), now)
+    found = page_lists.items(lists, now)
+    with Server(lists) as server, opened(browser, server, WIDE[0]) as tab:
+        for view in VIEWS:
+            choose(tab, view)
+            for way in ("descending", "ascending"):
+                tab.value("document.querySelector('thead [data-column=changed]').click()")
+                expect(sorted_by(tab), [["changed", way]], f"{view}: how it is sorted")
+                wanted = page_lists.in_order(found[view], "changed", way == "descending")
+                expect(numbers_of(tab), [it.file["no"] for it in wanted], f"{view}, {way} by the last change")
+        choose(tab, "out")
+        day = f"{now - page_lists.LATE:%Y-%m-%d}"
+        set_value(tab, "since", day)
+        set_value(tab, "until", day)
+        days = [{it.shown.when[:10], *(f"{page_lists.at_of(change):%Y-%m-%d}" for change in it.changes)} for it in found["out"]]
+        expect(numbers_of(tab), [it.file["no"] for it, of in zip(found["out"], days) if day in of], "the files of a day")
+
+
 def other_time_zones(_browser, picture):
     """In a browser of another zone this station's own stamps are read as UTC and shown by that zone's clock, in summer and in winter. A sender's
     are shown as they came. A file is late by UTC, whatever the zone."""
@@ -1110,6 +1303,9 @@ def other_time_zones(_browser, picture):
                 expect(text_of(tab, "#updated").partition(", ")[2], page_lists.zone_text(zone, now), "the zone of the clock")
                 expect_shown(tab, lists, now, zone)
                 picture(tab, f"zone_{zone.partition('/')[2]}")
+                server.lists = page_lists.with_events(lists, now)
+                renewed(tab)
+                expect_shown(tab, lists, now, zone)
                 expect_quiet(tab, server)
 
 
@@ -1174,6 +1370,7 @@ def tells_what_changed(browser, _picture):
 CASES = [
     *(no_file, every_state, one_line_a_file, sizes, late_by_age, closing_for_long, of_unknown_age, never_nothing_to_do, sent_again),
     *(refused_as_duplicate, other_time_zones, command_to_copy, details, sorting, filter_is_kept, filtered_by_day, hostile_texts, many_files),
+    *(with_events, late_by_events, nothing_to_do_where_looked, events_come_and_go, sorted_by_change),
     *(renews_itself, keeps_what_is_in_use, tells_what_changed, says_when_it_cannot, by_keyboard, of_the_program, served_by_run, after_a_restore),
 ]
 

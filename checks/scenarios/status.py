@@ -1,5 +1,5 @@
 #!/usr/bin/env python3
-"""Shows that `run` tells how it stands: GET /status and GET /metrics, and `status`, `health` and `settled`, over real processes.
+"""Shows that `run` tells how it stands: GET /status, /metrics and /events, and `status`, `health` and `settled`, over real processes.
 
     checks/scenarios/status.py [WORD ..]         all cases, or those whose names have one of these words
 
@@ -59,6 +59,19 @@ def status(port):
     code, media, body = get(port, "/status")
     expect((code, media), (200, "application/json"), "the reply for /status")
     return json.loads(body)
+
+
+MOST = 1 << 20
+
+
+def last_lines(octets):
+    """The whole lines within the last octets of a file that are told."""
+    *lines, cut = octets.split(b"\n")
+    room, told = MOST - len(cut), []
+    while lines and len(lines[-1]) < room:
+        told.append(lines.pop() + b"\n")
+        room -= len(told[-1])
+    return b"".join(reversed(told))
 
 
 SAMPLE = re.compile(r'^(oftp_[a-z_]+)(\{.*\})? (\d+)$')
@@ -191,10 +204,36 @@ def only_where_they_are(room):
             expect(get(port, target + "x")[0], 404, f"{target}x")
     folder = room / "http"
     folder.mkdir()
-    with Service(folder, "http", "--requests", "2") as service:
-        for target in ("/status", "/metrics"):
+    with Service(folder, "http", "--requests", "3") as service:
+        for target in ("/status", "/metrics", "/events"):
             expect(patiently(service.port, target)[0], 404, f"{target} of http")
         service.ends()
+
+
+def events_over_http(room):
+    """GET /events tells the whole last lines of the file, up to 1 MiB, within a session too; where there is no file it is an unknown target."""
+    port, path = free_port(), room / "events"
+    line = b'{"made": "up"}\n\n'
+    contents = [b"", line, b"cut", line + b"cut", line * 65_536, b"x\n" + line * 65_536, b"x" + line * 65_536, line * 65_536 + b"cut", b"x" * 2 * MOST]
+    with Resident(room, "--http-port", str(port), "--events", path) as service:
+        play(service, ONE_OCTET)
+        until = time.monotonic() + LONG
+        while b'"session ended"' not in path.read_bytes() and time.monotonic() < until:
+            time.sleep(0.02)
+        expect(get(port, "/events"), (200, "application/x-ndjson", path.read_bytes()), "the reply for /events")
+        expect(path.read_bytes().endswith(b"}\n"), True, "whether the file ends with a line")
+        for content in contents:
+            path.write_bytes(content)
+            expect(get(port, "/events"), (200, "application/x-ndjson", last_lines(content)), f"the lines of {content[:20]}, {len(content)} octets")
+        with service.caller():
+            expect(get(port, "/events")[0], 200, "the reply beside a caller")
+        path.unlink()
+        expect(get(port, "/events"), get(port, "/event"), "the reply where the file is gone")
+        expect(get(port, "/events", method="POST")[0], 404, "POST /events")
+        expect(get(port, "/events", host="example.org")[0], 400, "/events for another host")
+    for words in ((), ("--events", "/dev/null")):
+        with Resident(room, "--http-port", str(port), *words):
+            expect(get(port, "/events"), get(port, "/event"), f"the reply with {words}")
 
 
 def many_files(room):
@@ -432,6 +471,7 @@ CASES = [
     sessions_and_backups,
     within_a_session,
     only_where_they_are,
+    events_over_http,
     many_files,
     accepted_by_promtool,
     told_by_commands,

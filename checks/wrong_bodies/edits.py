@@ -9,6 +9,7 @@ from crate_text import OPAQUE, body_of, end_of
 from program import ROOT
 
 REFUSED_BY = "refused by: "
+TRIED_ON = "tried on: "
 
 
 class Unfit(Exception):
@@ -16,14 +17,15 @@ class Unfit(Exception):
 
 
 class Edit:
-    """A wrong body: `lines` has each line that it changes, by file and number from 0, and `refused_by` the words that it names."""
+    """A wrong body: `lines` has each line that it changes, by file and number from 0, `refused_by` the words that it names, and `tried_on` the
+    functions that it is tried on if it changes none."""
 
     def __init__(self, path):
         self.path = path
         self.crate = self.crate_of(path)
         self.name = f"{self.crate}/{path.stem}"
         text = path.read_text(encoding="utf-8")
-        self.refused_by = words_of(text)
+        self.refused_by, self.tried_on = words_of(text), words_of(text, TRIED_ON)
         self.lines = turned_lines(text, ROOT / "crates" / self.crate)
 
     @staticmethod
@@ -31,9 +33,9 @@ class Edit:
         return path.parent.parent.name if path.parent.name == "must-fail" else path.parent.name
 
 
-def words_of(text):
-    """The words after `refused by: `, none if there is no such line."""
-    found = [line[len(REFUSED_BY) :] for line in text.splitlines() if line.startswith(REFUSED_BY)]
+def words_of(text, begin=REFUSED_BY):
+    """The words after `refused by: `, or another beginning, none if there is no such line."""
+    found = [line[len(begin) :] for line in text.splitlines() if line.startswith(begin)]
     return [it.strip() for it in ",".join(found).split(",") if it.strip()]
 
 

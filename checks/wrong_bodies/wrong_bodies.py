@@ -20,7 +20,7 @@ Many edits are tried in one check, over a copy of the crate and the proofs that 
 function. rattle checks a function against the contracts of those that it calls, so its output distinguishes a function that fails by itself
 from one that only calls such a function. An edit is refused if a function that it changes fails by itself. An edit that a round doesn't
 decide is tried in a later one, and in the end alone. An edit that changes no function, but a definition or a constant, is tried alone, over
-the whole crate.
+the whole crate, or if it has a line `tried on: PATH, ..` over these functions.
 
 A line `refused by: WORD, ..` of an edit names what has to refuse it. It is compared with the goals that rattle reports as not proved in
 that function: `returns-in-Err-clause-took` stands for the clause `took`. The words are
@@ -147,6 +147,10 @@ class Room:
         """The functions that an edit changes, or none if it changes something else too."""
         found = [next((it for it in self.functions if it.has(*at)), None) for at in edit.lines]
         return [] if None in found else list(dict.fromkeys(found))
+
+    def named(self, edit):
+        """The functions that an edit is tried on, none if it is tried over the whole crate."""
+        return [it for it in self.functions if it.name.partition("::")[2] in edit.tried_on]
 
 
 class Failures:
@@ -279,7 +283,7 @@ def tell(text):
 
 def try_round(edits, room):
     """Tries edits together: what refuses each that is decided, and the others, first those whose own lines can't be read."""
-    only = dict.fromkeys(it for edit in edits for it in room.turned(edit))
+    only = dict.fromkeys(it for edit in edits for it in room.turned(edit) or room.named(edit))
     failures = Failures(room.check(turned_texts(edits), only), room)
     blamed = [it for it in edits if any(at in it.lines for at in failures.unread)]
     if blamed or not failures.is_judged:
@@ -401,9 +405,9 @@ def unknown_words(edits):
     for crate in sorted({it.crate for it in edits}):
         names = names_of(crate)
         for edit in (it for it in edits if it.crate == crate):
-            lost = [it for it in edit.refused_by if not set(re.split(r"::|\.", it.removesuffix("-value"))) <= names]
+            lost = [it for it in [*edit.refused_by, *edit.tried_on] if not set(re.split(r"::|\.", it.removesuffix("-value"))) <= names]
             if lost:
-                print(f"{edit.name}: BAD EDIT: it is refused by {', '.join(lost)}, and the crate has no such name")
+                print(f"{edit.name}: BAD EDIT: it names {', '.join(lost)}, and the crate has no such name")
             found += bool(lost)
     return found
 

@@ -1,5 +1,6 @@
 //! The station that has a command's database open, which is asked over its socket.
 
+use crate::waiting::{Awaited, called_in};
 use oftp_channel::{
     AnswerPart, Ending, ReadFault, Request, fits, read_part, read_ready, write_request,
 };
@@ -8,7 +9,7 @@ use oftp_outcomes::Fault;
 use oftp_requests::{Backend, GONE};
 use oftp_sockets::SocketPlace;
 use std::alloc::Global;
-use std::io::Write;
+use std::io::{Read, Write};
 use std::net::Shutdown;
 use std::os::unix::net::UnixStream;
 
@@ -43,10 +44,8 @@ impl<'a> Beside<'a> {
 
 impl Backend for Beside<'_> {
     fn ask(&mut self, request: &Request<'_>, out: &mut impl Write) -> Result<Ending, Fault> {
-        let alloc = self.rt.alloc();
         let stream = self.connection()?;
-        send(alloc, &stream, request)?;
-        receive(alloc, &stream, request, out)
+        exchange(self.rt, self.database, &stream, request, out)
     }
 }
 
@@ -55,9 +54,28 @@ fn connected(rt: &HostRuntime, database: &str) -> Option<UnixStream> {
     SocketPlace::beside(rt, database).ok()?.connect(rt).ok()
 }
 
+/// Sends a request over a connection, and receives its answer.
+fn exchange<'s>(
+    rt: &'s HostRuntime,
+    database: &'s str,
+    stream: &'s UnixStream,
+    request: &Request<'_>,
+    out: &mut impl Write,
+) -> Result<Ending, Fault> {
+    let called = called_in(rt.alloc(), request);
+    let mut reader = Port::new(Awaited::new(rt, database, stream, called), u64::MAX);
+    send(rt.alloc(), &mut reader, stream, request)?;
+    receive(rt.alloc(), &mut reader, stream, request, out)
+}
+
 /// Sends a request, once the station will read it. A station that ends meanwhile reads no more of it, and its answer says so.
-fn send(alloc: Global, stream: &UnixStream, request: &Request<'_>) -> Result<(), Fault> {
-    read_ready(alloc, &mut Port::new(stream, u64::MAX)).map_err(fault_of)?;
+fn send<R: Read>(
+    alloc: Global,
+    reader: &mut Port<R>,
+    stream: &UnixStream,
+    request: &Request<'_>,
+) -> Result<(), Fault> {
+    read_ready(alloc, reader).map_err(fault_of)?;
     if !fits(request) {
         return Err(Fault::MEMORY);
     }
@@ -66,15 +84,15 @@ fn send(alloc: Global, stream: &UnixStream, request: &Request<'_>) -> Result<(),
 }
 
 /// Writes the pieces of an answer to `out` as they arrive. Returns its end.
-fn receive(
+fn receive<R: Read>(
     alloc: Global,
+    reader: &mut Port<R>,
     stream: &UnixStream,
     request: &Request<'_>,
     out: &mut impl Write,
 ) -> Result<Ending, Fault> {
-    let mut reader = Port::new(stream, u64::MAX);
     for _ in 0..u64::MAX {
-        match read_part(alloc, &mut reader).map_err(fault_of)? {
+        match read_part(alloc, reader).map_err(fault_of)? {
             AnswerPart::End(Ending::Failed(fault)) => return Err(fault),
             AnswerPart::End(ending) => return Ok(ending),
             AnswerPart::Piece(_, octets) => {

@@ -6,6 +6,7 @@ mod beside;
 mod calling;
 mod contents;
 mod fetching;
+mod waiting;
 
 pub use beside::Beside;
 pub use calling::call;

@@ -6,16 +6,25 @@ use Rattle.oftp_listing.specs.declared.reports.ReportKind.TheVariants.{Incoming,
 use Rattle.oftp_vfile.specs.declared.format.Format.{Format}
 use Rattle.oftp_vfile.specs.declared.format.Format.TheVariants as format
 use Rattle.oftp_command_line.specs.Arguments.{taken}
+use Rattle.oftp_command_line.specs.EvidenceLine.{evidence_app}
+use Rattle.oftp_command_line.specs.ExplainLine.{explain_app, of_octets, of_record}
 use Rattle.oftp_command_line.specs.FeedLine.{feed_app}
 use Rattle.oftp_command_line.specs.Files.{FilesSaid}
 use Rattle.oftp_command_line.specs.FolderLines.{collect_app, offer_app}
-use Rattle.oftp_command_line.specs.Line.{Said, line_named, line_of_words, said_audit, said_backup, said_call, said_check, said_collect, said_feed, said_fetch, said_health, said_help, said_http, said_init, said_listen, said_migrate, said_offer, said_refuse, said_release, said_reload, said_report, said_resend, said_run, said_settled, said_show, said_status, said_stop, said_submit, said_version}
+use Rattle.oftp_command_line.specs.Line.{Said, line_named, line_of_words, said_audit, said_backup, said_call, said_check, said_collect, said_evidence, said_explain, said_feed, said_fetch, said_health, said_help, said_history, said_http, said_init, said_listen, said_migrate, said_offer, said_refuse, said_release, said_reload, said_replay, said_report, said_resend, said_run, said_settled, said_show, said_status, said_stop, said_submit, said_version}
+use Rattle.oftp_command_line.specs.HistoryLine.{history_app}
 use Rattle.oftp_command_line.specs.OperatorLines.{refuse_app, release_app, resend_app, submit_app}
+use Rattle.oftp_command_line.specs.RecordLines.{replay_app}
 use Rattle.oftp_command_line.specs.RegisterLines.{audit_app, backup_app, fetch_app, report_app}
 use Rattle.oftp_command_line.specs.ServiceLines.{call_app, http_app, listen_app, run_app, stop_app}
 use Rattle.oftp_command_line.specs.StandingLines.{health_app, status_app}
 use Rattle.oftp_command_line.specs.Terms.{EntranceSaid, TermsSaid}
+use Rattle.oftp_register.specs.declared.entries.Side.{Side}
+use Rattle.oftp_register.specs.declared.entries.Side.TheVariants as side
+use Rattle.oftp_command_line.specs.declared.line.commands.history.Ways.{Ways}
+use Rattle.oftp_command_line.specs.declared.line.commands.history.Ways.TheVariants as ways
 use Rattle.oftp_command_line.specs.declared.line.commands.feed.FeedRole.TheVariants.{Initiator, Responder}
+use Rattle.oftp_command_line.specs.declared.line.commands.recording.RecordSync.TheVariants.{Synced, Unsynced}
 
 -- the words with this octet before the first of them
 abbrev begun : ℕ → List (List ℕ) → List (List ℕ)
@@ -566,6 +575,26 @@ feed_lines : AreRead (
 unfolding clap_on_literals feed_app line_named taken
 feed_lines = refl
 
+-- lines of `explain`
+explain_lines : AreRead (
+    -- `explain` takes what the partner sent alone
+    asks (codes "explain i") (said_explain (of_octets (codes "i") None))
+    -- or what the station sent, too
+    ∷ asks (codes "explain i o") (said_explain (of_octets (codes "i") (Some (codes "o"))))
+    -- or a record, and a session of it
+    ∷ asks (codes "explain --record r") (said_explain (of_record (codes "r") 0))
+    ∷ asks (codes "explain --session=7 --record=r") (said_explain (of_record (codes "r") 7))
+    -- either is required, and not both
+    ∷ bad (codes "explain")
+    ∷ bad (codes "explain i --record r")
+    -- only a record has sessions
+    ∷ bad (codes "explain i --session 1")
+    -- there is a word too many
+    ∷ bad (codes "explain i o w")
+    ∷ [])
+unfolding clap_on_literals explain_app line_named taken
+explain_lines = refl
+
 -- lines of `audit`
 audit_lines : AreRead (
     -- `audit` takes the database alone
@@ -579,6 +608,62 @@ audit_lines : AreRead (
     ∷ [])
 unfolding clap_on_literals audit_app line_named taken
 audit_lines = refl
+
+-- the history of file 7, these ways
+abbrev history_asked : Ways → Bool → Said
+history_asked w json = said_history (record { events = codes "e"; ways = w; json = json; no = 7 })
+
+-- lines of `history`
+history_lines : AreRead (
+    -- `history` takes the events and a number, and tells of both ways
+    asks (codes "history --events=e 7") (history_asked ways.Both false)
+    -- or of the incoming file
+    ∷ asks (codes "history --in 7 --events e") (history_asked ways.In false)
+    -- or of the outgoing one
+    ∷ asks (codes "history --events=e --out --json 7") (history_asked ways.Out true)
+    -- both options are both ways
+    ∷ asks (codes "history --events=e --out --in 7") (history_asked ways.Both false)
+    -- the events are required
+    ∷ bad (codes "history 7")
+    -- so is the number
+    ∷ bad (codes "history --events=e --in")
+    -- which is at least 1
+    ∷ bad (codes "history --events=e 0")
+    -- and at most 9999999
+    ∷ bad (codes "history --events=e 10000000")
+    ∷ [])
+unfolding clap_on_literals history_app line_named taken
+history_lines = refl
+
+-- the evidence of file 7, which goes this way
+abbrev evidence_asked : Side → Said
+evidence_asked s = said_evidence (record { folder = codes "r"; database = codes "d"; side = s; no = 7; to = codes "t" })
+
+-- lines of `evidence`
+evidence_lines : AreRead (
+    -- `evidence` takes the record, the database, the way of the file, its number and a folder
+    asks (codes "evidence --record=r --db=d --in --to=t 7") (evidence_asked side.Incoming)
+    -- the other way, with the words in another order
+    ∷ asks (codes "evidence 7 --to t --out --db d --record r") (evidence_asked side.Outgoing)
+    -- one way is required
+    ∷ bad (codes "evidence --record=r --db=d --to=t 7")
+    -- and not both
+    ∷ bad (codes "evidence --record=r --db=d --in --out --to=t 7")
+    -- the record is required
+    ∷ bad (codes "evidence --db=d --in --to=t 7")
+    -- so are the database
+    ∷ bad (codes "evidence --record=r --in --to=t 7")
+    -- the folder
+    ∷ bad (codes "evidence --record=r --db=d --in 7")
+    -- and the number
+    ∷ bad (codes "evidence --record=r --db=d --in --to=t")
+    -- which is at least 1
+    ∷ bad (codes "evidence --record=r --db=d --in --to=t 0")
+    -- and at most 9999999
+    ∷ bad (codes "evidence --record=r --db=d --in --to=t 10000000")
+    ∷ [])
+unfolding clap_on_literals evidence_app line_named taken
+evidence_lines = refl
 
 -- listening on this port of this address, with this many seconds for an admission
 abbrev entrance_at : ℕ → List ℕ → ℕ → EntranceSaid
@@ -600,6 +685,21 @@ run_lines : AreRead (
       interval = 0;
       terms = terms_of 300 86400 None;
       jobs = 0;
+      record_folder = None;
+      sync = Synced;
+    }))
+    -- a record that isn't synced
+    ∷ asks (codes "run --record-sync no --db=d --book=b --record r")
+    (said_run (record {
+      files = d_and_b;
+      entrance = entrance_at 3305 (codes "127.0.0.1") 30;
+      http_port = 0;
+      host = None;
+      interval = 0;
+      terms = terms_of 300 86400 None;
+      jobs = 0;
+      record_folder = Some (codes "r");
+      sync = Unsynced;
     }))
     -- options come in any order
     ∷ asks (codes "run --patience 0 --longest=1 --jobs=1000000 --trace=t --call-every=9 --host h --book=b --http-port=8 --address ::1 --admission 7 --db=d --port=6")
@@ -611,6 +711,8 @@ run_lines : AreRead (
       interval = 9;
       terms = terms_of 0 1 (Some (codes "t"));
       jobs = 1000000;
+      record_folder = None;
+      sync = Synced;
     }))
     -- its events go to a file
     ∷ asks (codes "run --db=d --book=b --events=e")
@@ -622,7 +724,11 @@ run_lines : AreRead (
       interval = 0;
       terms = terms_of 300 86400 None;
       jobs = 0;
+      record_folder = None;
+      sync = Synced;
     }))
+    -- a record is synced, or it isn't
+    ∷ bad (codes "run --db=d --book=b --record=r --record-sync=maybe")
     -- the interval is a day at most
     ∷ bad (codes "run --db=d --book=b --call-every=86401")
     -- the HTTP port has an upper limit
@@ -646,6 +752,20 @@ run_lines : AreRead (
     ∷ [])
 unfolding clap_on_literals run_app line_named taken
 run_lines = refl
+
+-- lines of `replay`
+replay_lines : AreRead (
+    -- options come in any order
+    asks (codes "replay --book b --record=r --db=d") (said_replay (record { folder = codes "r"; files = d_and_b }))
+    -- the folder is required
+    ∷ bad (codes "replay --db=d --book=b")
+    -- the book is required
+    ∷ bad (codes "replay --record=r --db=d")
+    -- it takes no word
+    ∷ bad (codes "replay --record=r --db=d --book=b w")
+    ∷ [])
+unfolding clap_on_literals replay_app line_named taken
+replay_lines = refl
 
 -- lines of `listen`
 listen_lines : AreRead (

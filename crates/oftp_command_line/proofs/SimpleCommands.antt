@@ -5,8 +5,8 @@ use Rattle.clap.proofs.OnLiterals.{clap_on_literals}
 use Rattle.oftp_command_line.specs.Line.{app_named}
 use Rattle.oftp_command_line.specs.Told.{each_app}
 use Rattle.oftp_command_line.specs.declared.line.commands.Name.{Name}
-use Rattle.oftp_command_line.specs.declared.line.commands.Name.TheVariants.{Audit, Backup, Call, Check, Collect, Feed, Fetch, Health, Http, Init, Listen, Migrate}
-use Rattle.oftp_command_line.specs.declared.line.commands.Name.TheVariants.{Offer, Refuse, Release, Reload, Report, Resend, Run, Settled, Show, Status, Stop, Submit}
+use Rattle.oftp_command_line.specs.declared.line.commands.Name.TheVariants.{Audit, Backup, Call, Check, Collect, Evidence, Explain, Feed, Fetch, Health, History, Http, Init, Listen, Migrate}
+use Rattle.oftp_command_line.specs.declared.line.commands.Name.TheVariants.{Offer, Refuse, Release, Reload, Replay, Report, Resend, Run, Settled, Show, Status, Stop, Submit}
 
 pub is_simple_named : (name : Name) → is_simple_and_free (app_named name) ≡ true
 unfolding clap_on_literals each_app
@@ -28,9 +28,13 @@ is_simple_named Backup = refl
 is_simple_named Stop = refl
 is_simple_named Reload = refl
 is_simple_named Show = refl
+is_simple_named Explain = refl
 is_simple_named Feed = refl
 is_simple_named Audit = refl
+is_simple_named History = refl
+is_simple_named Evidence = refl
 is_simple_named Run = refl
+is_simple_named Replay = refl
 is_simple_named Listen = refl
 is_simple_named Call = refl
 is_simple_named Http = refl

@@ -10,13 +10,17 @@ use Rattle.clap.specs.declared.builder.ArgAction.TheVariants.{Set, SetTrue}
 use Rattle.clap.specs.declared.builder.value_parser.ValueParser.{ValueParser}
 use Rattle.clap.specs.declared.builder.value_parser.ValueParser.TheVariants.{Unsigned}
 use Rattle.clap.specs.declared.parser.matches.ArgMatches.{ArgMatches}
-use Rattle.oftp_command_line.specs.declared.line.arguments.TheConstants.{MOST_ADMISSION, MOST_CALLERS, MOST_DURATION, MOST_INTERVAL, MOST_JOBS, MOST_NO, MOST_PATIENCE, MOST_PORT}
+use Rattle.oftp_command_line.specs.declared.line.arguments.TheConstants.{MOST_ADMISSION, MOST_CALLERS, MOST_DURATION, MOST_INTERVAL, MOST_JOBS, MOST_NO, MOST_PATIENCE, MOST_PORT, MOST_SESSION}
 
 -- ---- the kinds of argument
 
 -- a required word
 abbrev pub word : Text → Rule
 word id = record (new_rule id) { action = Some Set; required = true; value_names = 1 }
+
+-- an optional word
+abbrev pub last_word : Text → Rule
+last_word id = record (new_rule id) { action = Some Set; value_names = 1 }
 
 -- a required option with one value
 abbrev pub needed : Text → Rule
@@ -97,6 +101,18 @@ own_trace = optional (codes "trace")
 -- the option for the file to which what happens is appended
 abbrev pub own_events : Rule
 own_events = optional (codes "events")
+
+-- the option for the folder of a station's record
+abbrev pub own_record : Rule
+own_record = optional (codes "record")
+
+-- the option for whether that is synced
+abbrev pub own_record_sync : Rule
+own_record_sync = defaulted (codes "record-sync") (codes "yes")
+
+-- the option for the session of a record; 0 is each
+abbrev pub own_session : Rule
+own_session = numbered 0 MOST_SESSION (defaulted (codes "session") (codes "0"))
 
 -- the command with this name and these arguments
 abbrev pub app_with : Text → List Rule → App

@@ -1,11 +1,15 @@
 pub mod Arguments
+pub mod EvidenceLine
+pub mod ExplainLine
 pub mod Fault
 pub mod FeedLine
 pub mod FileLines
 pub mod Files
 pub mod FolderLines
+pub mod HistoryLine
 pub mod Line
 pub mod OperatorLines
+pub mod RecordLines
 pub mod RegisterLines
 pub mod ServiceLines
 pub mod StandingLines

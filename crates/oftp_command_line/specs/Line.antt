@@ -3,12 +3,16 @@ use Rattle.std.specs.Prelude.{Bool, List, [], ◌∷◌, None, Option, Some, cod
 use Rattle.std.specs.Option.{option_or}
 use Rattle.clap.specs.Words.{App, Row, Text}
 use Rattle.oftp_command_line.specs.Arguments.{given, named, taken}
+use Rattle.oftp_command_line.specs.EvidenceLine.{EvidenceSaid, evidence_app, evidence_in, evidence_said}
+use Rattle.oftp_command_line.specs.ExplainLine.{ExplainSaid, explain_app, explain_in, explain_said}
 use Rattle.oftp_command_line.specs.FeedLine.{FeedSaid, feed_app, feed_in, feed_said}
 use Rattle.oftp_command_line.specs.FileLines.{check_app, init_app, migrate_app, reload_app, show_app}
 use Rattle.oftp_command_line.specs.FolderLines.{CollectSaid, OfferSaid, collect_app, collect_said, collect_with, offer_app, offer_in, offer_said}
+use Rattle.oftp_command_line.specs.HistoryLine.{HistorySaid, history_app, history_said, history_with}
 use Rattle.oftp_command_line.specs.OperatorLines.{RefuseSaid, ReleaseSaid, ResendSaid, SubmitSaid, refuse_app, refuse_said, refuse_with, release_app, release_said, release_with, resend_app, resend_said, resend_with, submit_app, submit_in, submit_said}
+use Rattle.oftp_command_line.specs.RecordLines.{ReplaySaid, replay_app, replay_said, replay_with}
 use Rattle.oftp_command_line.specs.RegisterLines.{AuditSaid, BackupSaid, FetchSaid, ReportSaid, audit_app, audit_said, audit_with, backup_app, backup_said, backup_with, fetch_app, fetch_said, fetch_with, report_app, report_in, report_said}
-use Rattle.oftp_command_line.specs.ServiceLines.{CallSaid, HttpSaid, ListenSaid, RunSaid, StopSaid, call_app, call_said, call_with, http_app, http_said, http_with, listen_app, listen_said, listen_with, run_app, run_said, run_with, stop_app, stop_said, stop_with}
+use Rattle.oftp_command_line.specs.ServiceLines.{CallSaid, HttpSaid, ListenSaid, RunSaid, StopSaid, call_app, call_said, call_with, http_app, http_said, http_with, listen_app, listen_said, listen_with, run_app, run_in, run_said, stop_app, stop_said, stop_with}
 use Rattle.oftp_command_line.specs.StandingLines.{HealthSaid, StatusSaid, health_app, health_said, health_with, settled_app, status_app, status_said, status_with}
 use Rattle.oftp_command_line.specs.declared.line.Line.{Line}
 use Rattle.oftp_command_line.specs.declared.line.Line.TheVariants as line
@@ -37,9 +41,13 @@ pub data Said : Type 0 where
   said_stop : StopSaid → Said
   said_reload : Text → Said
   said_show : Text → Said
+  said_explain : ExplainSaid → Said
   said_feed : FeedSaid → Said
   said_audit : AuditSaid → Said
+  said_history : HistorySaid → Said
+  said_evidence : EvidenceSaid → Said
   said_run : RunSaid → Said
+  said_replay : ReplaySaid → Said
   said_listen : ListenSaid → Said
   said_call : CallSaid → Said
   said_http : HttpSaid → Said
@@ -66,9 +74,13 @@ said (line.Backup b) = said_backup (backup_said b)
 said (line.Stop s) = said_stop (stop_said s)
 said (line.Reload database) = said_reload database.now
 said (line.Show input) = said_show input.now
+said (line.Explain e) = said_explain (explain_said e)
 said (line.Feed f) = said_feed (feed_said f)
 said (line.Audit a) = said_audit (audit_said a)
+said (line.History h) = said_history (history_said h)
+said (line.Evidence e) = said_evidence (evidence_said e)
 said (line.Run r) = said_run (run_said r)
+said (line.Replay r) = said_replay (replay_said r)
 said (line.Listen l) = said_listen (listen_said l)
 said (line.Call c) = said_call (call_said c)
 said (line.Http h) = said_http (http_said h)
@@ -86,7 +98,8 @@ command_names = (codes "init", name.Init) ∷ (codes "migrate", name.Migrate)
     ∷ (codes "fetch", name.Fetch) ∷ (codes "collect", name.Collect) ∷ (codes "report", name.Report)
     ∷ (codes "status", name.Status) ∷ (codes "health", name.Health) ∷ (codes "settled", name.Settled)
     ∷ (codes "backup", name.Backup) ∷ (codes "stop", name.Stop) ∷ (codes "reload", name.Reload) ∷ (codes "show", name.Show)
-    ∷ (codes "feed", name.Feed) ∷ (codes "audit", name.Audit) ∷ (codes "run", name.Run)
+    ∷ (codes "explain", name.Explain) ∷ (codes "feed", name.Feed) ∷ (codes "audit", name.Audit) ∷ (codes "history", name.History) ∷ (codes "evidence", name.Evidence)
+    ∷ (codes "run", name.Run) ∷ (codes "replay", name.Replay)
     ∷ (codes "listen", name.Listen) ∷ (codes "call", name.Call) ∷ (codes "http", name.Http) ∷ []
 
 -- the command with this name
@@ -113,9 +126,13 @@ app_named name.Backup = backup_app
 app_named name.Stop = stop_app
 app_named name.Reload = reload_app
 app_named name.Show = show_app
+app_named name.Explain = explain_app
 app_named name.Feed = feed_app
 app_named name.Audit = audit_app
+app_named name.History = history_app
+app_named name.Evidence = evidence_app
 app_named name.Run = run_app
+app_named name.Replay = replay_app
 app_named name.Listen = listen_app
 app_named name.Call = call_app
 app_named name.Http = http_app
@@ -140,9 +157,13 @@ said_by name.Backup rows = Some (said_backup (backup_with rows))
 said_by name.Stop rows = Some (said_stop (stop_with rows))
 said_by name.Reload rows = Some (said_reload (given (codes "db") rows))
 said_by name.Show rows = Some (said_show (given (codes "in") rows))
+said_by name.Explain rows = option_map said_explain (explain_in rows)
 said_by name.Feed rows = option_map said_feed (feed_in rows)
 said_by name.Audit rows = Some (said_audit (audit_with rows))
-said_by name.Run rows = Some (said_run (run_with rows))
+said_by name.History rows = Some (said_history (history_with rows))
+said_by name.Evidence rows = option_map said_evidence (evidence_in rows)
+said_by name.Run rows = option_map said_run (run_in rows)
+said_by name.Replay rows = Some (said_replay (replay_with rows))
 said_by name.Listen rows = Some (said_listen (listen_with rows))
 said_by name.Call rows = Some (said_call (call_with rows))
 said_by name.Http rows = Some (said_http (http_with rows))
@@ -167,5 +188,7 @@ only_prints (said_status status) = true
 only_prints (said_health health) = true
 only_prints (said_settled database) = true
 only_prints (said_show input) = true
+only_prints (said_explain explain) = true
 only_prints (said_audit audit) = true
+only_prints (said_history history) = true
 only_prints command = false

@@ -1,9 +1,11 @@
 -- The command lines of `run`, `listen`, `call` and `http`, which are services over sockets, and of `stop`, which ends one.
 use Rattle.std.specs.Prelude.{ℕ, Bool, List, [], ◌∷◌, Option, codes, option_map}
 use Rattle.clap.specs.Words.{App, Row, Text, first_of}
-use Rattle.oftp_command_line.specs.Arguments.{app_with, callers, flag, given, has_flag, needed, number, own_address, own_admission, own_book, own_database, own_duration, own_events, own_host, own_http_port, own_interval, own_jobs, own_patience, own_port, own_trace}
+use Rattle.oftp_command_line.specs.Arguments.{app_with, callers, flag, given, has_flag, needed, number, own_address, own_admission, own_book, own_database, own_duration, own_events, own_host, own_http_port, own_interval, own_jobs, own_patience, own_port, own_record, own_record_sync, own_trace}
 use Rattle.oftp_command_line.specs.Files.{FilesSaid, files_said, files_with}
+use Rattle.oftp_command_line.specs.RecordLines.{record_sync_of}
 use Rattle.oftp_command_line.specs.Terms.{EntranceSaid, TermsSaid, entrance_said, entrance_with, terms_said, terms_with}
+use Rattle.oftp_command_line.specs.declared.line.commands.recording.RecordSync.{RecordSync}
 use Rattle.oftp_command_line.specs.declared.line.commands.services.Call.{Call}
 use Rattle.oftp_command_line.specs.declared.line.commands.services.Http.{Http}
 use Rattle.oftp_command_line.specs.declared.line.commands.services.Listen.{Listen}
@@ -19,6 +21,8 @@ pub record RunSaid : Type 0 where
   pub interval : ℕ
   pub terms : TermsSaid
   pub jobs : ℕ
+  pub record_folder : Option Text
+  pub sync : RecordSync
 
 -- those of the command that was read
 abbrev pub run_said : Run → RunSaid
@@ -30,16 +34,19 @@ run_said r = record {
   interval = r.interval;
   terms = terms_said r.terms;
   jobs = r.jobs;
+  record_folder = option_map (λ s. s.now) r.record_folder;
+  sync = r.sync;
 }
 
 -- the declaration of `run` to the parser
 unfoldable pub run_app : App
 run_app = app_with (codes "run") (own_database ∷ own_book ∷ own_port (codes "3305") ∷ own_address ∷ own_http_port
-    ∷ own_host ∷ own_interval ∷ own_admission ∷ own_patience ∷ own_duration ∷ own_trace ∷ own_events ∷ own_jobs ∷ [])
+    ∷ own_host ∷ own_interval ∷ own_admission ∷ own_patience ∷ own_duration ∷ own_trace ∷ own_events ∷ own_jobs
+    ∷ own_record ∷ own_record_sync ∷ [])
 
--- the command `run` with these values
-abbrev pub run_with : List Row → RunSaid
-run_with rows = record {
+-- the command `run` with these values, and a record that is synced or not
+abbrev pub run_with : RecordSync → List Row → RunSaid
+run_with sync rows = record {
   files = files_with rows;
   entrance = entrance_with rows;
   http_port = number (codes "http-port") rows;
@@ -47,7 +54,13 @@ run_with rows = record {
   interval = number (codes "call-every") rows;
   terms = terms_with rows;
   jobs = number (codes "jobs") rows;
+  record_folder = first_of (codes "record") rows;
+  sync = sync;
 }
+
+-- the command `run` with these values; `None` if they don't say whether its record is synced
+abbrev pub run_in : List Row → Option RunSaid
+run_in rows = option_map (λ sync. run_with sync rows) (record_sync_of (given (codes "record-sync") rows))
 
 -- the options of `stop`
 pub record StopSaid : Type 0 where

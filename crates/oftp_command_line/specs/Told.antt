@@ -6,16 +6,20 @@ use Rattle.clap.specs.declared.builder.ArgAction.{ArgAction}
 use Rattle.clap.specs.declared.builder.ArgAction.TheVariants.{Set, SetTrue}
 use Rattle.oftp_command_line.specs.Arguments as spec
 use Rattle.oftp_command_line.specs.Arguments.{IsNumber}
+use Rattle.oftp_command_line.specs.EvidenceLine.{evidence_app}
+use Rattle.oftp_command_line.specs.ExplainLine.{explain_app}
 use Rattle.oftp_command_line.specs.FeedLine.{feed_app}
 use Rattle.oftp_command_line.specs.FolderLines.{collect_app, offer_app}
+use Rattle.oftp_command_line.specs.HistoryLine.{history_app}
 use Rattle.oftp_command_line.specs.Line.{app_named}
 use Rattle.oftp_command_line.specs.OperatorLines.{refuse_app, release_app, resend_app, submit_app}
+use Rattle.oftp_command_line.specs.RecordLines.{replay_app}
 use Rattle.oftp_command_line.specs.RegisterLines.{audit_app, backup_app, fetch_app, report_app}
 use Rattle.oftp_command_line.specs.ServiceLines.{call_app, http_app, listen_app, run_app, stop_app}
 use Rattle.oftp_command_line.specs.StandingLines.{health_app, status_app}
 use Rattle.oftp_command_line.specs.declared.line.arguments.Argument.{Argument}
 use Rattle.oftp_command_line.specs.declared.line.arguments.Kind.{Kind}
-use Rattle.oftp_command_line.specs.declared.line.arguments.Kind.TheVariants.{Word, Needed, Optional, Flag, Defaulted}
+use Rattle.oftp_command_line.specs.declared.line.arguments.Kind.TheVariants.{Word, Last, Needed, Optional, Flag, Defaulted}
 use Rattle.oftp_command_line.specs.declared.line.arguments.TheConstants.{MOST_ADMISSION, MOST_DURATION, MOST_PATIENCE, MOST_PORT}
 use Rattle.oftp_command_line.specs.declared.line.commands.Name.{Name}
 use Rattle.oftp_command_line.specs.declared.line.commands.Name.TheVariants as name
@@ -24,6 +28,7 @@ use Rattle.oftp_command_line.specs.declared.line.table.Declaration.{Declaration}
 -- whether an argument of a kind is required
 abbrev pub is_required : Kind → Bool
 is_required Word = true
+is_required Last = false
 is_required Needed = true
 is_required Optional = false
 is_required Flag = false
@@ -32,6 +37,7 @@ is_required (Defaulted value) = false
 -- what the parser does when an argument of a kind is given
 abbrev pub action_of : Kind → ArgAction
 action_of Word = Set
+action_of Last = Set
 action_of Needed = Set
 action_of Optional = Set
 action_of Flag = SetTrue
@@ -40,6 +46,7 @@ action_of (Defaulted value) = Set
 -- an argument of a kind, without the range of its numbers
 abbrev pub rule_of_kind : Kind → Text → Rule
 rule_of_kind Word id = spec.word id
+rule_of_kind Last id = spec.last_word id
 rule_of_kind Needed id = spec.needed id
 rule_of_kind Optional id = spec.optional id
 rule_of_kind Flag id = spec.flag id
@@ -82,16 +89,30 @@ word_of name.Backup = codes "backup"
 word_of name.Stop = codes "stop"
 word_of name.Reload = codes "reload"
 word_of name.Show = codes "show"
+word_of name.Explain = codes "explain"
 word_of name.Feed = codes "feed"
 word_of name.Audit = codes "audit"
+word_of name.History = codes "history"
+word_of name.Evidence = codes "evidence"
 word_of name.Run = codes "run"
+word_of name.Replay = codes "replay"
 word_of name.Listen = codes "listen"
 word_of name.Call = codes "call"
 word_of name.Http = codes "http"
 
--- what a proof unfolds to compute the declaration of any command
+-- what a proof unfolds to compute the declaration of a command that reads or changes the register
+unfoldable pub register_app : ⊤
+unfolding audit_app backup_app collect_app fetch_app offer_app refuse_app release_app report_app resend_app submit_app
+register_app = tt
+
+-- what it unfolds to compute that of a service, of what ends one, or of what plays its record
+unfoldable pub service_app : ⊤
+unfolding call_app http_app listen_app replay_app run_app stop_app
+service_app = tt
+
+-- what it unfolds to compute that of any command
 unfoldable pub each_app : ⊤
-unfolding audit_app backup_app call_app collect_app feed_app fetch_app health_app http_app listen_app offer_app refuse_app release_app report_app resend_app run_app status_app stop_app submit_app
+unfolding evidence_app explain_app feed_app health_app history_app register_app service_app status_app
 each_app = tt
 
 -- a command of the table, with its name

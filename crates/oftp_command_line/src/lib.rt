@@ -4,7 +4,8 @@
 mod line;
 
 pub use line::{
-    Argument, Audit, Backup, Call, Collect, Declaration, Entrance, Feed, FeedRole, Fetch, Files,
-    Health, Http, Kind, Line, LineFault, Listen, Offer, Refuse, Release, Report, Resend, Run,
-    SessionTerms, Status, Stop, Submit, VERSION, declarations, help, line_of,
+    Argument, Audit, Backup, Call, Collect, Declaration, Entrance, Evidence, Explain, Feed,
+    FeedRole, Fetch, Files, Health, History, Http, Kind, Line, LineFault, Listen, Offer,
+    RecordSync, Refuse, Release, Replay, Report, Resend, Run, SessionTerms, Status, Stop, Submit,
+    VERSION, Ways, declarations, help, line_of,
 };

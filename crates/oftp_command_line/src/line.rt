@@ -15,10 +15,14 @@ use arguments::command;
 pub use arguments::{Argument, Kind};
 use commands::Name;
 pub use commands::audit::Audit;
+pub use commands::evidence::Evidence;
+pub use commands::explain::Explain;
 pub use commands::feed::{Feed, FeedRole};
 pub use commands::files::Files;
 pub use commands::folders::{Collect, Offer};
+pub use commands::history::{History, Ways};
 pub use commands::operators::{Refuse, Release, Resend, Submit};
+pub use commands::recording::{RecordSync, Replay};
 pub use commands::registers::{Backup, Fetch, Report};
 pub use commands::services::{Call, Http, Listen, Run, Stop};
 pub use commands::standings::{Health, Status};
@@ -90,12 +94,20 @@ pub enum Line<'a> {
         /// The file with its octets.
         input: &'a str,
     },
+    /// Tells what the partner did in a session that RFC 5024 doesn't allow.
+    Explain(Explain<'a>),
     /// Runs one session from file to file.
     Feed(Feed<'a>),
     /// Tells what is unsound in the database, and what it has lost of an older one.
     Audit(Audit<'a>),
+    /// Tells what the events say of a file.
+    History(History<'a>),
+    /// Writes a folder of what proves a file's delivery.
+    Evidence(Evidence<'a>),
     /// Runs a resident station.
     Run(Run<'a>),
+    /// Plays a record over a database.
+    Replay(Replay<'a>),
     /// Serves sessions of partners that call.
     Listen(Listen<'a>),
     /// Runs one session with a partner that is called.
@@ -112,12 +124,13 @@ impl Line<'_> {
         match self {
             Line::Help | Line::Version => true,
             Line::Check { .. } | Line::Report(_) | Line::Show { .. } => true,
-            Line::Audit(_) => true,
+            Line::Audit(_) | Line::History(_) | Line::Explain(_) => true,
             Line::Status(_) | Line::Health(_) | Line::Settled { .. } => true,
             Line::Init { .. } | Line::Migrate { .. } | Line::Backup(_) => false,
             Line::Stop(_) | Line::Reload { .. } | Line::Resend(_) => false,
             Line::Submit(_) | Line::Release(_) | Line::Refuse(_) => false,
             Line::Offer(_) | Line::Collect(_) | Line::Fetch(_) => false,
+            Line::Replay(_) | Line::Evidence(_) => false,
             Line::Feed(_) | Line::Run(_) | Line::Listen(_) | Line::Call(_) | Line::Http(_) => false,
         }
     }

@@ -9,6 +9,7 @@ use oftp_files::{
     open_input, place_of, remove_log, settle,
 };
 use oftp_outcomes::{Fault, Outcome, write_line};
+use oftp_progress::{Extent, Gauge};
 use oftp_requests::{Backend, GONE};
 use oftp_watching::News;
 use std::fs::{self, File};
@@ -121,14 +122,23 @@ impl DatabaseCopy {
     /// Copies the files of a database. Nothing may change them meanwhile. The copy is then what a crash would leave.
     fn write(&self, rt: &HostRuntime, database: &str) -> Result<(), Fault> {
         let real = fs::canonicalize(rt, database).map_err(|error| file_fault(&error))?;
-        pour(rt, real.as_str(), &self.draft.file)?;
         let log = log_of(rt, real.as_str())?;
-        if !is_there(rt, log.as_str())? {
+        let mut pouring = Pouring::new(rt, real.as_str(), log.as_str());
+        pouring.pour(real.as_str(), &self.draft.file)?;
+        self.write_log(log.as_str(), &mut pouring)?;
+        pouring.finish();
+        Ok(())
+    }
+
+    /// Copies the log of a database, if there is one.
+    fn write_log(&self, log: &str, pouring: &mut Pouring<'_>) -> Result<(), Fault> {
+        let rt = pouring.rt;
+        if !is_there(rt, log)? {
             return Ok(());
         }
         let copied = log_of(rt, self.draft.path.as_str())?;
         let copied = make_private(rt, copied.as_str()).map_err(|error| file_fault(&error))?;
-        pour(rt, log.as_str(), &copied)
+        pouring.pour(log, &copied)
     }
 
     /// Gives the copy its name, after it was opened as a station opens it. If writing or opening it failed, it is removed.
@@ -202,18 +212,68 @@ fn is_file(rt: &HostRuntime, path: &str) -> Result<bool, Fault> {
     }
 }
 
-/// Copies the content of a file to another.
-fn pour(rt: &HostRuntime, from: &str, to: &File) -> Result<(), Fault> {
-    let mut from = open_input(rt, from)?;
-    let mut to = to;
-    let mut piece = [0; PIECE];
-    for _ in 0..u64::MAX {
-        let count = from.read(&mut piece).map_err(|error| file_fault(&error))?;
-        if count == 0 {
-            break;
-        }
-        to.write_all(&piece[..count])
-            .map_err(|error| file_fault(&error))?;
+/// How many octets the file at a path has; 0 if there is none.
+fn octets_at(rt: &HostRuntime, path: &str) -> u64 {
+    match fs::metadata(rt, path) {
+        Ok(about) => about.len(),
+        Err(_) => 0,
     }
-    Ok(())
+}
+
+/// The copying of files, which shows how far it came.
+#[derive(Drop)]
+struct Pouring<'r> {
+    rt: &'r HostRuntime,
+    gauge: Gauge<'r>,
+    // How many octets were copied, and of how many.
+    done: u64,
+    all: u64,
+}
+
+impl<'r> Pouring<'r> {
+    /// The copying of two files, which are measured where that is shown.
+    fn new(rt: &'r HostRuntime, first: &str, second: &str) -> Pouring<'r> {
+        let gauge = Gauge::new(rt);
+        let all = if gauge.shows() {
+            octets_at(rt, first).saturating_add(octets_at(rt, second))
+        } else {
+            0
+        };
+        Pouring {
+            rt,
+            gauge,
+            done: 0,
+            all,
+        }
+    }
+
+    /// Copies the content of a file to another.
+    fn pour(&mut self, from: &str, to: &File) -> Result<(), Fault> {
+        let mut from = open_input(self.rt, from)?;
+        let mut to = to;
+        let mut piece = [0; PIECE];
+        for _ in 0..u64::MAX {
+            let count = from.read(&mut piece).map_err(|error| file_fault(&error))?;
+            if count == 0 {
+                break;
+            }
+            to.write_all(&piece[..count])
+                .map_err(|error| file_fault(&error))?;
+            self.add(count);
+        }
+        Ok(())
+    }
+
+    /// Counts octets that were copied.
+    fn add(&mut self, count: usize) {
+        self.done = self.done.saturating_add(count as u64);
+        let (done, all) = (self.done, self.all);
+        self.gauge.show(&Extent::Backup { done, all });
+    }
+
+    /// Shows that all is copied.
+    fn finish(&mut self) {
+        let (done, all) = (self.done, self.all);
+        self.gauge.finish(&Extent::Backup { done, all });
+    }
 }

@@ -92,7 +92,7 @@ fn ask_for(
 }
 
 /// Writes octets, and what was written before.
-fn put(octets: &[u8], out: &mut impl Write) -> Result<(), Fault> {
+pub(crate) fn put(octets: &[u8], out: &mut impl Write) -> Result<(), Fault> {
     if out.write_all(octets).is_err() || out.flush().is_err() {
         return Err(Fault::Run(RunFault::Write));
     }

@@ -1,6 +1,8 @@
 //! Why a file or a folder of a command line can't be read or made.
 
-use crate::places::{book_of, database_of, events_of, folder_of, input_of, output_of, trace_of};
+use crate::places::{
+    book_of, database_of, events_of, folder_of, input_of, output_of, record_of, trace_of,
+};
 use crate::teller::system_error;
 use oftp_command_line::Line;
 use oftp_files::{is_beside_database, is_of_database};
@@ -43,6 +45,9 @@ pub(crate) fn faulty_path<'a>(rt: &HostRuntime, line: &Line<'a>) -> Fault<'a> {
     if let Some(fault) = faulty_events(rt, line) {
         return Some(fault);
     }
+    if let Some(fault) = faulty_record(rt, line) {
+        return Some(fault);
+    }
     faulty_output(rt, line)
 }
 
@@ -60,13 +65,27 @@ fn faulty_book<'a>(rt: &HostRuntime, line: &Line<'a>) -> Fault<'a> {
     }
 }
 
-/// The folder, if nothing can be put into it.
+/// The folder that it works on, and why it can't be used. One that can be isn't told where something is written beside it.
 fn faulty_folder<'a>(rt: &HostRuntime, line: &Line<'a>) -> Fault<'a> {
     let path = folder_of(line)?;
+    match folder_cause(rt, path) {
+        PathCause::IsOther if output_of(line).is_some() => None,
+        cause => Some((path, cause)),
+    }
+}
+
+/// The folder of the record, and why it can't be used.
+fn faulty_record<'a>(rt: &HostRuntime, line: &Line<'a>) -> Fault<'a> {
+    let path = record_of(line)?;
+    Some((path, folder_cause(rt, path)))
+}
+
+/// Why a folder can't be used.
+fn folder_cause(rt: &HostRuntime, path: &str) -> PathCause {
     match fs::metadata(rt, path) {
-        Err(error) => Some((path, cause_of(&error))),
-        Ok(about) if !about.is_dir() => Some((path, PathCause::IsNoFolder)),
-        Ok(_) => Some((path, PathCause::IsOther)),
+        Err(error) => cause_of(&error),
+        Ok(about) if !about.is_dir() => PathCause::IsNoFolder,
+        Ok(_) => PathCause::IsOther,
     }
 }
 

@@ -1,17 +1,19 @@
 //! The files, folders and addresses that a command line names.
 
-use oftp_command_line::{Files, Line};
+use oftp_command_line::{Explain, Files, Line};
 
 /// The database that a line names.
 pub(crate) fn database_of<'a>(line: &Line<'a>) -> Option<&'a str> {
     match line {
-        Line::Help | Line::Version | Line::Check { .. } | Line::Show { .. } => None,
+        Line::Help | Line::Version | Line::Check { .. } => None,
+        Line::Show { .. } | Line::Explain(_) | Line::History(_) => None,
         Line::Init { database } | Line::Migrate { database } => Some(*database),
         Line::Settled { database } | Line::Reload { database } => Some(*database),
         Line::Stop(stop) => Some(stop.database),
         Line::Status(status) => Some(status.database),
         Line::Health(health) => Some(health.database),
         Line::Audit(audit) => Some(audit.database),
+        Line::Evidence(evidence) => Some(evidence.database),
         Line::Fetch(fetch) => Some(fetch.database),
         Line::Report(report) => Some(report.database),
         Line::Backup(backup) => Some(backup.database),
@@ -42,6 +44,7 @@ fn files_of<'a>(line: &Line<'a>) -> Option<Files<'a>> {
         Line::Run(run) => Some(run.files),
         Line::Listen(listen) => Some(listen.files),
         Line::Call(call) => Some(call.files),
+        Line::Replay(replay) => Some(replay.files),
         _ => None,
     }
 }
@@ -52,6 +55,8 @@ pub(crate) fn input_of<'a>(line: &Line<'a>) -> Option<&'a str> {
         Line::Submit(submit) => Some(submit.file),
         Line::Feed(feed) => Some(feed.input),
         Line::Show { input } => Some(*input),
+        Line::Explain(Explain::Octets(input, _)) => Some(*input),
+        Line::History(history) => Some(history.events),
         _ => None,
     }
 }
@@ -61,16 +66,20 @@ pub(crate) fn folder_of<'a>(line: &Line<'a>) -> Option<&'a str> {
     match line {
         Line::Offer(offer) => Some(offer.folder),
         Line::Collect(collect) => Some(collect.folder),
+        Line::Replay(replay) => Some(replay.folder),
+        Line::Explain(Explain::Recorded(folder, _)) => Some(*folder),
+        Line::Evidence(evidence) => Some(evidence.folder),
         _ => None,
     }
 }
 
-/// The file that a line has written.
+/// The file or the folder that a line has written.
 pub(crate) fn output_of<'a>(line: &Line<'a>) -> Option<&'a str> {
     match line {
         Line::Fetch(fetch) => Some(fetch.file),
         Line::Backup(backup) => Some(backup.to),
         Line::Feed(feed) => Some(feed.output),
+        Line::Evidence(evidence) => Some(evidence.to),
         _ => None,
     }
 }
@@ -80,6 +89,14 @@ pub(crate) fn events_of<'a>(line: &Line<'a>) -> Option<&'a str> {
     match line {
         Line::Backup(backup) => backup.events,
         other => files_of(other)?.events,
+    }
+}
+
+/// The folder of the record that a line asks for.
+pub(crate) fn record_of<'a>(line: &Line<'a>) -> Option<&'a str> {
+    match line {
+        Line::Run(run) => run.record_folder,
+        _ => None,
     }
 }
 

@@ -203,10 +203,18 @@ fn tell_longest<W: Write>(teller: &mut Teller<'_, W>, longest: u32) {
     }
 }
 
-/// Tells why `offer` was refused as a whole, if it was.
+/// Tells why `offer` was refused as a whole, if it was, and why `history` was.
 pub fn tell_folder<W: Write>(teller: &mut Teller<'_, W>, line: &Line<'_>) {
-    if let Line::Offer(offer) = line {
-        tell_offer(teller, line, offer);
+    match line {
+        Line::Offer(offer) => tell_offer(teller, line, offer),
+        Line::History(history) => tell(
+            teller,
+            RefusalNote::NoEvent {
+                no: history.no,
+                path: history.events,
+            },
+        ),
+        _ => {}
     }
 }
 

@@ -1,11 +1,14 @@
 //! Who may read the files that the program makes.
 
-use std::fs::{File, Metadata, OpenOptions, Permissions};
+use std::fs::{DirBuilder, File, Metadata, OpenOptions, Permissions};
 use std::io::{self, ErrorKind};
-use std::os::unix::fs::{MetadataExt, OpenOptionsExt, PermissionsExt, fchown};
+use std::os::unix::fs::{DirBuilderExt, MetadataExt, OpenOptionsExt, PermissionsExt, fchown};
 
 /// Mode bits: only the owner may read and write.
 const PRIVATE: u32 = 0o600;
+
+/// Mode bits: only the owner may use a folder.
+const PRIVATE_FOLDER: u32 = 0o700;
 
 /// The permission bits of a mode, without setuid, setgid and sticky.
 const ANYONE: u32 = 0o777;
@@ -30,6 +33,14 @@ pub fn make_private(rt: &HostRuntime, path: &str) -> io::Result<File> {
     // The umask may have removed permissions of the owner.
     file.set_permissions(Permissions::from_mode(PRIVATE))?;
     Ok(file)
+}
+
+/// Creates an empty folder, which only its owner may use.
+///
+/// # Errors
+/// The folder can't be created. If the path exists already, it is left alone and the error is `AlreadyExists`.
+pub fn make_private_folder(rt: &HostRuntime, path: &str) -> io::Result<()> {
+    DirBuilder::new().mode(PRIVATE_FOLDER).create(rt, path)
 }
 
 /// The permissions and the owner of a file.

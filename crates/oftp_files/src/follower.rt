@@ -2,9 +2,41 @@
 
 use oftp_codec::{Deframer, LONGEST_FRAME, parse};
 use oftp_watching::{Following, Moment, Speaker};
-use oftp_wire::Command;
-use std::alloc::Global;
+use oftp_wire::{Command, Layout, Sfid};
+use std::alloc::{AllocError, Global};
 use std::mem;
+
+/// How many octets a block has.
+const BLOCK: u64 = 1_024;
+
+/// A file that is on its way.
+#[derive(Drop)]
+pub struct UnderWay {
+    /// Its dataset name.
+    pub dataset: String,
+    /// How many octets of it went over connections, as far as that is known.
+    pub octets: u64,
+    /// How long it is, in blocks of 1,024 octets.
+    pub blocks: u64,
+    // How many octets a step of a restart position has; 0 where that isn't known.
+    step: u64,
+}
+
+impl UnderWay {
+    /// A file that is offered.
+    fn of(alloc: Global, sfid: &Sfid<'_>) -> Result<UnderWay, AllocError> {
+        Ok(UnderWay {
+            dataset: String::from_str(alloc, sfid.dataset.text())?,
+            octets: 0,
+            blocks: sfid.size.get(),
+            step: match sfid.layout {
+                Layout::Fixed(longest) => longest.get(),
+                Layout::Variable(_) => 0,
+                Layout::Unstructured | Layout::Text => BLOCK,
+            },
+        })
+    }
+}
 
 /// Follows a session by its octets, in the order in which they were read and said.
 #[derive(Drop)]
@@ -16,6 +48,8 @@ pub struct Follower {
     moments: Vec<Moment>,
     /// The code that the partner claimed in its first command.
     pub claimed: Option<String>,
+    /// The file that is on its way.
+    pub under_way: Option<UnderWay>,
 }
 
 impl Follower {
@@ -28,6 +62,7 @@ impl Follower {
             following: Following::Idle,
             moments: Vec::new(alloc),
             claimed: None,
+            under_way: None,
         }
     }
 
@@ -49,6 +84,7 @@ impl Follower {
             if let Some(moment) = self.following.hear(Speaker::Partner, &command) {
                 let _ = self.moments.push(moment);
             }
+            follow(self.alloc, &mut self.under_way, &command);
         }
     }
 
@@ -59,11 +95,13 @@ impl Follower {
             let Ok(Some(frame)) = self.said.next() else {
                 break;
             };
-            if let Ok(command) = parse(frame)
-                && let Some(moment) = self.following.hear(Speaker::Station, &command)
-            {
+            let Ok(command) = parse(frame) else {
+                continue;
+            };
+            if let Some(moment) = self.following.hear(Speaker::Station, &command) {
                 let _ = self.moments.push(moment);
             }
+            follow(self.alloc, &mut self.under_way, &command);
         }
     }
 
@@ -75,5 +113,24 @@ impl Follower {
     /// Takes in that the session is over. Returns what that tells.
     pub fn end(&mut self) -> Option<Moment> {
         mem::replace(&mut self.following, Following::Idle).end()
+    }
+}
+
+/// Takes in what a command makes of the file that is on its way.
+fn follow(alloc: Global, file: &mut Option<UnderWay>, command: &Command<'_>) {
+    match command {
+        Command::Sfid(sfid) => *file = UnderWay::of(alloc, sfid).ok(),
+        Command::Sfpa(sfpa) => {
+            if let Some(file) = file {
+                file.octets = sfpa.restart.get().saturating_mul(file.step);
+            }
+        }
+        Command::Data(octets) => {
+            if let Some(file) = file {
+                file.octets = file.octets.saturating_add(octets.octets().len() as u64);
+            }
+        }
+        Command::Sfna(_) | Command::Efpa(_) | Command::Efna(_) => *file = None,
+        _ => {}
     }
 }

@@ -11,6 +11,7 @@ use oftp_files::{
 };
 use oftp_filters::matches;
 use oftp_outcomes::{Carried, Fault, Why, write_line};
+use oftp_progress::{Extent, Gauge};
 use oftp_requests::{Backend, Comparison, FileList, refusal_in};
 use std::io::{self, Write};
 
@@ -44,6 +45,10 @@ struct Collection<'a, B> {
     backend: B,
     // The access of a new file in the folder, once the drafts that killed processes left there were removed.
     access: Option<Access>,
+    gauge: Gauge<'a>,
+    // The place of the file that is collected among those that are asked for, and how many these are.
+    place: u64,
+    count: u64,
 }
 
 impl<'a, B: Backend> Collection<'a, B> {
@@ -62,12 +67,18 @@ impl<'a, B: Backend> Collection<'a, B> {
             book,
             backend,
             access: None,
+            gauge: Gauge::new(rt),
+            place: 0,
+            count: 0,
         }
     }
 
     /// Collects all files. Returns whether none was refused.
     fn collect_all(&mut self, out: &mut impl Write) -> Result<bool, Fault> {
         let alloc = self.rt.alloc();
+        if self.gauge.shows() {
+            self.count_all()?;
+        }
         let mut list = FileList::asked(alloc, &mut self.backend, &Request::Unanswered)?;
         let mut is_done = true;
         for _ in 0..u64::MAX {
@@ -82,8 +93,24 @@ impl<'a, B: Backend> Collection<'a, B> {
         Ok(is_done)
     }
 
+    /// Counts the files that are asked for.
+    fn count_all(&mut self) -> Result<(), Fault> {
+        let alloc = self.rt.alloc();
+        let mut list = FileList::asked(alloc, &mut self.backend, &Request::Unanswered)?;
+        for _ in 0..u64::MAX {
+            let Some(entry) = list.next_file()? else {
+                break;
+            };
+            if is_wanted(self.line, &entry.file()?) {
+                self.count = self.count.saturating_add(1);
+            }
+        }
+        Ok(())
+    }
+
     /// Collects a file. Returns whether it wasn't refused. A file that is in the folder isn't written again.
     fn collect(&mut self, file: &ListedFile<'_>, out: &mut impl Write) -> Result<bool, Fault> {
+        self.show(file.dataset);
         let name = name_in_folder(self.rt, file)?;
         let path = path_in(self.rt, self.folder.path(), name.as_str())?;
         let refusal = match collecting_of(self.named(file.no, path.as_str())?) {
@@ -92,7 +119,20 @@ impl<'a, B: Backend> Collection<'a, B> {
             Collecting::Leave => return Ok(true),
             Collecting::Refuse => return Err(Fault::File),
         };
+        self.gauge.take_back();
         tell(refusal, file.no, name.as_str(), out)
+    }
+
+    /// Shows which file is collected. One that came since they were counted is of as many as there are up to it.
+    fn show(&mut self, dataset: &str) {
+        self.place = self.place.saturating_add(1);
+        let place = self.place;
+        let count = self.count.max(place);
+        self.gauge.show(&Extent::Collect {
+            place,
+            count,
+            dataset,
+        });
     }
 
     /// What is at the path of a file in the folder. A file that is to be released is synced: another program may have put it there.

@@ -72,6 +72,7 @@ fn hand_in<B: Backend + Drop>(
     let mut claims = claims;
     let mut is_done = true;
     claims.sort()?;
+    submitting.begin(claims.len());
     for claim in claims {
         if !submitting.hand_in(claim, out)? {
             is_done = false;

@@ -11,6 +11,7 @@ use oftp_command_line::{Offer, Submit};
 use oftp_engine::{Operator, Refusal, Submission};
 use oftp_files::{content_of, file_fault, open_regular};
 use oftp_outcomes::{Carried, Fault, Why, write_line};
+use oftp_progress::{Extent, Gauge};
 use oftp_requests::{Backend, FileList, GONE, number_in};
 use std::alloc::Global;
 use std::collections::BTreeMap;
@@ -95,6 +96,10 @@ pub(super) struct Submitting<'a, B> {
     given: BTreeMap<Vec<u8>, bool>,
     // The names that are given in `taken`, without the files' own names: no two files there have one.
     claimed: BTreeMap<Vec<u8>, bool>,
+    gauge: Gauge<'a>,
+    // The place of the file that is handed in among those that are taken, and how many these are.
+    place: u64,
+    count: u64,
 }
 
 /// How a file is named when it is taken.
@@ -125,7 +130,22 @@ impl<'a, B: Backend> Submitting<'a, B> {
             known: BTreeMap::new(rt.alloc()),
             given: BTreeMap::new(rt.alloc()),
             claimed: BTreeMap::new(rt.alloc()),
+            gauge: Gauge::new(rt),
+            place: 0,
+            count: 0,
         }
+    }
+
+    /// Begins to hand in so many files.
+    pub(super) fn begin(&mut self, count: usize) {
+        self.count = count as u64;
+    }
+
+    /// Shows which file is handed in.
+    fn show(&mut self, name: &str) {
+        self.place = self.place.saturating_add(1);
+        let (place, count) = (self.place, self.count);
+        self.gauge.show(&Extent::Offer { place, count, name });
     }
 
     /// How a file with this name is named when it is taken.
@@ -302,7 +322,10 @@ impl<'a, B: Backend> Submitting<'a, B> {
     pub(super) fn hand_in(&mut self, claim: String, out: &mut impl Write) -> Result<bool, Fault> {
         let dataset = dataset_of(self.rt.alloc(), claim.as_str())?;
         let name = dataset.as_str();
-        match self.finished(claim) {
+        self.show(name);
+        let finished = self.finished(claim);
+        self.gauge.take_back();
+        match finished {
             Ok(Handed::Under(no)) => {
                 write_line(out, &Carried::Offered { no, name })?;
                 Ok(true)

@@ -45,6 +45,7 @@ duplicate_text dataset date time to = dataset ++ (codes " " ++ (date ++ (codes "
 abbrev pub refusal_text : RefusalNote → List ℕ
 refusal_text (refused.NoFile n) = decimal n ++ codes ": no incoming file has this number"
 refusal_text (refused.NoOutgoing n) = decimal n ++ codes ": no outgoing file has this number"
+refusal_text (refused.NoEvent n path) = decimal n ++ (codes ": no event of " ++ (path.now ++ codes " has this number"))
 refusal_text (refused.Unsent n) = decimal n ++ codes ": this outgoing file isn't sent yet"
 refusal_text (refused.NoPartner code path) = code.now ++ (codes ": no partner in " ++ (path.now ++ codes " has this code"))
 refusal_text refused.NoneNamed = codes "--partner: an initiator needs it"

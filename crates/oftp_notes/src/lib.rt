@@ -16,4 +16,5 @@ pub use finding::{Finding, Key, Place, Wrong};
 pub use judging::wrong_with;
 pub use note::{BookNote, Note, RefusalNote, SessionEnd};
 pub use option::{Screen, Wanted};
+pub use seen::seen_line;
 pub use system::SystemError;

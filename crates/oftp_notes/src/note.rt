@@ -47,6 +47,13 @@ pub enum RefusalNote<'a> {
     NoFile(u64),
     /// No outgoing file has this number.
     NoOutgoing(u64),
+    /// No event is of a file with this number.
+    NoEvent {
+        /// The number.
+        no: u64,
+        /// The path of the events.
+        path: &'a str,
+    },
     /// The outgoing file with this number is still to be sent.
     Unsent(u64),
     /// No partner of the book has this code.
@@ -226,6 +233,9 @@ impl fmt::Display for RefusalNote<'_> {
         match self {
             RefusalNote::NoFile(no) => write!(f, "{no}: no incoming file has this number"),
             RefusalNote::NoOutgoing(no) => write!(f, "{no}: no outgoing file has this number"),
+            RefusalNote::NoEvent { no, path } => {
+                write!(f, "{no}: no event of {path} has this number")
+            }
             RefusalNote::Unsent(no) => write!(f, "{no}: this outgoing file isn't sent yet"),
             RefusalNote::NoPartner { code, book } => {
                 write!(f, "{code}: no partner in {book} has this code")

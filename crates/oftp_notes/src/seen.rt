@@ -1,7 +1,7 @@
 //! Lines of which each character can be seen.
 
 ghost use Rattle.std.specs.Prelude.{◌≡◌, ◌++◌, IfOk, OnOk, string_bytes};
-ghost use Rattle.oftp_notes.specs.Seen.{is_seen, seen_line, seen_of, with_seen};
+ghost use Rattle.oftp_notes.specs.Seen.{IsOneLine, is_seen, seen_line, seen_of, with_seen};
 
 use std::alloc::{AllocError, Global};
 
@@ -56,4 +56,17 @@ pub(crate) fn line_of(alloc: Global, text: &str) -> Result<String, AllocError>
     }
     line.push('\n')?;
     Ok(line)
+}
+
+/// The line of a text that may have any characters: each that can't be seen is an escape, from 2,000 octets on the text is cut, and one line end
+/// is behind it.
+///
+/// # Errors
+///
+/// Out of memory.
+pub fn seen_line(alloc: Global, text: &str) -> Result<String, AllocError>
+    ensures text { IfOk result (λ line. string_bytes line ≡ seen_line text.now) }
+    ensures alone { IfOk result (λ line. IsOneLine (string_bytes line)) }
+{
+    line_of(alloc, text)
 }

@@ -6,7 +6,7 @@ pub const PAGE: &str = r###"<!doctype html>
 <head>
 <meta charset="utf-8">
 <meta http-equiv="Content-Security-Policy" content="default-src 'none'; connect-src 'self'; img-src data:;
-  script-src 'sha256-1GhLplKUTwcTgCCMgyKGFs0OkUwFutxd0NvIx/QReFo='; style-src 'sha256-O8+gAOTZHPTMl4rNdZludEQsA1D0u5KulhgydGi1zgY=';
+  script-src 'sha256-WR3wQywvqNzoCo6G0+5SXQ0ucajbZNWfzt2uRIdvRKQ='; style-src 'sha256-oHlOKeAmVKqdRAC1EKe32uR6dD5ICUXaH3n6S/fnLK8=';
   base-uri 'none'; form-action 'none'; require-trusted-types-for 'script'; trusted-types 'none'">
 <meta name="viewport" content="width=device-width, initial-scale=1">
 <meta name="color-scheme" content="light dark">
@@ -88,10 +88,11 @@ thead button:hover { color: var(--ink); text-decoration: underline; }
 .no { width: 6.2rem; text-align: right; font-variant-numeric: tabular-nums; white-space: nowrap; }
 .partner { width: 17%; }
 .when { width: 11.4rem; font-variant-numeric: tabular-nums; white-space: nowrap; }
+.changed { width: 7.4rem; font-variant-numeric: tabular-nums; white-space: nowrap; }
 .size { width: 5.8rem; text-align: right; font-variant-numeric: tabular-nums; white-space: nowrap; }
 .file { width: 6.8rem; }
 .state { width: 29%; }
-tbody .when, tbody .file { color: var(--soft); }
+tbody .when, tbody .changed, tbody .file { color: var(--soft); }
 .when bdi, .cut { overflow: hidden; text-overflow: ellipsis; white-space: nowrap; }
 .when bdi { display: block; }
 .few { display: -webkit-box; -webkit-box-orient: vertical; -webkit-line-clamp: 3; overflow: hidden; }
@@ -107,6 +108,7 @@ tbody .name > div, tbody .state > div { display: flex; gap: .6rem; align-items: 
 .good .words { color: var(--good); }
 .wait .words { color: var(--wait); }
 .rest .words { color: var(--soft); }
+.fail .words { color: var(--bad); }
 tbody > tr:first-child { cursor: pointer; }
 tbody.act { background: var(--act-ground); }
 tbody.bad { background: var(--bad-ground); }
@@ -121,9 +123,15 @@ code { padding: .1rem .4rem; border: 1px solid var(--line); border-radius: 4px; 
 .copy { height: 1.6rem; margin: 0 0 0 .3rem; padding: 0 .6rem; font-size: 13px; }
 dl { display: grid; grid-template-columns: max-content minmax(0, 1fr); gap: .1rem 1rem; margin-top: .3rem; }
 dt { color: var(--soft); }
+body:has(.has_changes) { max-width: 96rem; }
 #none { padding: 2.5rem 1rem; border: 1px solid var(--line); border-top: 0; background: var(--sheet); color: var(--soft); text-align: center; }
 #next { display: block; margin: 1rem auto 0; }
 
+@media (min-width: 62.01rem) and (max-width: 88rem) {
+  /* Here is no room for both: the details have the stamp, too. */
+  .has_changes .when { width: 0; padding: 0; visibility: hidden; }
+  .has_changes .when > * { display: none; }
+}
 @media (max-width: 62rem) {
   body { padding: .9rem .9rem 3rem; }
   #todo, #views { display: grid; grid-template-columns: repeat(auto-fit, minmax(8.5rem, 1fr)); }
@@ -146,13 +154,16 @@ dt { color: var(--soft); }
   tbody .name { grid-area: 1 / 1; }
   tbody .name > div, tbody .state > div { flex-wrap: wrap; gap: 0 .6rem; }
   tbody .about { flex-basis: 100%; }
-  tbody .detail { flex-basis: auto; white-space: normal; }
+  tbody .detail { flex-basis: auto; white-space: normal; display: -webkit-box; -webkit-box-orient: vertical; -webkit-line-clamp: 2; }
+  .few { -webkit-line-clamp: 2; }
   tbody .no { grid-area: 1 / 2; color: var(--soft); }
   .number::before { content: attr(data-head) " "; }
   tbody .partner { grid-area: 2 / 1 / auto / 3; }
   tbody .when { grid-area: 3 / 1; }
   tbody .size, tbody .file { grid-area: 3 / 2; color: var(--soft); text-align: right; }
-  tbody .state { grid-area: 4 / 1 / auto / 3; }
+  tbody .changed { grid-area: 4 / 1 / auto / 3; }
+  tbody .changed bdi::before { content: attr(data-head) " "; }
+  tbody .state { grid-area: 5 / 1 / auto / 3; }
   dl { grid-template-columns: minmax(0, 1fr); gap: 0; }
   #none { border-top: 1px solid var(--line); }
 }
@@ -222,16 +233,20 @@ const MINUTE = 60_000;
 const HOUR = 60 * MINUTE;
 const DAY = 24 * HOUR;
 // The age from which a file is late in a state, in milliseconds.
-const LATE_AFTER = { closing: HOUR, open: DAY, release: DAY, waiting: DAY, partly: DAY, handed: DAY };
+const LATE_AFTER = { closing: HOUR, open: DAY, release: DAY, waiting: DAY, partly: DAY, handed: DAY, eerp_due: DAY, nerp_due: DAY };
 // These states in the sentence that tells the bounds.
 const LATE_IF = {
   closing: "sent but not confirmed", open: "incomplete", release: "to be released", waiting: "waiting to be sent", partly: "partly sent",
-  handed: "without EERP",
+  handed: "without EERP", eerp_due: "with an EERP to be sent", nerp_due: "with a NERP to be sent",
 };
+// The states whose age only an event tells, since a stamp is older than its file's response.
+const BY_EVENTS = ["eerp_due", "nerp_due"];
 // A closing file is late, too, once the page has seen it so for this long, which is twice the timeout of a session.
 const CLOSING_SEEN = 10 * MINUTE;
 // How far a clock somewhere on earth is ahead of UTC. A stamp that is further ahead tells no age.
 const AHEAD = 14 * HOUR;
+// By how much the station's clock may be ahead of an event when it counts the same contact, in milliseconds.
+const SAME_CONTACT = 2000;
 // How many numbers of files stand in one sentence.
 const NAMED = 5;
 // What the commands to copy begin with and name, unless somebody enters something else: an installation as docs/howto/install.md makes it.
@@ -262,7 +277,15 @@ const NEGATIVE_REASONS = {
   "34": "file processing failed", "35": "not delivered to recipient", "36": "not acknowledged by recipient",
   "50": "transmission stopped by the operator", "90": "file size incompatible with recipient's protocol version", "99": "unspecified reason",
 };
+// The reasons of ESID (section 5.3.11): why a session was ended.
+const SESSION_REASONS = {
+  "00": "normal", "01": "command not recognised", "02": "protocol violation", "03": "user code not known", "04": "invalid password",
+  "05": "local site emergency close down", "06": "invalid data", "07": "buffer size error", "08": "resources not available",
+  "09": "time out", "10": "mode or capabilities incompatible", "11": "invalid challenge response",
+  "12": "secure authentication requirements incompatible", "99": "unspecified abort code",
+};
 const FORMATS = { F: "fixed", V: "variable", U: "unstructured", T: "text" };
+const DAYS = ["Sun", "Mon", "Tue", "Wed", "Thu", "Fri", "Sat"];
 
 // The states of each list: the text, and the style (act and bad need a person). Those that need a person also have their text above the list
 // (`many` for more than one file, where it differs), and a sentence on what to do.
@@ -279,8 +302,16 @@ const STATES = {
       hint: "Its sender waits for the EERP. Take it, then release it or refuse it:",
     },
     eerp_due: { words: "Released, EERP not yet sent", look: "wait" },
+    eerp_due_late: {
+      words: "Released, EERP not sent, late", look: "act", sums: "EERP not sent, late", many: "EERPs not sent, late",
+      hint: "No session has taken it. Call the partner, and look at how the session ends.",
+    },
     eerp_sent: { words: "Released, EERP sent", look: "good" },
     nerp_due: { words: "Refused here, NERP not yet sent", look: "wait" },
+    nerp_due_late: {
+      words: "Refused here, NERP not sent, late", look: "act", sums: "NERP not sent, late", many: "NERPs not sent, late",
+      hint: "No session has taken it. Call the partner, and look at how the session ends.",
+    },
     nerp_sent: { words: "Refused here, NERP sent", look: "rest" },
   },
   out: {
@@ -330,6 +361,25 @@ const STATES = {
     nerp_due: { words: "NERP not yet sent", look: "wait" },
     nerp_sent: { words: "NERP sent", look: "rest" },
   },
+  sessions: {
+    good: { words: "Ended in order", look: "good" },
+    broken: { words: "Ended otherwise", look: "fail" },
+    unreached: { words: "Not reached", look: "fail" },
+    rejected: { words: "Not let in", look: "fail" },
+  },
+  partners: {
+    unreached: {
+      words: "Not reached", look: "bad", sums: "partner not reached", many: "partners not reached",
+      hint: "Look at its address in the book and at the network, and call it.",
+    },
+    broken: {
+      words: "Last session ended otherwise", look: "act", sums: "partner whose last session failed", many: "partners whose last session failed",
+      hint: "Correct what the end names, and call the partner.",
+    },
+    talking: { words: "In session", look: "wait" },
+    good: { words: "Last session ended in order", look: "good" },
+    unknown: { words: "No contact known", look: "rest" },
+  },
 };
 
 // The state of a refused file after its response.
@@ -340,6 +390,8 @@ const AGAIN = { refused: "refused_again", duplicate: "refused_again", returned: 
 // Whose clock stamped the files of a list. A stamp has no zone. This station's own are in UTC, a sender's may be anything.
 const OURS = "ours";
 const SENDERS = "senders";
+// What has no stamp has the time at which this station did it.
+const OWN_TIMES = "times";
 
 // The lists: the title, whose stamps it has, the columns with their headings, and the text of an empty list.
 const VIEWS = {
@@ -361,17 +413,156 @@ const VIEWS = {
     none: "No file has been released or refused yet.",
     columns: { no: "File", partner: "To", name: "File name", when: "Sender's stamp", state: "Response" },
   },
+  sessions: {
+    title: "Sessions", noun: "session", caption: "Sessions, calls and callers that the events tell", stamps: OWN_TIMES,
+    none: "The events tell no session yet.",
+    columns: { no: "Session", partner: "Partner", name: "What was done", when: "Ended", size: "Data", state: "End" },
+  },
+  partners: {
+    title: "Partners", noun: "partner", caption: "Partners and the last contact with each", stamps: OWN_TIMES, none: "The book has no partner.",
+    columns: { no: "No.", partner: "Partner", name: "What waits", when: "Last contact", state: "State" },
+  },
+};
+// The lists of files and responses. Where there are events, these have the time of the last change, too.
+const OF_FILES = ["in", "out", "received", "issued"];
+const CHANGED = { changed: "Last change" };
+
+// ---- what the station tells of itself, and its events
+
+// What `/status` has, and the last events, oldest first. Null is that the station doesn't tell them, which is never shown as if all were well.
+let standing = null;
+let events = null;
+// The changes of each file that the events tell, oldest first, by the file's way and identity.
+let histories = new Map();
+
+// The events in lines of JSON. A line that is none, as a full disk leaves it, tells nothing.
+function eventsIn(text) {
+  return text.split("\n").map(eventIn).filter(Boolean);
+}
+
+function eventIn(line) {
+  try {
+    const event = JSON.parse(line);
+    const file = stampOfTime(String(event.at));
+    return file && { ...event, ...texts(event), stamped: file, at: momentOf(file) };
+  } catch {
+    return null;
+  }
+}
+
+// The texts of an event, as texts whatever stands there.
+function texts(event) {
+  const keys = ["event", "partner", "way", "peer", "dataset", "date", "time", "originator", "destination", "kind", "reason", "words", "text", "end"];
+  return Object.fromEntries(keys.map((key) => [key, String(event[key] ?? "")]));
+}
+
+// A time in UTC as a file's stamp: its date and its time, with four digits of the second's fraction.
+function stampOfTime(at) {
+  const found = /^(\d{4})-(\d\d)-(\d\d)T(\d\d):(\d\d):(\d\d)\.(\d{4})\d*Z$/.exec(at);
+  const stamp = found && { date: found.slice(1, 4).join(""), time: found.slice(4, 8).join("") };
+  return stamp && momentOf(stamp) !== null ? stamp : null;
+}
+
+function identityOf(way, { dataset, date, time, originator, destination }) {
+  return JSON.stringify([way, dataset, date, time, originator, destination]);
+}
+
+function takeEvents(found) {
+  if (found === events) {
+    return;
+  }
+  events = found;
+  histories = new Map();
+  for (const event of (events ?? []).filter(({ date }) => date)) {
+    const key = identityOf(event.way, event);
+    const changes = histories.get(key) ?? [];
+    histories.set(key, changes);
+    changes.push(event);
+  }
+}
+
+// The changes of a file of this way that the events tell, oldest first.
+function changesOf(way, file) {
+  return (histories.size && histories.get(identityOf(way, file))) || [];
+}
+
+// The event with which each state began. A file that was taken up again after its transfer broke is as old as before.
+const BEGUN_BY = {
+  release: "came", eerp_due: "released", nerp_due: "refused here", waiting: "submitted", partly: "submitted", closing: "sent",
+  handed: "handed over",
 };
 
-// ---- what the station's events would tell
+function begunIn(state, changes) {
+  if (state !== "open") {
+    return changes.findLast(({ event }) => event === BEGUN_BY[state]) ?? null;
+  }
+  const last = changes.findLastIndex(({ event }) => event === "given up");
+  return changes.slice(last + 1).find(({ event }) => event === "started to come") ?? null;
+}
 
-// The station tells no events yet, and what needs them asks here alone. Null is that nobody knows, and it is never shown as if all were well.
-const events = {
-  // The changes of an item, oldest first, each with its moment (`at`, in milliseconds) and its words.
-  changesOf: (_view, _no) => null,
-  // The last contact with a partner, with its moment and its end in words.
-  lastContactWith: (_partner) => null,
+// What an event says, as a sentence without its end.
+function wordsOf({ event, kind, reason, words, text }) {
+  const why = [reason, words].filter(Boolean).join(" ");
+  const said = `${event.slice(0, 1).toUpperCase()}${event.slice(1)}${kind ? ` (${kind})` : ""}`;
+  return [said, why, text && `“${text}”`].filter(Boolean).join(": ");
+}
+
+// How a session ended, in words, and in which state that leaves its partner.
+function endOf(line) {
+  const end = line.replace(/^end: /, "");
+  const [, side, number] = /^(own|partner) (\d\d)$/.exec(end) ?? [];
+  if (!side) {
+    return { state: "broken", words: end === "input" ? "the connection broke off" : end };
+  }
+  const by = side === "own" ? "sent by this station" : "sent by the partner";
+  return { state: number === "00" ? "good" : "broken", words: `${reasonText(number, SESSION_REASONS)}, ${by}` };
+}
+
+// What an event says of the contact with its partner, if it is of one: when, in which state that leaves the partner, and its end in words.
+function contactOf({ event, at, words, end, stamped }) {
+  if (event === "session ended") {
+    return { at, stamped, ...endOf(end) };
+  }
+  return event === "not reached" ? { at, stamped, state: "unreached", words } : null;
+}
+
+// What a counter of the station says of that.
+function contactCounted({ kind, end, last }) {
+  const at = last * 1000;
+  const stamped = stampOfTime(`${new Date(at).toISOString().slice(0, 19)}.0000Z`);
+  if (kind === "session") {
+    return { at, stamped, ...endOf(end) };
+  }
+  return kind === "not reached" ? { at, stamped, state: "unreached", words: "" } : null;
+}
+
+// The last contact with each partner. Of a contact that both tell, the event tells more.
+function lastContacts() {
+  const [told, counted] = [new Map(), new Map()];
+  const keep = (map, partner, contact) => {
+    if (contact && (map.get(partner)?.at ?? 0) <= contact.at) {
+      map.set(partner, contact);
+    }
+  };
+  (events ?? []).filter(({ partner }) => partner).forEach((event) => keep(told, event.partner, contactOf(event)));
+  (standing?.counters ?? []).forEach((counter) => keep(counted, counter.partner, contactCounted(counter)));
+  for (const [partner, contact] of counted) {
+    if ((told.get(partner)?.at ?? 0) + SAME_CONTACT <= contact.at) {
+      told.set(partner, contact);
+    }
+  }
+  return told;
+}
+
+// What waits for a partner or of it, by how its files stand.
+const WAITING = {
+  waiting: "to be sent", closing: "to be confirmed", due: "to be answered", open: "incomplete", whole: "to be released", handed: "without EERP",
 };
+
+function waitingText(code) {
+  const files = (standing?.files ?? []).filter(({ partner, state }) => partner === code && Object.hasOwn(WAITING, state));
+  return files.map(({ state, count }) => `${numbers.format(count)} ${WAITING[state]}`).join(", ");
+}
 
 // ---- dates and times
 
@@ -410,7 +601,7 @@ function stampText(view, file, moment) {
   if (moment === null) {
     return [file.date, file.time].filter(Boolean).join(" ");
   }
-  return VIEWS[view].stamps === OURS ? localText(moment) : writtenText(file);
+  return VIEWS[view].stamps === SENDERS ? writtenText(file) : localText(moment);
 }
 
 // The whole stamp, and what it says.
@@ -420,7 +611,15 @@ function stampFact({ view, file, moment }) {
     return digits && `${digits}, which is no date and time`;
   }
   const whole = `${writtenText(file)}.${file.time.slice(6)}`;
-  return VIEWS[view].stamps === OURS ? `${whole} UTC` : `${whole}, without a zone; read as UTC it is ${localText(moment)} here`;
+  return VIEWS[view].stamps !== SENDERS ? `${whole} UTC` : `${whole}, without a zone; read as UTC it is ${localText(moment)} here`;
+}
+
+// A moment in few signs: the time if it is of these days, or else the day.
+function shortText(moment) {
+  const [text, today] = [localText(moment), localText(Date.now())];
+  const days = Math.round((Date.parse(today.slice(0, 10)) - Date.parse(text.slice(0, 10))) / DAY);
+  const time = text.slice(11, 16);
+  return days === 0 ? `today ${time}` : days > 0 && days < 7 ? `${DAYS[new Date(moment).getDay()]} ${time}` : text.slice(0, 10);
 }
 
 function zoneText() {
@@ -436,36 +635,39 @@ function spanOf(time) {
 
 // ---- the items of the lists, each of which becomes a row
 
-// Each item has its view, number, partner and state, the object with the file's name, date and time, the response if there is one, the stamp
-// as a moment, the file's age, and the number of the later file of its name.
-const lists = { in: [], out: [], received: [], issued: [] };
+// Each item has its view, its number and how that is shown, its partner and its state, the object with the file's name, date and time, the response if there is one, the stamp
+// as a moment, the file's age, its changes by the events, and the number of the later file of its name. What is no file has `facts`, and its
+// end in words (`told`).
+const lists = { in: [], out: [], received: [], issued: [], sessions: [], partners: [] };
 let partners = [];
 // When the page first saw each outgoing file as closing, by the file's number.
 const closingSince = new Map();
 
-function itemOf(view, no, partner, file, response) {
+function itemOf(view, no, partner, file, response, changes = []) {
   const moment = momentOf(file);
-  return { view, no, partner, file, response, moment, age: ageOf(view, no, moment), later: null, state: "" };
+  return { view, no, number: String(no), partner, file, response, changes, moment, age: null, later: null, told: "", facts: null, state: "" };
 }
 
-// How long a file has been in its state, in milliseconds, or null if nobody knows: by the station's events, and without them by its stamp.
-function ageOf(view, no, moment) {
-  const since = events.changesOf(view, no)?.at(-1)?.at ?? moment;
+// How long a file has been in this state, in milliseconds, or null if nobody knows: by the station's events, and else by its stamp.
+function ageOf({ changes, moment }, state) {
+  const since = begunIn(state, changes)?.at ?? (BY_EVENTS.includes(state) ? null : moment);
   const now = Date.now();
   return since === null || since > now + AHEAD ? null : now - since;
 }
 
-function lateOrNot(state, age) {
-  return age !== null && age >= LATE_AFTER[state] ? `${state}_late` : state;
+// Sets the age of an item in this state, and returns whether that is late, as a state.
+function lateOrNot(item, state) {
+  item.age = ageOf(item, state);
+  return item.age !== null && item.age >= LATE_AFTER[state] ? `${state}_late` : state;
 }
 
 function incomingItem(file, response) {
-  const item = itemOf("in", file.no, file.originator, file, response);
+  const item = itemOf("in", file.no, file.originator, file, response, changesOf("in", file));
   let state = file.state;
   if (state === "whole") {
     state = file.response === "none" ? "release" : responseState(file.response, response?.sent);
   }
-  item.state = lateOrNot(state, item.age);
+  item.state = lateOrNot(item, state);
   return item;
 }
 
@@ -474,22 +676,25 @@ function responseState(kind, isSent) {
 }
 
 function outgoingItem(file, response, newest) {
-  const item = itemOf("out", file.no, file.destination, file, response);
+  const item = itemOf("out", file.no, file.destination, file, response, changesOf("out", file));
   item.later = newest > file.no ? newest : null;
   item.state = outgoingState(item);
   return item;
 }
 
-function outgoingState({ file, response, age, later }) {
+function outgoingState(item) {
+  const { file, response, later } = item;
   let state = file.state;
   if (state === "refused") {
     state = response ? ANSWERED[response.kind] : file.reason === DUPLICATE ? "duplicate" : "refused";
   } else if (state === "waiting" && file.mark > 0) {
     state = "partly";
-  } else if (state === "closing" && isSeenForLong(file)) {
+  }
+  const timely = lateOrNot(item, state);
+  if (state === "closing" && isSeenForLong(file)) {
     return "closing_late";
   }
-  return later !== null && Object.hasOwn(AGAIN, state) ? AGAIN[state] : lateOrNot(state, age);
+  return later !== null && Object.hasOwn(AGAIN, state) ? AGAIN[state] : timely;
 }
 
 function isSeenForLong(file) {
@@ -498,16 +703,71 @@ function isSeenForLong(file) {
   return Date.now() - since >= CLOSING_SEEN;
 }
 
-function receivedItem(response) {
-  const item = itemOf("received", response.no, response.from, response, response);
+function receivedItem(response, file) {
+  const changes = file ? changesOf("out", file).filter(({ event }) => event === "response received") : [];
+  const item = itemOf("received", response.no, response.from, response, response, changes);
   item.state = response.kind.toLowerCase();
   return item;
 }
 
 function issuedItem(response, file) {
   const named = file ?? { dataset: "", date: "", time: "", originator: "" };
-  const item = itemOf("issued", response.no, named.originator, named, response);
+  const changes = changesOf("in", named).filter(({ event }) => ["released", "refused here", "response sent"].includes(event));
+  const item = itemOf("issued", response.no, named.originator, named, response, changes);
   item.state = responseState(response.kind, response.sent);
+  return item;
+}
+
+// The sessions that the events tell to have ended, calls that didn't connect, and callers that weren't let in. Each has its time as number, so
+// that it keeps this while others come and the first ones go.
+function sessionItems() {
+  let last = 0;
+  return (events ?? []).filter(isOfSession).map((event) => {
+    last = Math.max(last + 1, event.at * 10 + Number(event.stamped.time.slice(6)));
+    return sessionItem(event, last);
+  });
+}
+
+function sessionItem(event, no) {
+  const { partner, peer, stamped, sent = 0, received = 0, octets_in = 0, octets_out = 0, reason, words, session, seconds = 0 } = event;
+  const isSession = event.event === "session ended";
+  const caller = event.event === "not reached" || event.way === "out" ? "this station" : "the partner";
+  const done = isSession ? `${numbers.format(sent)} sent, ${numbers.format(received)} received` : "";
+  const file = { dataset: done, description: peer, ...stamped, units: octets_in + octets_out, format: "" };
+  const item = itemOf("sessions", no, partner, file, null);
+  const { state, words: ended } = endOf(event.end);
+  const states = { "session ended": state, "not reached": "unreached", "not let in": "rejected" };
+  item.state = states[event.event];
+  item.number = session ? String(session) : "–";
+  item.told = isSession ? ended : [reason, words].filter(Boolean).join(" ");
+  item.facts = [
+    ["Called by", caller], ["Address", peer], ["Session", session && `${session} since the station's start`],
+    ["Came", isSession && counted(octets_in, "byte")], ["Went", isSession && counted(octets_out, "byte")],
+    ["Took", isSession && counted(seconds, "second")], ["End", item.told || event.end],
+  ];
+  return item;
+}
+
+// The partners of the book, and others with whom there was contact.
+function partnerItems() {
+  const contacts = lastContacts();
+  const book = (standing?.partners ?? []).map(({ code }) => code);
+  return [...new Set([...book, ...contacts.keys()])].map((code, at) => partnerItem(code, at + 1, contacts.get(code) ?? null));
+}
+
+function partnerItem(code, no, contact) {
+  const file = { dataset: waitingText(code), description: "", date: "", time: "", ...contact?.stamped };
+  const item = itemOf("partners", no, code, file, null);
+  const next = standing?.partners?.find((partner) => partner.code === code)?.next_call;
+  item.state = standing?.session?.partner === code ? "talking" : contact?.state ?? "unknown";
+  item.told = contact?.words ?? "";
+  item.facts = [
+    ["Last contact", contact && `${localText(contact.at)}: ${[STATES.sessions[contact.state].words, item.told].filter(Boolean).join(", ")}`],
+    ["Next call", next && localText(next * 1000)], ["Waits", file.dataset],
+    ...(standing?.counters ?? []).filter(({ partner }) => partner === code).map((counter) => [
+      "Since the start", `${counted(counter.count, counter.kind === "session" ? "session" : "call")}: ${contactCounted(counter)?.words || "not reached"}`,
+    ]),
+  ];
   return item;
 }
 
@@ -537,6 +797,7 @@ function newestOf(outgoing) {
 // Makes the items of the station's replies, newest first.
 function takeLists(incoming, outgoing, responses) {
   const files = new Map(incoming.map((file) => [file.no, file]));
+  const sent = new Map(outgoing.map((file) => [file.no, file]));
   const issued = new Map(responses.issued.map((response) => [response.no, response]));
   const responseTo = responsesTo(responses.received);
   const newest = newestOf(outgoing);
@@ -547,11 +808,19 @@ function takeLists(incoming, outgoing, responses) {
   Object.assign(lists, {
     in: newestFirst(incoming.map((file) => incomingItem(file, issued.get(file.no)))),
     out: newestFirst(outgoing.map((file) => outgoingItem(file, responseTo(file), newest.get(file.destination).get(file.dataset)))),
-    received: newestFirst(responses.received.map(receivedItem)),
+    received: newestFirst(responses.received.map((response) => receivedItem(response, sent.get(response.file)))),
     issued: newestFirst(responses.issued.map((response) => issuedItem(response, files.get(response.no)))),
+    sessions: newestFirst(sessionItems()),
+    partners: partnerItems().sort((one, other) => (one.partner < other.partner ? -1 : 1)),
   });
-  partners = [...new Set(Object.values(lists).flat().map((item) => item.partner))].filter(Boolean).sort();
+  // A caller that wasn't let in may have claimed any code.
+  const known = Object.values(lists).flat().filter(({ state }) => state !== "rejected");
+  partners = [...new Set(known.map((item) => item.partner))].filter(Boolean).sort();
   byId("code").textContent = plain(outgoing.at(-1)?.originator ?? incoming.at(-1)?.destination ?? "");
+}
+
+function isOfSession({ event }) {
+  return ["session ended", "not reached", "not let in"].includes(event);
 }
 
 function newestFirst(items) {
@@ -569,11 +838,30 @@ const choice = { view: "in", partner: "", name: "", state: "", since: "", until:
 const FILTERS = ["partner", "name", "state", "since", "until"];
 // The order of a list unless somebody chooses another one: newest first. A minus is before the column whose greatest comes first.
 const NEWEST = "-no";
+// That of the partners.
+const BY_PARTNER = "partner";
 // The columns whose greatest comes first once somebody sorts by them.
-const FROM_GREATEST = ["no", "when", "size", "file"];
+const FROM_GREATEST = ["no", "when", "changed", "size", "file"];
 let mostRows = ROWS;
+
+// The order of the chosen list.
+function orderNow() {
+  return choice.sort || (choice.view === "partners" ? BY_PARTNER : NEWEST);
+}
 // The items whose details are open, by their list and number.
 const opened = new Set();
+
+// Whether there is such a list. Sessions are told by events alone, and partners by whatever the station tells of itself.
+function isShown(view) {
+  const isTold = { sessions: events !== null, partners: events !== null || standing !== null };
+  return Object.hasOwn(VIEWS, view) && (isTold[view] ?? true);
+}
+
+// The columns of a list, with their headings.
+function columnsOf(view) {
+  const { state, ...others } = VIEWS[view].columns;
+  return { ...others, ...(events && OF_FILES.includes(view) ? CHANGED : {}), state };
+}
 
 function byId(id) {
   return document.getElementById(id);
@@ -588,9 +876,9 @@ function readChoice() {
   for (const key of Object.keys(choice)) {
     choice[key] = given.get(key) ?? "";
   }
-  choice.view = Object.hasOwn(VIEWS, choice.view) ? choice.view : "in";
+  choice.view = isShown(choice.view) ? choice.view : "in";
   choice.state = Object.hasOwn(STATES[choice.view], choice.state) ? choice.state : "";
-  choice.sort = Object.hasOwn(VIEWS[choice.view].columns, choice.sort.replace(/^-/, "")) ? choice.sort : "";
+  choice.sort = Object.hasOwn(columnsOf(choice.view), choice.sort.replace(/^-/, "")) ? choice.sort : "";
   for (const key of ["since", "until"]) {
     choice[key] = /^\d{4}-\d\d-\d\d$/.test(choice[key]) ? choice[key] : "";
   }
@@ -611,13 +899,13 @@ function choose(changes) {
   scrollBy(0, Math.min(byId("list").getBoundingClientRect().top, 0));
 }
 
-// Whether an item has the chosen partner, name and day, in any state.
+// Whether an item has the chosen partner, name and day, in any state. Its days are that of its stamp, and those of its changes.
 function isChosen() {
   const { partner, since, until } = choice;
   const name = choice.name.trim().toLowerCase();
   const isOfDay = (day) => day !== "" && day >= since && (!until || day <= until);
-  const isNamed = ({ file, no }) => soughtIn(file).includes(name) || String(no) === name;
-  return (item) => (!partner || item.partner === partner) && ((!since && !until) || isOfDay(dayOf(item))) && (!name || isNamed(item));
+  const isNamed = ({ file, number }) => soughtIn(file).includes(name) || number === name;
+  return (item) => (!partner || item.partner === partner) && ((!since && !until) || daysOf(item).some(isOfDay)) && (!name || isNamed(item));
 }
 
 // The text that the name filter searches, by the file. It is made once, since a list may have many long ones.
@@ -630,9 +918,9 @@ function soughtIn(file) {
   return sought.get(file);
 }
 
-// The day of an item's stamp as it is shown, which is empty if it is no date.
-function dayOf({ view, file, moment }) {
-  return moment === null ? "" : stampText(view, file, moment).slice(0, 10);
+// The day of an item's stamp as it is shown, which is empty if it is no date, and those of its changes.
+function daysOf({ view, file, moment, changes }) {
+  return [moment === null ? "" : stampText(view, file, moment).slice(0, 10), ...changes.map(({ at }) => localText(at).slice(0, 10))];
 }
 
 // The items in a state.
@@ -646,6 +934,7 @@ const SORTED_BY = {
   partner: ({ partner }) => partner,
   name: ({ file }) => file.dataset,
   when: ({ file }) => file.date + file.time,
+  changed: ({ changes }) => changes.at(-1)?.at ?? 0,
   size: ({ file }) => file.units,
   file: ({ response }) => response.file,
   state: (item) => Object.keys(STATES[item.view]).indexOf(item.state),
@@ -653,7 +942,7 @@ const SORTED_BY = {
 
 // The items, which are newest first, in the chosen order. Where two are equal, the newer one stays before the other.
 function sorted(items) {
-  const sort = choice.sort || NEWEST;
+  const sort = orderNow();
   if (sort === NEWEST) {
     return items;
   }
@@ -735,12 +1024,15 @@ function sizeText(units) {
 
 function exactSize(file) {
   const form = Object.hasOwn(FORMATS, file.format) ? FORMATS[file.format] : plain(file.format);
-  const rows = file.format === "F" || file.format === "V" ? `${rowsOf(file)}, ` : "";
-  return `${counted(file.units, "byte")}, ${rows}${form}`;
+  const rows = file.format === "F" || file.format === "V" ? rowsOf(file) : "";
+  return [counted(file.units, "byte"), rows, form].filter(Boolean).join(", ");
 }
 
-// Why a file was refused or returned.
-function reasonOf({ state, file, response }) {
+// Why a file was refused or returned, or how a session ended.
+function reasonOf({ state, file, response, told }) {
+  if (told) {
+    return shortened(told);
+  }
   if (response?.kind === "NERP" && state !== "delivered") {
     return reasonText(response.reason, NEGATIVE_REASONS);
   }
@@ -800,14 +1092,16 @@ function dutyOf(item) {
 
 // All that is known of an item, as pairs of a name and a text.
 function factsOf(item) {
-  const { view, no, file, response, state } = item;
+  const { file, response, state } = item;
+  if (item.facts) {
+    return item.facts.filter(([, text]) => text);
+  }
   const part = state.startsWith("partly") ? `${numbers.format(file.mark)} of ${rowsOf(file)}` : "";
-  const changes = events.changesOf(view, no) ?? [];
   return [
     ["Name", file.dataset], ["Description", file.description], ["From", file.originator ?? file.from], ["To", file.destination],
     ["Stamp", stampFact(item)], ["Size", file.units === undefined ? "" : exactSize(file)], ["Acknowledged", part],
     ["Reason", reasonOf(item)], ["Text", response?.note], ["Created by", response?.creator],
-    ...changes.map(({ at, words }) => [localText(at), words]),
+    ...item.changes.map((event) => [localText(event.at), wordsOf(event)]),
   ].filter(([, text]) => text);
 }
 
@@ -817,16 +1111,24 @@ function detailsOf(item) {
 
 function openerOf(item) {
   const isOpen = opened.has(keyOf(item));
-  const button = buttonOf("open", isOpen ? "▾" : "▸", `Details of ${item.no}`);
+  const button = buttonOf("open", isOpen ? "▾" : "▸", `Details of ${item.number}`);
   button.setAttribute("aria-expanded", isOpen);
   return button;
 }
 
 // An item's number. On a card there is no heading above it.
-function numberOf({ view, no }) {
-  const number = make("span", "number", String(no));
-  number.dataset.head = VIEWS[view].columns.no;
-  return number;
+function numberOf({ view, number }) {
+  const shown = make("span", "number", number);
+  shown.dataset.head = VIEWS[view].columns.no;
+  return shown;
+}
+
+// When an item changed last. Its title has all changes.
+function changeOf({ changes }) {
+  const shown = make("bdi", "", changes.length ? shortText(changes.at(-1).at) : "–");
+  shown.dataset.head = CHANGED.changed;
+  const all = changes.map((event) => `${localText(event.at)} ${wordsOf(event)}`);
+  return titled(shown, all.length ? all.map(plain).join("\n") : "No event tells it");
 }
 
 // The content of each column in an item's row.
@@ -835,6 +1137,7 @@ const CELLS = {
   partner: ({ partner }) => [textOf(partner, "few")],
   name: ({ file }) => [make("div", "", textOf(file.dataset, "few"), file.description ? textOf(file.description, "about cut") : null)],
   when: (item) => [titled(textOf(stampText(item.view, item.file, item.moment), ""), plain(stampFact(item)))],
+  changed: (item) => [changeOf(item)],
   size: ({ file }) => [titled(make("span", "", sizeText(file.units)), exactSize(file))],
   file: ({ response }) => [response.file ? `File ${response.file}` : "None here"],
   state: (item) => {
@@ -844,7 +1147,7 @@ const CELLS = {
 };
 
 function rowOf(item) {
-  const row = make("tr", "", ...Object.entries(VIEWS[item.view].columns).map(([column, head]) => {
+  const row = make("tr", "", ...Object.keys(columnsOf(item.view)).map((column) => {
     const cell = make(column === "name" ? "th" : "td", column, ...CELLS[column](item));
     cell.setAttribute("role", column === "name" ? "rowheader" : "cell");
     return cell;
@@ -860,7 +1163,7 @@ function moreOf(item) {
     return null;
   }
   const cell = make("td", "", ...parts);
-  cell.colSpan = Object.keys(VIEWS[item.view].columns).length;
+  cell.colSpan = Object.keys(columnsOf(item.view)).length;
   cell.setAttribute("role", "cell");
   const row = make("tr", "more", cell);
   row.setAttribute("role", "row");
@@ -875,7 +1178,11 @@ function fillBody(body, item) {
 
 // All that an item's rows are made of.
 function printOf(item) {
-  return JSON.stringify([item.state, item.partner, item.file, item.response, detailOf(item), opened.has(keyOf(item)), commandFor(item)]);
+  const isOpen = opened.has(keyOf(item));
+  const columns = Object.keys(columnsOf(item.view)).map((column) => (column === "changed" ? changeOf(item).textContent : column));
+  return JSON.stringify([
+    item.state, item.partner, item.file, item.response, detailOf(item), commandFor(item), columns, item.changes.length, isOpen && factsOf(item),
+  ]);
 }
 
 // Draws the rows of the items, those of each in a body of its own. A body whose content is unchanged is kept, so nothing flickers.
@@ -921,14 +1228,16 @@ function newBody(item) {
 }
 
 function drawHead(table) {
-  const [sort, isOther] = [choice.sort || NEWEST, table.dataset.view !== choice.view];
+  const columns = Object.entries(columnsOf(choice.view));
+  const [sort, isOther] = [orderNow(), table.dataset.view !== choice.view || table.tHead.firstChild?.children.length !== columns.length];
   if (!isOther && table.dataset.sort === sort) {
     return;
   }
   const used = table.tHead.contains(document.activeElement) ? document.activeElement.dataset.column : null;
   const view = VIEWS[choice.view];
-  const row = make("tr", "", ...Object.entries(view.columns).map(([column, head]) => headOf(column, head, sort)));
+  const row = make("tr", "", ...columns.map(([column, head]) => headOf(column, head, sort)));
   row.setAttribute("role", "row");
+  table.className = `of_${choice.view}${Object.hasOwn(columnsOf(choice.view), "changed") ? " has_changes" : ""}`;
   table.caption.textContent = view.caption;
   table.tHead.replaceChildren(row);
   table.tHead.querySelector(`[data-column="${used}"]`)?.focus({ preventScroll: true });
@@ -957,7 +1266,7 @@ function headOf(column, head, sort) {
 function drawTodo() {
   const tiles = [];
   let all = 0;
-  for (const view of ["in", "out"]) {
+  for (const view of ["in", "out", "partners"]) {
     for (const state of Object.keys(STATES[view]).filter((it) => STATES[view][it].sums)) {
       const found = inState(view, state);
       all += found.length;
@@ -967,12 +1276,33 @@ function drawTodo() {
     }
   }
   replaceIfOther(byId("todo"), tiles);
+  setText(byId("idle"), isAllLookedAt() ? NOTHING : IDLE);
   byId("idle").hidden = all > 0;
   const title = `${all ? `(${all}) ` : ""}OFTP2 station ${byId("code").textContent}`.trim();
   if (updatedAt && title !== document.title) {
-    say(all ? `To do: ${counted(all, "file")}.` : byId("idle").textContent);
+    say(all ? `To do: ${toDoText(all)}.` : byId("idle").textContent);
   }
   document.title = title;
+}
+
+// How many files and partners need somebody.
+function toDoText(all) {
+  const count = lists.partners.filter(needsSomebody).length;
+  return [[all - count, "file"], [count, "partner"]].filter(([it]) => it).map(([it, noun]) => counted(it, noun)).join(", ");
+}
+
+// What is said where nobody is needed, and where the page has looked at all that could need somebody.
+const IDLE = "No file needs anybody, by its state and its age.";
+const NOTHING = "Nothing to do: no file, no response and no partner needs anybody.";
+
+function isAllLookedAt() {
+  return standing !== null && events !== null && !undatedItems().length;
+}
+
+// The items that would be late at some age, and of which nothing tells any.
+function undatedItems() {
+  const isOfAge = ({ state }) => Object.hasOwn(LATE_AFTER, state) && (events !== null || !BY_EVENTS.includes(state));
+  return ["in", "out"].flatMap((view) => lists[view].filter((item) => isOfAge(item) && item.age === null));
 }
 
 function tileOf(view, state, found) {
@@ -996,24 +1326,26 @@ function commonReason(found) {
 
 function drawRules() {
   const rules = [...new Set(Object.values(LATE_AFTER))].map((bound) => {
-    const states = Object.keys(LATE_IF).filter((state) => LATE_AFTER[state] === bound);
+    const states = Object.keys(LATE_IF).filter((state) => LATE_AFTER[state] === bound && (events || !BY_EVENTS.includes(state)));
     const seen = states.includes("closing") ? ` (or ${spanOf(CLOSING_SEEN)} seen here)` : "";
     return `${states.map((state) => LATE_IF[state]).join(", ")} after ${spanOf(bound)}${seen}`;
   });
-  setText(byId("rules"), `Late, by a file's stamp read as UTC: ${rules.join("; ")}.`);
+  const by = events ? "by its events, or where they don't tell by a file's stamp read as UTC" : "by a file's stamp read as UTC";
+  setText(byId("rules"), `Late, ${by}: ${rules.join("; ")}.`);
 }
 
 // What "no file needs anybody" doesn't speak of.
 function drawUnlooked() {
   const parts = [];
-  if (!partners.length || partners.some((partner) => events.lastContactWith(partner) === null)) {
-    parts.push("Not looked at: whether partners are reached, and for how long responses wait to be sent. The journal has how each session ended. ");
+  const missing = [standing ? "" : "whether partners are reached", events ? "" : "for how long responses wait to be sent"].filter(Boolean);
+  if (missing.length) {
+    parts.push(`Not looked at: ${missing.join(", and ")}. The journal has how each session ended. `);
   }
-  const undated = ["in", "out"].flatMap((view) => lists[view].filter((item) => Object.hasOwn(LATE_AFTER, item.state) && item.age === null));
+  const undated = undatedItems();
   if (undated.length) {
     const links = undated.slice(0, NAMED).flatMap(({ view, no }) => [linkOf({ view, name: no }, `${VIEWS[view].title.toLowerCase()} ${no}`), ", "]);
     const rest = undated.length > NAMED ? ` and ${numbers.format(undated.length - NAMED)} more` : "";
-    parts.push("Not looked at, since the stamp tells no age: ", ...links.slice(0, -1), `${rest}. `);
+    parts.push(`Not looked at, since ${events ? "neither events nor the stamp tell an" : "the stamp tells no"} age: `, ...links.slice(0, -1), `${rest}. `);
   }
   const again = [...new Set(Object.values(AGAIN))].flatMap((state) => {
     const count = inState("out", state).length;
@@ -1026,7 +1358,7 @@ function drawUnlooked() {
 }
 
 function drawViews(isOfFilter) {
-  replaceIfOther(byId("views"), Object.entries(VIEWS).map(([view, { title }]) => {
+  replaceIfOther(byId("views"), Object.entries(VIEWS).filter(([view]) => isShown(view)).map(([view, { title }]) => {
     const count = lists[view].filter(isOfFilter).length;
     const link = linkOf({ ...choice, view, state: "" }, title, " ", make("span", "count", numbers.format(count)));
     if (view === choice.view) {
@@ -1052,8 +1384,8 @@ function drawFilter() {
   setOptions(byId("partner"), [["", "All partners"], ...shown.map((partner) => [partner, plain(partner)])], choice.partner);
   const states = Object.entries(STATES[choice.view]).map(([state, { words }]) => [state, words]);
   setOptions(byId("state"), [["", "All states"], ...states], choice.state);
-  const orders = Object.entries(VIEWS[choice.view].columns).flatMap(([column, head]) => [[`-${column}`, `${head} ↓`], [column, `${head} ↑`]]);
-  setOptions(byId("sort"), orders, choice.sort || NEWEST);
+  const orders = Object.entries(columnsOf(choice.view)).flatMap(([column, head]) => [[`-${column}`, `${head} ↓`], [column, `${head} ↑`]]);
+  setOptions(byId("sort"), orders, orderNow());
   for (const key of ["name", "since", "until"]) {
     if (byId(key).value !== choice[key]) {
       byId(key).value = choice[key];
@@ -1085,10 +1417,19 @@ function draw() {
   const part = found.length === all.length ? "" : `${numbers.format(found.length)} of `;
   setText(byId("heading"), caption);
   setText(byId("shown"), part + counted(all.length, noun));
-  setText(byId("stamps"), stamps === OURS ? `Stamps are read as UTC, and shown in your zone, ${zoneText()}.` : "Stamps are shown as the sender wrote them. They tell no zone.");
+  setText(byId("stamps"), stampsTold(stamps));
   setText(byId("none"), all.length ? "Nothing here fits the filter." : none);
   byId("none").hidden = found.length > 0;
   byId("next").hidden = found.length <= mostRows;
+}
+
+function stampsTold(stamps) {
+  const zone = `in your zone, ${zoneText()}`;
+  const told = {
+    [OURS]: `Stamps are read as UTC, and shown ${zone}.`, [OWN_TIMES]: `Times are shown ${zone}.`,
+    [SENDERS]: `Stamps are shown as the sender wrote them. They tell no zone.${events ? ` Changes are shown ${zone}.` : ""}`,
+  };
+  return told[stamps];
 }
 
 // Sets a text only if it differs, so that a screen reader doesn't read it again.
@@ -1120,13 +1461,16 @@ let updatedAt = null;
 let timer = null;
 let isRenewing = false;
 
-// The station's reply for a list. A reply equal to the last one isn't parsed again.
+// What not every station tells, and how it is read.
+const TOLD = { status: JSON.parse, events: eventsIn };
+
+// The station's reply at a path, or null where it tells no such thing. A reply equal to the last one isn't parsed again.
 async function ask(path) {
   const text = await textAt(path);
   if (answers.get(path)?.text !== text) {
-    answers.set(path, { text, value: JSON.parse(text) });
+    answers.set(path, { text, value: text === null ? null : (TOLD[path] ?? JSON.parse)(text) });
   }
-  return answers.get(path).value;
+  return answers.get(path)?.value ?? null;
 }
 
 async function textAt(path) {
@@ -1135,6 +1479,9 @@ async function textAt(path) {
     reply = await fetch(path, { cache: "no-store", credentials: "omit", redirect: "error", signal: AbortSignal.timeout(PATIENCE) });
     if (reply.ok) {
       return await reply.text();
+    }
+    if (reply.status === 404 && Object.hasOwn(TOLD, path)) {
+      return null;
     }
   } catch (fault) {
     throw new Trouble(fault.name === "TimeoutError" ? `it didn't answer within ${PATIENCE / 1000} seconds` : "it can't be reached");
@@ -1145,7 +1492,8 @@ async function textAt(path) {
 // Why the station gave no reply.
 class Trouble extends Error {}
 
-// The responses are asked for last, so that they include the response of each file that has one. The page changes only if all replies came.
+// The responses are asked for behind the files, so that they include the response of each file that has one, and the events last, so that they
+// tell what the lists have. The page changes only if all replies came.
 async function renew() {
   if (isRenewing) {
     return;
@@ -1153,16 +1501,28 @@ async function renew() {
   isRenewing = true;
   clearTimeout(timer);
   const begun = performance.now();
+  const before = { standing, events };
   try {
-    takeLists(await ask("in"), await ask("out"), await ask("responses"));
+    const told = [await ask("in"), await ask("out"), await ask("responses")];
+    const [stands, happened] = [await ask("status"), await ask("events")];
+    standing = stands;
+    takeEvents(happened);
+    takeLists(...told);
     byId("main").hidden = false;
     byId("trouble").hidden = true;
+    if (!updatedAt || !isShown(choice.view)) {
+      readChoice();
+    }
+    drawRules();
     drawTodo();
     drawUnlooked();
     draw();
     updatedAt = new Date();
     byId("updated").textContent = `Updated ${clockOf(updatedAt)}, ${zoneText()}`;
   } catch (fault) {
+    // What is shown stays, and so does what it was made of.
+    standing = before.standing;
+    takeEvents(before.events);
     tellTrouble(fault instanceof Trouble ? fault.message : "its answer isn't what it should be");
   }
   isRenewing = false;
@@ -1231,7 +1591,7 @@ byId("skip").addEventListener("click", (event) => {
 
 function sortBy(column) {
   const [up, down] = [column, `-${column}`];
-  const now = choice.sort || NEWEST;
+  const now = orderNow();
   const [first, second] = FROM_GREATEST.includes(column) ? [down, up] : [up, down];
   choose({ sort: now === first ? second : first });
 }
@@ -1287,8 +1647,6 @@ addEventListener("hashchange", () => {
 });
 document.addEventListener("visibilitychange", () => document.hidden || renew());
 readPaths();
-readChoice();
-drawRules();
 renew();
 </script>
 </body>

@@ -7,13 +7,14 @@ use Rattle.oftp_listing.specs.declared.query.Method.TheVariants.{Get}
 use Rattle.oftp_listing.specs.declared.query.Query.{Query}
 use Rattle.oftp_listing.specs.declared.query.Query.TheVariants.{Register}
 use Rattle.oftp_requests.specs.declared.sought.Sought.{Sought}
-use Rattle.oftp_requests.specs.declared.sought.Sought.TheVariants.{Status, Metrics, Told, Verdict}
+use Rattle.oftp_requests.specs.declared.sought.Sought.TheVariants.{Status, Metrics, Events, Told, Verdict}
 
 -- the target in the first line of a head
 abbrev pub sought_at : List ℕ → Option Sought
 sought_at head =
     if starts_with nat_eq head (codes "GET /status ") then Some Status
     else if starts_with nat_eq head (codes "GET /metrics ") then Some Metrics
+    else if starts_with nat_eq head (codes "GET /events ") then Some Events
     else None
 
 -- only a request for no route of the register asks for it

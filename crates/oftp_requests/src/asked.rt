@@ -5,7 +5,7 @@ use crate::judging::{asking_of, signal_of};
 use crate::made::Made;
 use crate::resending::{Again, resend};
 use crate::sought::{Sought, sought_of};
-use oftp_channel::{Ending, Haste, Request, Tracing, read_request};
+use oftp_channel::{Ending, Haste, Request, Tracing, fits, read_request, write_request};
 use oftp_engine::{Port, Refusal};
 use oftp_files::book_of;
 use oftp_life::Life;
@@ -80,6 +80,20 @@ impl Asked {
     /// The request.
     fn request(&self) -> Option<Request<'_>> {
         Request::of(self.words.as_slice())
+    }
+
+    /// Its octets, as they came.
+    ///
+    /// # Errors
+    /// [`Fault::MEMORY`].
+    pub fn octets(&self, alloc: Global) -> Result<Vec<u8>, Fault> {
+        let mut out = Port::new(Vec::new(alloc), 0);
+        match self.request() {
+            Some(request) if fits(&request) && write_request(&mut out, &request) => {
+                Ok(out.into_inner())
+            }
+            _ => Err(Fault::MEMORY),
+        }
     }
 
     /// What it asks of the station itself, if it does.

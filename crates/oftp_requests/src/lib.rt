@@ -11,6 +11,7 @@ mod ended;
 mod entries;
 mod fetched;
 mod judging;
+mod lines;
 mod listed;
 mod made;
 mod outgoing;
@@ -33,8 +34,10 @@ pub use judging::{
     Closing, closing_of, declined, ended_for, farewell_of, goes_on, last_status, office_within,
     result_at, result_of, told_reason, told_status, trouble_of,
 };
+pub use lines::line_of_answer;
 pub use made::{Made, stopping};
+pub use outgoing::write_outgoing;
 pub use pacing::Pace;
 pub use resending::{Again, resend};
 pub use sought::{Sought, sought_by};
-pub use standings::{Counting, Whose, counted_as, files_in};
+pub use standings::{Counting, Whose, counted_as, files_in, standing_in, standing_out};

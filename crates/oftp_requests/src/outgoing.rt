@@ -15,7 +15,7 @@ const WINDOW: u64 = 64;
 ///
 /// # Errors
 /// [`Fault::Run`] if the office failed, or `out` returned an error; [`Fault::MEMORY`]. A beginning of the file is written then.
-pub(crate) fn write_outgoing<O: Office, W: Write>(
+pub fn write_outgoing<O: Office, W: Write>(
     alloc: Global,
     office: &mut O,
     no: u64,

@@ -14,6 +14,8 @@ pub enum Sought {
     Status,
     /// The same in Prometheus' text form.
     Metrics,
+    /// The reply with the last events.
+    Events,
     /// The answer to a command that tells how it stands.
     Told(Form),
     /// The verdict on it by these limits.
@@ -28,6 +30,8 @@ fn sought_at(head: &[u8]) -> Option<Sought>
         Some(Sought::Status)
     } else if head.starts_with(b"GET /metrics ") {
         Some(Sought::Metrics)
+    } else if head.starts_with(b"GET /events ") {
+        Some(Sought::Events)
     } else {
         None
     }

@@ -13,7 +13,7 @@ use oftp_wire::Count;
 use std::alloc::{AllocError, Global};
 
 /// How an incoming file stands.
-pub(crate) fn standing_in(entry: &IncomingEntry) -> Standing
+pub fn standing_in(entry: &IncomingEntry) -> Standing
     ensures { result ≡ standing_in entry.now }
 {
     match (entry.state, &entry.response) {
@@ -27,7 +27,7 @@ pub(crate) fn standing_in(entry: &IncomingEntry) -> Standing
 }
 
 /// How an outgoing file in this state stands.
-pub(crate) fn standing_out(state: OutgoingState) -> Standing
+pub fn standing_out(state: OutgoingState) -> Standing
     ensures { result ≡ standing_out state }
 {
     match state {

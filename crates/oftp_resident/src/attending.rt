@@ -109,6 +109,10 @@ impl Peer<'_> {
     /// Judges the next octets of a partner that isn't let in yet.
     fn judge_opening(&mut self, alloc: Global) -> Option<Signal> {
         let piece = self.take_heard(alloc);
+        if let Err(fault) = self.record_later(piece.as_slice()) {
+            self.note(Err(Trouble::OfService(fault)));
+            return Some(Signal::Lost);
+        }
         let Task::Caller(Some(opening)) = &mut self.task else {
             return None;
         };

@@ -138,6 +138,7 @@ impl<'a> Shell<'a> {
         let task = Task::Call(outgoing);
         let mut peer = Peer::new(alloc, id, task, Stream::absent(), Reading::Nothing);
         peer.code = Some(wanted.code);
+        peer.latest = self.latest;
         Some(peer)
     }
 
@@ -149,7 +150,7 @@ impl<'a> Shell<'a> {
     }
 
     /// The request of a command.
-    fn asked_by(&self, command: u64) -> Option<&Asked> {
+    pub(crate) fn asked_by(&self, command: u64) -> Option<&Asked> {
         match &self.peers.iter().find(|peer| peer.id == command)?.task {
             Task::Command(asked) => asked.as_ref(),
             _ => None,
@@ -162,8 +163,13 @@ impl<'a> Shell<'a> {
         let alloc = rt.alloc();
         let shared = self.station.trace;
         let events = self.config.events;
+        let is_shown = self.shows_call();
         if let Some(peer) = peer_in(&mut self.peers, id) {
-            peer.diary = Diary::wanted(alloc, events);
+            peer.diary = if is_shown {
+                Some(Diary::new(alloc))
+            } else {
+                Diary::wanted(alloc, events)
+            };
             peer.trace = match peer.call() {
                 Some(call) if call.tracing == Tracing::Kept => {
                     Some(SessionTrace::new(alloc, Lines::Own(Trace::kept(rt))))

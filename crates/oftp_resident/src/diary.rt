@@ -1,6 +1,6 @@
 //! What the events of a connection tell: its session, and the files on their way in it.
 
-use oftp_files::{EventFile, Follower};
+use oftp_files::{EventFile, Follower, UnderWay};
 use oftp_watching::{Moment, Talk};
 use std::alloc::Global;
 
@@ -18,7 +18,7 @@ pub(crate) struct Diary {
 
 impl Diary {
     /// That of a connection on which nothing was said.
-    fn new(alloc: Global) -> Diary {
+    pub(crate) fn new(alloc: Global) -> Diary {
         Diary {
             follower: Follower::new(alloc),
             talk: None,
@@ -72,6 +72,11 @@ impl Diary {
     /// What the end of its session tells of a file.
     pub(crate) fn end(&mut self) -> Option<Moment> {
         self.follower.end()
+    }
+
+    /// The file that is on its way.
+    pub(crate) fn under_way(&self) -> Option<&UnderWay> {
+        self.follower.under_way.as_ref()
     }
 
     /// The code that the partner claimed.

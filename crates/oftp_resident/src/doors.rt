@@ -3,6 +3,7 @@
 use crate::calls::shared_trace;
 use crate::diary::Diary;
 use crate::peer::{Peer, Reading, Task};
+use crate::recording::Recorded;
 use crate::service::{ServiceConfig, Shell};
 use crate::stream::Stream;
 use crate::watch::Source;
@@ -128,6 +129,10 @@ impl<'a> Shell<'a> {
         let mut peer = Peer::new(alloc, id, task, stream, Reading::Opening);
         peer.trace = shared_trace(alloc, self.station.trace);
         peer.diary = Diary::wanted(alloc, self.config.events);
+        peer.latest = self.latest;
+        if self.config.recorder.is_some() {
+            peer.recorded = Recorded::Later(Vec::new(alloc));
+        }
         if has_failed || peer.say(greeting).is_err() {
             peer.note(Err(Trouble::OfService(Fault::MEMORY)));
         }

@@ -9,12 +9,14 @@ mod doors;
 mod home;
 mod kept;
 mod peer;
+mod recording;
 mod requests;
 mod service;
 mod session_lines;
 mod sessions;
 mod status;
 mod stream;
+mod tail;
 mod telling;
 mod watch;
 

@@ -2,6 +2,7 @@
 
 use crate::dialing::Outgoing;
 use crate::diary::Diary;
+use crate::recording::Recorded;
 use crate::stream::Stream;
 use oftp_engine::{End, RunFault};
 use oftp_files::SessionTrace;
@@ -107,6 +108,10 @@ pub(crate) struct Peer<'a> {
     pub(crate) trace: Option<SessionTrace<'a>>,
     /// What its events tell, where events are written.
     pub(crate) diary: Option<Diary>,
+    /// What the record has of it.
+    pub(crate) recorded: Recorded,
+    /// The octets of the book by which it is served, if that was read since the service began.
+    pub(crate) latest: &'a [u8],
 }
 
 impl<'a> Peer<'a> {
@@ -138,6 +143,8 @@ impl<'a> Peer<'a> {
             ended: None,
             trace: None,
             diary: None,
+            recorded: Recorded::Nothing,
+            latest: &[],
         }
     }
 
@@ -326,6 +333,7 @@ impl<'a> Peer<'a> {
         self.is_ended = false;
         self.ended = None;
         self.trace = None;
+        self.recorded = Recorded::Nothing;
     }
 
     /// The call that it is.

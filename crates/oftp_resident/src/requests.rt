@@ -13,8 +13,8 @@ use oftp_page::PAGE;
 use oftp_partners::Book;
 use oftp_register::Office;
 use oftp_requests::{
-    Asked, Made, Order, bare_answer, codes_of, copy_let, declined, office_within, overdues_of,
-    stopping, told_status,
+    Asked, Made, Order, Sought, bare_answer, codes_of, copy_let, declined, office_within,
+    overdues_of, stopping, told_status,
 };
 use oftp_schedule::connection::{Event, Reason, Signal};
 use oftp_sockets::Keeper;
@@ -37,7 +37,10 @@ impl<'a> Shell<'a> {
             return self.take_answer(id, Made::nothing(alloc));
         };
         if let Some(sought) = peer.sought {
-            let made = self.made_of_station(id, sought, home, keeper);
+            let made = match sought {
+                Sought::Events => self.made_of_events(),
+                sought => self.made_of_station(id, sought, home, keeper),
+            };
             return self.take_answer(id, made);
         }
         if let Some(made) = peer.look_nowhere(alloc) {
@@ -64,10 +67,12 @@ impl<'a> Shell<'a> {
         let rt = self.rt;
         let alloc = rt.alloc();
         let opened = home.open(rt, keeper);
+        self.record_call(id)?;
         let made = match peer_in(&mut self.peers, id) {
             Some(peer) => peer.change(alloc, home),
             None => Made::nothing(alloc),
         };
+        self.record_answer(id, &made)?;
         self.take_answer(id, made)?;
         self.settle_opening(opened)
     }
@@ -110,7 +115,7 @@ impl<'a> Shell<'a> {
             return Err(Fault::Socket);
         };
         let (octets, book) = read_regular_book(self.rt, shelf.path)?;
-        if octets.as_slice() != self.latest.as_slice() {
+        if octets.as_slice() != self.latest {
             self.take_limits(shelf, octets.as_slice())?;
             self.take_book(shelf, octets, book)?;
         }
@@ -131,10 +136,11 @@ impl<'a> Shell<'a> {
         let codes = codes_of(alloc, octets.as_slice())?;
         let paces = paces_of(alloc, codes.as_slice())?;
         let codes = shelf.room.try_alloc(codes)?;
+        let octets = shelf.room.try_alloc(octets)?;
         self.station.book = shelf.room.try_alloc(book)?;
         self.config.codes = codes.as_slice();
         self.paces = paces;
-        self.latest = octets;
+        self.latest = octets.as_slice();
         Ok(())
     }
 

@@ -12,6 +12,8 @@ use oftp_files::EventFile;
 use oftp_life::Life;
 use oftp_listing::Site;
 use oftp_outcomes::{Fault, Term};
+use oftp_progress::Gauge;
+use oftp_recording::Recorder;
 use oftp_register::Office;
 use oftp_requests::{Closing, Pace, PartnerLimit, closing_of, last_status, result_at};
 use oftp_schedule::connection::{Action, Counted, Event, Limits, Signal, Status};
@@ -85,6 +87,10 @@ pub struct ServiceConfig<'a> {
     pub jobs: u64,
     /// The file to which its events are appended, if there is one.
     pub events: Option<&'a EventFile<'a>>,
+    /// The path of that file, if requests over HTTP are told its last events.
+    pub told: Option<&'a str>,
+    /// The record of its sessions and of the operators' calls, if there is one.
+    pub recorder: Option<&'a Recorder<'a>>,
 }
 
 /// A running service.
@@ -100,7 +106,7 @@ pub(crate) struct Shell<'a> {
     // How the clock stands with each partner of the list.
     pub(crate) paces: Vec<Pace>,
     // The octets of the book that it has read since it began, if it has.
-    pub(crate) latest: Vec<u8>,
+    pub(crate) latest: &'a [u8],
     // Whether it was told to end, and how.
     pub(crate) stop: Option<Haste>,
     /// How many sessions have begun.
@@ -114,6 +120,8 @@ pub(crate) struct Shell<'a> {
     pub(crate) counters: Tallies,
     /// How many events that couldn't be written are among that.
     pub(crate) lost: u64,
+    /// What shows how far its call came, if it only calls.
+    pub(crate) gauge: Option<Gauge<'a>>,
     // The error with which it ends, if there is one.
     fault: Option<Fault>,
 }
@@ -147,7 +155,7 @@ pub fn serve<O: Office + Drop>(
         watch,
         began,
         paces,
-        latest: Vec::new(alloc),
+        latest: &[],
         stop: None,
         sessions: 0,
         waiting: Vec::new(alloc),
@@ -155,6 +163,7 @@ pub fn serve<O: Office + Drop>(
         reviewed: since,
         counters: Tallies::new(alloc),
         lost: 0,
+        gauge: gauge_of(rt, config.start),
         fault: None,
     };
     reporter.begin()?;
@@ -168,6 +177,14 @@ pub fn serve<O: Office + Drop>(
 fn tell_program(config: &ServiceConfig<'_>, event: Happening) {
     if let (Start::Waiting, Some(events)) = (config.start, config.events) {
         events.tell_plain(event);
+    }
+}
+
+/// What shows how far the call of a service came that only calls.
+fn gauge_of(rt: &HostRuntime, start: Start) -> Option<Gauge<'_>> {
+    match start {
+        Start::Calling => Some(Gauge::new(rt)),
+        Start::Waiting => None,
     }
 }
 
@@ -267,6 +284,7 @@ impl<'a> Shell<'a> {
         if let Some(action) = action {
             self.carry_out(action, home, keeper, reporter)?;
             self.note_events(action, home.progress());
+            self.show_call();
         }
         self.tell_in_time(action.is_some(), home, keeper);
         self.give_back(home, keeper);

@@ -2,10 +2,12 @@
 
 use crate::home::Home;
 use crate::peer::{Came, Peer, Reading, Task};
+use crate::recording::{record_heard, record_said};
 use crate::service::{Shell, peer_in};
 use oftp_engine::{End, Role};
 use oftp_life::{Life, Stage};
 use oftp_outcomes::{Fault, Trouble, Way, plain};
+use oftp_recording::Recorder;
 use oftp_register::Office;
 use oftp_requests::{
     Pace, answer_of_call, ended_for, farewell_of, goes_on, result_of, told_reason, trouble_of,
@@ -23,6 +25,7 @@ impl<'a> Shell<'a> {
         keeper: &mut impl Keeper<Life<O>>,
     ) -> Result<(), Fault> {
         let rt = self.rt;
+        self.record_begin(id)?;
         if let Some(peer) = peer_in(&mut self.peers, id) {
             if let Some(trace) = &mut peer.trace {
                 trace.begin();
@@ -44,10 +47,12 @@ impl<'a> Shell<'a> {
         home: &mut Home<'_, O>,
     ) -> Result<(), Fault> {
         let alloc = self.rt.alloc();
+        let recorder = self.config.recorder;
         let mut count = 0;
         if let (Some(peer), Some(session)) = (peer_in(&mut self.peers, id), home.session()) {
             let piece = peer.take_heard(alloc);
             count = u32::try_from(piece.len()).unwrap_or(u32::MAX);
+            record_heard(recorder, id, piece.as_slice())?;
             let heard = session.hear(piece.as_slice());
             if let (Err(fault), Stage::Waits | Stage::Sends) = (heard, session.stage()) {
                 peer.note(Err(trouble_of(fault)));
@@ -64,11 +69,12 @@ impl<'a> Shell<'a> {
         heard: u32,
     ) -> Result<(), Fault> {
         let alloc = self.rt.alloc();
+        let recorder = self.config.recorder;
         let Some(peer) = peer_in(&mut self.peers, id) else {
             home.end();
             return self.tell(id, Signal::Ended(schedule::End::Other));
         };
-        let stage = peer.take_said(alloc, home);
+        let stage = peer.take_said(alloc, home, recorder)?;
         // What fails there is noted.
         let _ = peer.send();
         if goes_on(stage) && peer.ended.is_none() {
@@ -88,8 +94,10 @@ impl<'a> Shell<'a> {
         reporter: &mut impl Reporter,
     ) -> Result<(), Fault> {
         let reason = told_reason(self.stop, reason);
+        let alloc = self.rt.alloc();
+        let recorder = self.config.recorder;
         let told = match peer_in(&mut self.peers, id) {
-            Some(peer) => peer.report(reason, reporter),
+            Some(peer) => peer.report(alloc, reason, recorder, reporter),
             None => reporter.report(None, Way::In, ended_for(reason)),
         };
         if let Some(ended) = self.ended_of(id) {
@@ -153,18 +161,26 @@ impl<'a> Peer<'a> {
         }
     }
 
-    /// Takes what the session has said. Returns how it stands; `None` if there is none.
+    /// Takes what the session has said, and records it. Returns how it stands; `None` if there is none.
+    ///
+    /// # Errors
+    /// The record can't be written.
     fn take_said<O: Office + Drop>(
         &mut self,
         alloc: Global,
         home: &mut Home<'_, O>,
-    ) -> Option<Stage> {
-        let session = home.session()?;
+        recorder: Option<&Recorder<'_>>,
+    ) -> Result<Option<Stage>, Fault> {
+        let Some(session) = home.session() else {
+            return Ok(None);
+        };
         let said = session.take_out(alloc);
+        record_said(recorder, self.id, said.as_slice(), session.stage())?;
+        let stage = Some(session.stage());
         if let Err(fault) = self.say(said) {
             self.note(Err(Trouble::OfService(fault)));
         }
-        Some(session.stage())
+        Ok(stage)
     }
 
     /// What a step leaves that heard so many octets. A session that sends a file goes on without more octets.
@@ -195,9 +211,16 @@ impl<'a> Peer<'a> {
         }
     }
 
-    /// Reports its end, and appends that to its trace.
-    fn report(&mut self, reason: Reason, reporter: &mut impl Reporter) -> Result<(), Fault> {
+    /// Records and reports its end, and appends that to its trace.
+    fn report(
+        &mut self,
+        alloc: Global,
+        reason: Reason,
+        recorder: Option<&Recorder<'_>>,
+        reporter: &mut impl Reporter,
+    ) -> Result<(), Fault> {
         self.note(ended_for(reason));
+        self.record_end(alloc, recorder)?;
         let Some(ended) = self.ended else {
             return Ok(());
         };

@@ -18,6 +18,7 @@ use oftp_status::{
     Going, Limits, Media, Overdue, Partner, Picture, Subject, Tally, Terms, Way, metrics,
     reply_with, status_json, status_lines, verdict_on,
 };
+use oftp_waiting::share_of;
 use std::alloc::{AllocError, Global};
 use std::fs;
 use std::time::{SystemTime, UNIX_EPOCH};
@@ -152,6 +153,8 @@ impl Shell<'_> {
                 let text = metrics(alloc, picture)?;
                 reply_with(alloc, Media::Metrics, text.as_slice())
             }
+            // These aren't of a picture.
+            Sought::Events => Ok(Vec::new(alloc)),
             Sought::Told(Form::Json) => status_json(alloc, picture),
             Sought::Told(Form::Lines) => status_lines(alloc, picture),
             Sought::Verdict(limits) => self.verdict(alloc, picture, limits),
@@ -235,16 +238,29 @@ impl Shell<'_> {
             peer.reading == Reading::Session || peer.reading == Reading::Sending
         })?;
         let code = peer.code.as_ref()?;
+        let (dataset, share) = peer.under_way();
         Some(Going {
             partner: code.as_str(),
             way: way_of(peer.way()),
-            dataset: "",
-            share: 0,
+            dataset,
+            share,
         })
     }
 }
 
 impl Peer<'_> {
+    /// The dataset name of the file on its way in its session, and how many of a hundred parts came or went. They are known where events are
+    /// written; else the name is empty.
+    pub(crate) fn under_way(&self) -> (&str, u64) {
+        let Some(diary) = &self.diary else {
+            return ("", 0);
+        };
+        match diary.under_way() {
+            Some(file) => (file.dataset.as_str(), share_of(file.octets, file.blocks)),
+            None => ("", 0),
+        }
+    }
+
     /// Whether it is a command that has copied the database's files, and still waits for its answer. A copy that failed doesn't.
     fn has_copied(&self) -> bool {
         self.reading == Reading::Copy && !self.readiness.is_gone

@@ -8,6 +8,7 @@ use oftp_events::Direction;
 use oftp_files::{EventFile, Noted};
 use oftp_life::Life;
 use oftp_outcomes::{Fault, Outcome, Term};
+use oftp_progress::Extent;
 use oftp_register::Office;
 use oftp_schedule::connection::Action;
 use oftp_sockets::Keeper;
@@ -116,6 +117,31 @@ impl Shell<'_> {
         }
     }
 
+    /// Whether it shows how far its call came.
+    pub(crate) fn shows_call(&self) -> bool {
+        match &self.gauge {
+            Some(gauge) => gauge.shows(),
+            None => false,
+        }
+    }
+
+    /// Shows how far the file came that is on its way in the session of its call. What else happened to files is passed over unless events are
+    /// written.
+    pub(crate) fn show_call(&mut self) {
+        let Some(gauge) = &mut self.gauge else {
+            return;
+        };
+        for peer in self.peers.iter_mut() {
+            let (dataset, share) = peer.under_way();
+            if !dataset.is_empty() {
+                gauge.show(&Extent::Call { dataset, share });
+            }
+            if self.config.events.is_none() {
+                peer.forget();
+            }
+        }
+    }
+
     /// Writes the events that wait, unless something else is to be done first. A life that lasts for one job is still here then.
     pub(crate) fn tell_in_time<O: Office + Drop>(
         &mut self,
@@ -187,6 +213,13 @@ impl Peer<'_> {
             let _ = others.push(moment);
         }
         (diary.session(), others)
+    }
+
+    /// Passes over what became of its files.
+    fn forget(&mut self) {
+        if let Some(diary) = &mut self.diary {
+            let _ = diary.take();
+        }
     }
 
     /// Begins its session with this number. Returns the line of that.

@@ -84,6 +84,8 @@ fn idle_config<'a>(jobs: u64) -> ServiceConfig<'a> {
         counted: Counted::Jobs,
         jobs,
         events: None,
+        told: None,
+        recorder: None,
     }
 }
 

@@ -6,21 +6,12 @@ mod perform;
 mod sources;
 mod words;
 
-use oftp_notes::Screen;
 use oftp_outcomes::Output;
+use oftp_progress::screen_of;
 use perform::{perform, tell_unread};
-use std::io::{self, IsTerminal, LineWriter, Write};
+use std::io::{self, LineWriter, Write};
 use std::process::ExitCode;
 use words::words_of;
-
-/// What standard error is.
-fn screen_of(rt: &HostRuntime) -> Screen {
-    if rt.stderr().is_terminal() {
-        Screen::Terminal
-    } else {
-        Screen::Other
-    }
-}
 
 /// Carries out the command of the program's arguments. Returns the exit status.
 fn run(rt: &HostRuntime, err: &mut impl Write) -> io::Result<u8> {

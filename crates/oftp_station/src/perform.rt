@@ -3,13 +3,14 @@
 use crate::noted::Noted;
 use crate::sources::SOURCES;
 use crate::words::Words;
-use oftp_command_line::{Call, Line, LineFault, VERSION, help, line_of};
+use oftp_command_line::{Call, Explain, Line, LineFault, VERSION, help, line_of};
 use oftp_commands::{self as commands, Called};
-use oftp_files::{read_book, show};
+use oftp_files::{explain, read_book, show};
 use oftp_notes::Screen;
 use oftp_outcomes::{
     DONE, FAILED, Fault, Outcome, Output, Reader, is_told, status_after, status_where, write_line,
 };
+use oftp_replay::explain_record;
 use oftp_services as services;
 use std::io::{self, ErrorKind, Write};
 
@@ -146,10 +147,19 @@ fn carry_out_alone(
         Line::Collect(collect) => commands::collect(rt, collect, out),
         Line::Report(what) => commands::write_report(rt, what, out),
         Line::Audit(audit) => commands::audit(rt, audit, out),
+        Line::History(history) => commands::history(rt, history, out),
         Line::Status(status) => commands::status(rt, status, out),
         Line::Health(health) => commands::health(rt, health, out),
         Line::Settled { database } => commands::settled(rt, database, out),
         Line::Show { input } => Ok(status_where(show(rt, input, out)?)),
+        Line::Explain(Explain::Octets(input, output)) => {
+            Ok(status_where(explain(rt, input, *output, out)?))
+        }
+        Line::Explain(Explain::Recorded(folder, session)) => {
+            explain_record(rt, folder, *session, out)
+        }
+        Line::Replay(replay) => commands::replay(rt, replay, out),
+        Line::Evidence(evidence) => commands::evidence(rt, evidence, sum_of_sources(), out),
         Line::Run(run) => done(services::run(rt, run, out)),
         Line::Listen(listen) => done(services::listen(rt, listen, out, err)),
         Line::Http(http) => done(services::http(rt, http, out, err)),
@@ -197,6 +207,11 @@ fn print(text: &str, out: &mut impl Write) -> Result<u8, Fault> {
 fn print_version(out: &mut impl Write) -> Result<u8, Fault> {
     print(VERSION, out)?;
     print(SOURCES, out)
+}
+
+/// The sum of the sources that the program was built from.
+fn sum_of_sources() -> &'static str {
+    SOURCES.strip_prefix("sources ").unwrap_or(SOURCES)
 }
 
 /// Reads the book, and counts its partners.

@@ -2,4 +2,4 @@
 
 /// The SHA-256 of the sources, but of this file, as `checks/lint/version.py` computes it.
 pub const SOURCES: &str =
-    "sources b7e80b3de13233755edd9f214907242f692e135be1c2b1c35569547650d6413f";
+    "sources c11e1da57c87b1715af65066ac3b58ee8d74047ef5f511e2b9afc6c3f0fddffd";

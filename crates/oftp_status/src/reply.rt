@@ -13,6 +13,8 @@ pub enum Media {
     Json,
     /// Prometheus' text form.
     Metrics,
+    /// Lines of JSON.
+    Lines,
 }
 
 impl Media {
@@ -23,6 +25,7 @@ impl Media {
         match self {
             Media::Json => "application/json",
             Media::Metrics => "text/plain; version=0.0.4; charset=utf-8",
+            Media::Lines => "application/x-ndjson",
         }
     }
 }

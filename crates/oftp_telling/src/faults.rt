@@ -74,17 +74,17 @@ fn write_within<W: fmt::Write>(f: &mut fmt::Formatter<W>, octets: &[u8], most: u
     write_rest(f, octets.len().saturating_sub(most))
 }
 
-// Writes octets as text and in hexadecimal.
+/// Writes octets as text and in hexadecimal: the first [`MOST_TOLD`], and how many are left. Its error is the writer's.
 #[tactic(auto, unfolding(crate::specs::Lines::evidence_text))]
-fn write_evidence<W: fmt::Write>(f: &mut fmt::Formatter<W>, octets: &[u8]) -> fmt::Result
+pub fn write_evidence<W: fmt::Write>(f: &mut fmt::Formatter<W>, octets: &[u8]) -> fmt::Result
     ensures { DisplaysOnOk W.write_str_gives f.old result (Some (evidence_text octets.now)) f.new }
 {
     write_within(f, octets, MOST_TOLD)
 }
 
-// Writes what a field has, but not the password.
+/// Writes what a field has in a command, but not the password. Its error is the writer's.
 #[tactic(auto, unfolding(crate::specs::Lines::field_evidence))]
-fn write_field_evidence<W: fmt::Write>(
+pub fn write_field_evidence<W: fmt::Write>(
     f: &mut fmt::Formatter<W>,
     field: NamedField,
     frame: &[u8],
@@ -132,9 +132,9 @@ fn write_format<W: fmt::Write>(f: &mut fmt::Formatter<W>) -> fmt::Result
     write_or(f, b"T")
 }
 
-// Writes which octets a field may have.
+/// Writes which octets a field of this form may have. Its error is the writer's.
 #[tactic(auto, unfolding(crate::specs::Lines::rule_text))]
-fn write_rule<W: fmt::Write>(f: &mut fmt::Formatter<W>, form: FieldForm) -> fmt::Result
+pub fn write_rule<W: fmt::Write>(f: &mut fmt::Formatter<W>, form: FieldForm) -> fmt::Result
     ensures { DisplaysOnOk W.write_str_gives f.old result (Some (rule_text (form_seen form))) f.new }
 {
     match form {
@@ -161,9 +161,9 @@ fn write_section<W: fmt::Write>(f: &mut fmt::Formatter<W>, kind: CommandKind) ->
     write!(f, " (RFC 5024, section {})", kind.section())
 }
 
-// Writes where in a command a field is.
+/// Writes where in a command of this kind a field is. Its error is the writer's.
 #[tactic(auto, unfolding(crate::specs::Lines::spot_text))]
-fn write_field_spot<W: fmt::Write>(
+pub fn write_field_spot<W: fmt::Write>(
     f: &mut fmt::Formatter<W>,
     kind: CommandKind,
     field: NamedField,
@@ -179,9 +179,9 @@ fn write_field_spot<W: fmt::Write>(
     )
 }
 
-// Writes where in a command the last field ends.
+/// Writes where in a command of this kind the last field ends. Its error is the writer's.
 #[tactic(auto, unfolding(crate::specs::Lines::spot_text))]
-fn write_end_spot<W: fmt::Write>(
+pub fn write_end_spot<W: fmt::Write>(
     f: &mut fmt::Formatter<W>,
     kind: CommandKind,
     end: usize,

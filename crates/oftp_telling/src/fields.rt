@@ -71,7 +71,7 @@ impl FieldForm {
 }
 
 /// The octets from an offset on.
-pub(crate) fn rest_of(octets: &[u8], at: usize) -> &[u8]
+pub fn rest_of(octets: &[u8], at: usize) -> &[u8]
     ensures { result.now ≡ drop at octets.now }
 {
     match octets.get(at..) {
@@ -81,7 +81,7 @@ pub(crate) fn rest_of(octets: &[u8], at: usize) -> &[u8]
 }
 
 /// The first octets: at most so many, and no more than there are.
-pub(crate) fn front_of(octets: &[u8], len: usize) -> &[u8]
+pub fn front_of(octets: &[u8], len: usize) -> &[u8]
     ensures { result.now ≡ take len octets.now }
 {
     if octets.len() < len {
@@ -92,7 +92,7 @@ pub(crate) fn front_of(octets: &[u8], len: usize) -> &[u8]
 }
 
 /// The octets from an offset on: at most so many, and no more than there are.
-pub(crate) fn part_of(octets: &[u8], at: usize, len: usize) -> &[u8]
+pub fn part_of(octets: &[u8], at: usize, len: usize) -> &[u8]
     ensures { result.now ≡ part at len octets.now }
 {
     front_of(rest_of(octets, at), len)

@@ -14,8 +14,10 @@ mod tables;
 mod telling;
 
 pub use counting::{DataCount, Gathered, Sender, gather};
-pub use faults::MOST_TOLD;
-pub use fields::{FieldForm, FieldSheet, NamedField};
+pub use faults::{
+    MOST_TOLD, write_end_spot, write_evidence, write_field_evidence, write_field_spot, write_rule,
+};
+pub use fields::{FieldForm, FieldSheet, NamedField, front_of, part_of, rest_of};
 pub use kind::CommandKind;
 pub use tables::fields_of;
-pub use telling::{Telling, tell};
+pub use telling::{Telling, kind_in, tell};

@@ -234,8 +234,8 @@ impl fmt::Display for UnknownLine<'_> {
     }
 }
 
-// The kind that octets begin as.
-fn kind_in(frame: &[u8]) -> Option<CommandKind>
+/// The kind that the octets of a frame begin as, without its stream header; of none, and of a letter that no command has, there is none.
+pub fn kind_in(frame: &[u8]) -> Option<CommandKind>
     ensures { result ≡ kind_in frame.now }
 {
     match frame {

@@ -5,6 +5,7 @@ mod channel;
 mod commands;
 mod events;
 mod files;
+mod found;
 mod line;
 mod octets;
 mod requests;
@@ -48,6 +49,9 @@ fn answer(rt: &HostRuntime, line: &mut Line) -> io::Result<()> {
         "events" => events::words(rt),
         "tell" => told::command(rt, &line.octets(rt.alloc())?),
         "notes" => told::notes(rt),
+        "found" => found::command(rt, &line.octets(rt.alloc())?),
+        "stream" => found::header(rt, &line.octets(rt.alloc())?),
+        "heard" => found::session(rt, line.fields(rt.alloc())?.as_slice()),
         call => answer_of_wire(rt, call, line),
     }
 }

@@ -43,6 +43,9 @@ pub(super) const MOST_LONGEST: u64 = 99_999;
 /// The greatest reason.
 pub(super) const MOST_REASON: u64 = 99;
 
+/// The greatest number of a recorded session.
+pub(super) const MOST_SESSION: u64 = 999_999_999;
+
 /// An argument of a command, which takes one value unless it is a flag.
 #[derive(Clone, Copy)]
 pub struct Argument {
@@ -63,6 +66,8 @@ pub struct Argument {
 pub enum Kind {
     /// A required word.
     Word,
+    /// An optional word.
+    Last,
     /// A required option.
     Needed,
     /// An optional option.
@@ -80,7 +85,7 @@ impl Kind {
     {
         match self {
             Kind::Word | Kind::Needed => true,
-            Kind::Optional | Kind::Flag | Kind::Defaulted(_) => false,
+            Kind::Last | Kind::Optional | Kind::Flag | Kind::Defaulted(_) => false,
         }
     }
 
@@ -90,7 +95,8 @@ impl Kind {
     {
         match self {
             Kind::Flag => ArgAction::SetTrue,
-            Kind::Word | Kind::Needed | Kind::Optional | Kind::Defaulted(_) => ArgAction::Set,
+            Kind::Word | Kind::Last | Kind::Needed | Kind::Optional | Kind::Defaulted(_) =>
+                ArgAction::Set,
         }
     }
 }
@@ -121,7 +127,7 @@ impl Argument {
             .value_name(self.shown)
             .help(self.help);
         match self.kind {
-            Kind::Word => argument,
+            Kind::Word | Kind::Last => argument,
             Kind::Needed | Kind::Optional | Kind::Flag => argument.long(self.id),
             Kind::Defaulted(value) => argument.long(self.id).default_value(value),
         }

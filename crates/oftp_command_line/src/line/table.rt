@@ -6,7 +6,7 @@ ghost use Rattle.oftp_command_line.specs.Told.{IsTold, app_told, with_name, word
 
 use super::arguments::{
     Argument, Kind, MOST_ADMISSION, MOST_CALLERS, MOST_DURATION, MOST_HOURS, MOST_INTERVAL,
-    MOST_JOBS, MOST_LONGEST, MOST_NO, MOST_PATIENCE, MOST_PORT, MOST_REASON,
+    MOST_JOBS, MOST_LONGEST, MOST_NO, MOST_PATIENCE, MOST_PORT, MOST_REASON, MOST_SESSION,
 };
 use super::commands::Name;
 
@@ -49,6 +49,7 @@ macro_rules! usage {
     ([$($text:literal)*]) => { concat!($($text),*) };
     ([$($text:literal)*] Shared($($shared:tt)*) $($rest:tt)*) => { shared!(usage {[$($text)*]} {$($rest)*} $($shared)*) };
     ([$($text:literal)*] Word($id:literal, $shown:literal $($more:tt)*) $($rest:tt)*) => { usage!([$($text)* " <" $shown ">"] $($rest)*) };
+    ([$($text:literal)*] Last($id:literal, $shown:literal $($more:tt)*) $($rest:tt)*) => { usage!([$($text)* " [" $shown "]"] $($rest)*) };
     ([$($text:literal)*] Needed($id:literal, $shown:literal $($more:tt)*) $($rest:tt)*) => {
         usage!([$($text)* " --" $id " <" $shown ">"] $($rest)*)
     };
@@ -66,25 +67,25 @@ macro_rules! shared {
         shared!($to $head $tail = Word("no", "NO", "The incoming file's number, 1 to 9999999", 1, MOST_NO))
     };
     ($to:ident $head:tt $tail:tt port, $port:literal) => {
-        shared!($to $head $tail = Defaulted("port", "PORT", "The port where callers are awaited, 1 to 65535", $port, 1, MOST_PORT))
+        shared!($to $head $tail = Defaulted("port", "PORT", "The port on which callers are awaited, 1 to 65535", $port, 1, MOST_PORT))
     };
     ($to:ident $head:tt $tail:tt address) => {
-        shared!($to $head $tail = Defaulted("address", "ADDRESS", "The machine's address where callers are awaited", "127.0.0.1"))
+        shared!($to $head $tail = Defaulted("address", "ADDRESS", "The address on which callers are awaited", "127.0.0.1"))
     };
     ($to:ident $head:tt $tail:tt admission) => {
-        shared!($to $head $tail = Defaulted("admission", "SECONDS", "How many seconds a caller has in all to be let in, 1 to 86400", "30", 1, MOST_ADMISSION))
+        shared!($to $head $tail = Defaulted("admission", "SECONDS", "How many seconds a caller has to be let in, 1 to 86400", "30", 1, MOST_ADMISSION))
     };
     ($to:ident $head:tt $tail:tt patience) => {
-        shared!($to $head $tail = Defaulted("patience", "SECONDS", "How many seconds the partner may keep still, 0 to 86400, 0 for ever", "300", 0, MOST_PATIENCE))
+        shared!($to $head $tail = Defaulted("patience", "SECONDS", "How many seconds the partner may stay silent, 0 to 86400, 0 for ever", "300", 0, MOST_PATIENCE))
     };
     ($to:ident $head:tt $tail:tt duration) => {
-        shared!($to $head $tail = Defaulted("longest", "SECONDS", "How many seconds a session may take in all, 1 to 86400", "86400", 1, MOST_DURATION))
+        shared!($to $head $tail = Defaulted("longest", "SECONDS", "How many seconds a session may take, 1 to 86400", "86400", 1, MOST_DURATION))
     };
     ($to:ident $head:tt $tail:tt trace) => {
-        shared!($to $head $tail = Optional("trace", "FILE", "The file to which what goes over the connection is appended in words"))
+        shared!($to $head $tail = Optional("trace", "FILE", "The file to which each command that comes or goes is appended, in words"))
     };
     ($to:ident $head:tt $tail:tt events) => {
-        shared!($to $head $tail = Optional("events", "FILE", "The file to which what happens is appended, a line of JSON each"))
+        shared!($to $head $tail = Optional("events", "FILE", "The file to which each event is appended, as a line of JSON"))
     };
     ($to:ident {$($head:tt)*} {$($tail:tt)*} = $($argument:tt)*) => { $to!($($head)* $($argument)* $($tail)*) };
 }
@@ -113,13 +114,13 @@ const CHECK: Declaration =
     declaration! { Check, "check", "Reads the book and counts its partners", [Shared(book)] };
 
 const SUBMIT: Declaration =
-    declaration! { Submit, "submit", "Hands over file FILE, which is to be sent to a partner", [
+    declaration! { Submit, "submit", "Submits file FILE, to be sent to a partner", [
         Shared(database),
         Shared(book),
         Shared(events),
         Needed("dataset", "NAME", "The virtual file's dataset name"),
-        Optional("date", "DATE", "Its date stamp, as 20240131; today's where it is missing"),
-        Optional("time", "TIME", "Its time stamp, as 1015300001; that of the moment where it is missing"),
+        Optional("date", "DATE", "Its date stamp, as 20240131; today's if it is missing"),
+        Optional("time", "TIME", "Its time stamp, as 1015300001; that of this moment if it is missing"),
         Needed("to", "CODE", "The code of the partner that it goes to"),
         Needed("format", "FORMAT", "The format of its records: F, V, U or T"),
         Defaulted("longest", "OCTETS", "The length of its records in F, or of the longest in V, 1 to 16384", "0", 0, MOST_LONGEST),
@@ -128,13 +129,13 @@ const SUBMIT: Declaration =
     ] };
 
 const OFFER: Declaration =
-    declaration! { Offer, "offer", "Hands over the files in folder FOLDER, which are to be sent to a partner", [
+    declaration! { Offer, "offer", "Submits the files in folder FOLDER, to be sent to a partner", [
         Shared(database),
         Shared(book),
         Shared(events),
         Needed("to", "CODE", "The code of the partner that they go to"),
         Needed("from", "FOLDER", "The folder that holds them in their local form"),
-        Optional("dataset", "NAME", "The dataset name of each; its own name where this is missing"),
+        Optional("dataset", "NAME", "The dataset name of each; its own name if this is missing"),
         Defaulted("description", "TEXT", "What each is, in words", ""),
         Flag("describe", "Takes the name of each file as its description"),
         Defaulted("format", "FORMAT", "The format of their records: F, V, U or T", "U"),
@@ -142,12 +143,12 @@ const OFFER: Declaration =
     ] };
 
 const RESEND: Declaration =
-    declaration! { Resend, "resend", "Hands over the content of an outgoing file once more, under another date and time", [
+    declaration! { Resend, "resend", "Submits the content of an outgoing file again, under another date and time", [
         Shared(database),
         Shared(book),
         Shared(events),
-        Optional("date", "DATE", "The new date stamp, as 20240131; today's where it is missing"),
-        Optional("time", "TIME", "The new time stamp, as 1015300001; that of the moment where it is missing"),
+        Optional("date", "DATE", "The new date stamp, as 20240131; today's if it is missing"),
+        Optional("time", "TIME", "The new time stamp, as 1015300001; that of this moment if it is missing"),
         Word("no", "NO", "The outgoing file's number, 1 to 9999999", 1, MOST_NO),
     ] };
 
@@ -173,26 +174,26 @@ const FETCH: Declaration =
     declaration! { Fetch, "fetch", "Writes an incoming file in its local form to file FILE", [
         Shared(database),
         Shared(number),
-        Word("file", "FILE", "The file that is given its local form"),
+        Word("file", "FILE", "The file to write it to"),
     ] };
 
 const COLLECT: Declaration =
-    declaration! { Collect, "collect", "Writes the incoming files that are whole and not answered to folder FOLDER", [
+    declaration! { Collect, "collect", "Writes the incoming files that are whole and unanswered to folder FOLDER", [
         Shared(database),
         Shared(book),
         Shared(events),
-        Needed("to", "FOLDER", "The folder that is given their local forms"),
-        Optional("from", "CODE", "The code of the partner whose files alone are written"),
-        Optional("dataset", "PATTERN", "What the dataset names of the files match that alone are written: * is any text, ? any character"),
-        Flag("release", "Releases each file once it is there"),
+        Needed("to", "FOLDER", "The folder to write them to"),
+        Optional("from", "CODE", "Only files of the partner with this code"),
+        Optional("dataset", "PATTERN", "Only files whose dataset names match this: * is any text, ? any character"),
+        Flag("release", "Releases each file once it is written"),
     ] };
 
 const REPORT: Declaration =
     declaration! { Report, "report", "Tells what the database holds, as comma-separated values", [
         Shared(database),
-        Optional("state", "STATE", "The state of the files that alone are told"),
-        Optional("partner", "CODE", "The code of the partner whose files and responses alone are told"),
-        Optional("since", "DATE", "The first date of the files and responses that alone are told, as 20240131"),
+        Optional("state", "STATE", "Only files in this state"),
+        Optional("partner", "CODE", "Only files and responses of the partner with this code"),
+        Optional("since", "DATE", "Only files and responses from this date on, as 20240131"),
         Flag("json", "Tells them as JSON"),
         Word("kind", "KIND", "What is reported: in, out, issued or received"),
     ] };
@@ -216,23 +217,31 @@ const BACKUP: Declaration =
     declaration! { Backup, "backup", "Copies the database as it stands to file TO", [
         Shared(database),
         Shared(events),
-        Word("to", "TO", "The file that is given the copy"),
+        Word("to", "TO", "The file to write the copy to"),
     ] };
 
 const STOP: Declaration =
-    declaration! { Stop, "stop", "Has the station that runs over the database end once its session is over", [
+    declaration! { Stop, "stop", "Ends the station that runs over the database, once its session is over", [
         Shared(database),
         Flag("now", "Cuts the session off"),
     ] };
 
 const RELOAD: Declaration =
-    declaration! { Reload, "reload", "Has the station that runs over the database read its book again", [
+    declaration! { Reload, "reload", "Makes the station that runs over the database read its book again", [
     Shared(database),
 ] };
 
 const SHOW: Declaration =
     declaration! { Show, "show", "Prints the commands in file IN, a line each, up to the first fault", [
         Word("in", "IN", "The file that holds what one side of a session sent"),
+    ] };
+
+const EXPLAIN: Declaration =
+    declaration! { Explain, "explain", "Tells what the partner did in a session that the standard doesn't allow", [
+        Optional("record", "FOLDER", "The folder of a station's record, in the place of IN and OUT"),
+        Defaulted("session", "NUMBER", "The session of the record, 0 to 999999999, 0 for each", "0", 0, MOST_SESSION),
+        Last("in", "IN", "The file that holds what the partner sent"),
+        Last("out", "OUT", "The file that holds what the station sent"),
     ] };
 
 const FEED: Declaration =
@@ -243,7 +252,7 @@ const FEED: Declaration =
         Optional("partner", "CODE", "The code of the partner that an initiator calls"),
         Shared(trace),
         Word("in", "IN", "The file that holds what the partner sends"),
-        Word("out", "OUT", "The file that is given what the station sends"),
+        Word("out", "OUT", "The file to write what the station sends to"),
     ] };
 
 const AUDIT: Declaration =
@@ -252,13 +261,32 @@ const AUDIT: Declaration =
         Optional("old", "BACKUP", "The file that holds the older database"),
     ] };
 
+const HISTORY: Declaration =
+    declaration! { History, "history", "Tells what the events say of a file, and what its state proves", [
+        Needed("events", "FILE", "The file that holds the events"),
+        Flag("in", "Tells of the incoming file alone"),
+        Flag("out", "Tells of the outgoing file alone"),
+        Flag("json", "Tells the events themselves"),
+        Word("no", "NO", "The file's number, 1 to 9999999", 1, MOST_NO),
+    ] };
+
+const EVIDENCE: Declaration =
+    declaration! { Evidence, "evidence", "Writes a folder of what proves a file's delivery", [
+        Needed("record", "FOLDER", "The folder that holds the record"),
+        Shared(database),
+        Flag("in", "The file is an incoming one"),
+        Flag("out", "The file is an outgoing one"),
+        Needed("to", "FOLDER", "The folder to write, which isn't there yet"),
+        Word("no", "NO", "The file's number, 1 to 9999999", 1, MOST_NO),
+    ] };
+
 const RUN: Declaration =
-    declaration! { Run, "run", "Serves partners and commands by day and night, one after another", [
+    declaration! { Run, "run", "Runs the station: serves partners and commands, one after another", [
         Shared(database),
         Shared(book),
         Shared(port, "3305"),
         Shared(address),
-        Defaulted("http-port", "PORT", "The port where requests by HTTP are awaited, 0 to 65535, 0 for none", "0", 0, MOST_PORT),
+        Defaulted("http-port", "PORT", "The port on which requests by HTTP are awaited, 0 to 65535, 0 for none", "0", 0, MOST_PORT),
         Optional("host", "NAME", "A name by which browsers find this machine"),
         Defaulted("call-every", "SECONDS", "After how many seconds each partner for whom something waits is called, 0 to 86400, 0 for never", "0", 0, MOST_INTERVAL),
         Shared(admission),
@@ -267,6 +295,15 @@ const RUN: Declaration =
         Shared(trace),
         Shared(events),
         Defaulted("jobs", "COUNT", "After how many jobs it ends, 0 to 1000000, 0 for never", "0", 0, MOST_JOBS),
+        Optional("record", "FOLDER", "The folder to which what is heard, said and asked is recorded"),
+        Defaulted("record-sync", "SYNC", "Whether the record is synced before an answer goes out: yes or no", "yes"),
+    ] };
+
+const REPLAY: Declaration =
+    declaration! { Replay, "replay", "Plays a record over a database and compares what comes of it", [
+        Needed("record", "FOLDER", "The folder that holds the record"),
+        Shared(database),
+        Shared(book),
     ] };
 
 const LISTEN: Declaration =
@@ -287,7 +324,7 @@ const CALL: Declaration = declaration! { Call, "call", "Calls a partner for one 
     Shared(database),
     Shared(book),
     Needed("partner", "CODE", "The code of the partner that is called"),
-    Flag("fail", "Ends with status 1 where the session ends otherwise than by 00"),
+    Flag("fail", "Ends with status 1 if the session ends otherwise than by 00"),
     Shared(patience),
     Shared(duration),
     Shared(trace),
@@ -329,9 +366,13 @@ impl Name {
             Name::Stop => STOP,
             Name::Reload => RELOAD,
             Name::Show => SHOW,
+            Name::Explain => EXPLAIN,
             Name::Feed => FEED,
             Name::Audit => AUDIT,
+            Name::History => HISTORY,
+            Name::Evidence => EVIDENCE,
             Name::Run => RUN,
+            Name::Replay => REPLAY,
             Name::Listen => LISTEN,
             Name::Call => CALL,
             Name::Http => HTTP,
@@ -353,7 +394,7 @@ impl Name {
 }
 
 /// All commands, in their order in texts.
-pub fn declarations() -> [Declaration; 24]
+pub fn declarations() -> [Declaration; 28]
     ensures names { map with_name result ≡ command_names }
     ensures told { All IsTold result }
 {
@@ -376,9 +417,13 @@ pub fn declarations() -> [Declaration; 24]
         Name::Stop.declaration(),
         Name::Reload.declaration(),
         Name::Show.declaration(),
+        Name::Explain.declaration(),
         Name::Feed.declaration(),
         Name::Audit.declaration(),
+        Name::History.declaration(),
+        Name::Evidence.declaration(),
         Name::Run.declaration(),
+        Name::Replay.declaration(),
         Name::Listen.declaration(),
         Name::Call.declaration(),
         Name::Http.declaration(),

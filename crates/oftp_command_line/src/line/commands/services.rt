@@ -1,13 +1,17 @@
 //! The commands `run`, `listen`, `call` and `http`, which are services over sockets, and `stop`, which ends one.
 
-ghost use Rattle.std.specs.Prelude.{◌≡◌, codes};
+ghost use Rattle.std.specs.Prelude.{◌≡◌, IfErr, IfOk, None, Some, codes, true};
 ghost use Rattle.oftp_command_line.specs.Arguments.{HasValues, values_in};
-ghost use Rattle.oftp_command_line.specs.ServiceLines.{call_app, call_said, call_with, http_app, http_said, http_with, listen_app, listen_said, listen_with, run_app, run_said, run_with, stop_app, stop_said, stop_with};
+ghost use Rattle.oftp_command_line.specs.Fault.{is_bad};
+ghost use Rattle.oftp_command_line.specs.ServiceLines.{call_app, call_said, call_with, http_app, http_said, http_with, listen_app, listen_said, listen_with, run_app, run_in, run_said, stop_app, stop_said, stop_with};
 
 use super::files::{Files, files_read};
+use super::recording::{RECORD_SYNCS, RecordSync};
 use super::terms::{Entrance, SessionTerms, entrance_read, terms_read};
-use crate::line::values::{given, has_flag, number, port, value_of};
+use crate::line::LineFault;
+use crate::line::values::{choice, given, has_flag, number, port, value_of};
 use clap::ArgMatches;
+use std::alloc::Global;
 
 /// The command `run`, which serves partners and commands until it is stopped.
 #[derive(Debug, Clone, Copy, PartialEq, Eq)]
@@ -26,15 +30,27 @@ pub struct Run<'a> {
     pub terms: SessionTerms<'a>,
     /// After how many jobs it ends, 0 to 1,000,000; 0 is never.
     pub jobs: u64,
+    /// The folder of its record, if there is one.
+    pub record_folder: Option<&'a str>,
+    /// Whether the record is synced.
+    pub sync: RecordSync,
 }
 
 /// Reads the values of the options of `run`.
 #[tactic(auto, using(crate::proofs::Values::has_text), unfolding(crate::specs::ServiceLines::run_app))]
-pub(super) fn run_read<'a>(matches: &ArgMatches<'a>) -> Run<'a>
+pub(super) fn run_read<'a>(alloc: Global, matches: &ArgMatches<'a>) -> Result<Run<'a>, LineFault>
     requires { HasValues run_app (values_in matches.now) }
-    ensures { run_said result ≡ run_with (values_in matches.now) }
+    ensures ok { IfOk result (λ r. run_in (values_in matches.now) ≡ Some (run_said r)) }
+    ensures bad { IfErr result (λ e. is_bad e ≡ true → run_in (values_in matches.now) ≡ None) }
 {
-    Run {
+    let sync = choice(
+        alloc,
+        matches,
+        "record-sync",
+        "--record-sync <SYNC>",
+        RECORD_SYNCS,
+    )?;
+    Ok(Run {
         files: files_read(matches),
         entrance: entrance_read(matches),
         http_port: port(matches, "http-port"),
@@ -42,7 +58,9 @@ pub(super) fn run_read<'a>(matches: &ArgMatches<'a>) -> Run<'a>
         interval: number(matches, "call-every"),
         terms: terms_read(matches),
         jobs: number(matches, "jobs"),
-    }
+        record_folder: value_of(matches, "record"),
+        sync,
+    })
 }
 
 /// The command `stop`, which has the station that runs over the database end.

@@ -14,8 +14,16 @@ more d others name is told rest = All-cons IsTold d others (told ∙ sym (ap app
 
 pub returns-clause-told : goal.returns-clause-told
 returns-clause-told c =
-    let l25 : List Declaration = [] in
-    let a25 : All IsTold l25 = All-nil IsTold in
+    let l29 : List Declaration = [] in
+    let a29 : All IsTold l29 = All-nil IsTold in
+    let l28 : List Declaration = c.declaration-28.result ∷ l29 in
+    let a28 : All IsTold l28 = more c.declaration-28.result l29 _ c.declaration-28.ensures.name c.declaration-28.ensures.told a29 in
+    let l27 : List Declaration = c.declaration-27.result ∷ l28 in
+    let a27 : All IsTold l27 = more c.declaration-27.result l28 _ c.declaration-27.ensures.name c.declaration-27.ensures.told a28 in
+    let l26 : List Declaration = c.declaration-26.result ∷ l27 in
+    let a26 : All IsTold l26 = more c.declaration-26.result l27 _ c.declaration-26.ensures.name c.declaration-26.ensures.told a27 in
+    let l25 : List Declaration = c.declaration-25.result ∷ l26 in
+    let a25 : All IsTold l25 = more c.declaration-25.result l26 _ c.declaration-25.ensures.name c.declaration-25.ensures.told a26 in
     let l24 : List Declaration = c.declaration-24.result ∷ l25 in
     let a24 : All IsTold l24 = more c.declaration-24.result l25 _ c.declaration-24.ensures.name c.declaration-24.ensures.told a25 in
     let l23 : List Declaration = c.declaration-23.result ∷ l24 in

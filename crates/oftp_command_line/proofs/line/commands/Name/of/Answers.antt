@@ -10,22 +10,22 @@ use Rattle.oftp_command_line.specs.declared.line.table.Declaration.{Declaration}
 use Rattle.oftp_command_line.proofs.line.commands.Name.of.Goals as goal
 
 -- one more command
-next_command : (all : List Declaration) (text : Text) (i : ℕ) (d : Declaration) → map with_name all ≡ command_names → i < 24
+next_command : (all : List Declaration) (text : Text) (i : ℕ) (d : Declaration) → map with_name all ≡ command_names → i < 28
     → named (map with_name (drop i all)) text
     ≡ (if bytes_eq text (get_or all i d).word.now then Some (get_or all i d).name else named (map with_name (drop (i + 1) all)) text)
 next_command all text i d names within =
-    let long : length all ≡ 24 = sym (length-map all with_name) ∙ ap length names in
+    let long : length all ≡ 28 = sym (length-map all with_name) ∙ ap length names in
     at_drop_more (λ rest. named (map with_name rest) text) all i d (omega (arith, long, within))
 
 -- it has the name
-hit : (all : List Declaration) (text : Text) (i : ℕ) (d : Declaration) (o : Option Name) → map with_name all ≡ command_names → i < 24
+hit : (all : List Declaration) (text : Text) (i : ℕ) (d : Declaration) (o : Option Name) → map with_name all ≡ command_names → i < 28
     → bytes_eq text (get_or all i d).word.now ≡ true → named (map with_name (drop i all)) text ≡ o → Some (get_or all i d).name ≡ o
 hit all text i d o names within is so_far =
     let next = next_command all text i d names within in
     sym (rw is at next) ∙ so_far
 
 -- it has another
-missed : (all : List Declaration) (text : Text) (i : ℕ) (d : Declaration) (o : Option Name) → map with_name all ≡ command_names → i < 24
+missed : (all : List Declaration) (text : Text) (i : ℕ) (d : Declaration) (o : Option Name) → map with_name all ≡ command_names → i < 28
     → bytes_eq text (get_or all i d).word.now ≡ false → named (map with_name (drop i all)) text ≡ o → named (map with_name (drop (i + 1) all)) text ≡ o
 missed all text i d o names within is so_far =
     let next = next_command all text i d names within in

@@ -1,0 +1,459 @@
+#!/usr/bin/env python3
+"""Tries `run --record` and `replay` as processes.
+
+    checks/scenarios/recording.py [WORD ..]      all cases, or those whose names have one of these words
+
+The last line is `N passed, M failed`.
+
+Shows: what a station recorded, played over a new database, gives the tables that the station has, read by stock sqlite3: after sessions with a
+partner who calls and who is called, with files both ways, after operators' commands and after a book that was read again, and after SIGKILL between
+any two octets of sessions and within commands, with a start again each time. It goes on from a backup. A record that is cut off, or in which an
+octet was changed, is told, and so is a database that isn't the station's. A station goes on behind the last whole entry. One that can't write its
+record ends with `fault: 7 file`
+"""
+
+import contextlib
+import os
+import random
+import shutil
+import socket
+import subprocess
+import sys
+import tempfile
+import threading
+import time
+from concurrent.futures import ThreadPoolExecutor
+from pathlib import Path
+
+sys.path.insert(0, str(Path(__file__).resolve().parents[1] / "lib"))
+
+import one_file
+import row_files
+import tables
+from program import PROGRAM, ROOT
+from services import BOOK, CARMAKER, LONG, NotTried, Resident, Wrong, expect, free_port, rest_of
+
+IDENTITY = ["--date", "20240201", "--to", CARMAKER, "--format", "U"]
+
+
+def session_of(name):
+    return row_files.Row(row_files.ROWS / f"{name}.row").sessions()[0]
+
+
+def recording(room, *words, **how):
+    """A station with a record."""
+    folder = room / "record"
+    folder.mkdir(exist_ok=True)
+    return Resident(room, "--record", folder, *words, **how)
+
+
+def replayed(room, database="again", book=BOOK):
+    """What `replay` over this database comes to."""
+    words = [PROGRAM, "replay", "--record", room / "record", "--db", room / database, "--book", book]
+    done = subprocess.run(words, capture_output=True, timeout=LONG * 5, check=False)
+    return done.returncode, done.stdout.decode(), done.stderr.decode()
+
+
+def expect_same(room, sessions=None, calls=None, database="again", book=BOOK, station="database"):
+    """The record gives the tables of the station over a new database, or over this one."""
+    status, out, err = replayed(room, database, book)
+    if (status, err) != (0, "") or not out.startswith("same: "):
+        raise Wrong(f"replay: {status}, {out!r}, {err!r}")
+    if sessions is not None:
+        expect(out, f"same: {sessions} sessions, {calls} calls\n", "replay")
+    expect(tables.read(room / database), tables.read(room / station), "the tables")
+
+
+def converse(service, octets):
+    with service.caller() as caller:
+        caller.sendall(octets)
+        caller.shutdown(socket.SHUT_WR)
+        rest_of(caller)
+    return service.line()
+
+
+def submit(service, name, file, book=BOOK):
+    """Submits a file under a name."""
+    words = [PROGRAM, "submit", "--db", service.database, "--book", book, *IDENTITY, "--dataset", name, "--time", "0800000001", file]
+    return subprocess.run(words, capture_output=True, timeout=LONG, check=False).stdout.decode()
+
+
+def commands(room):
+    """Operators' commands, done and refused."""
+    file = room / "file"
+    file.write_bytes(bytes(range(256)) * 10)
+    with recording(room, "--jobs", "6") as service:
+        expect(submit(service, "A", file), "done: submit 1\n", "submit")
+        expect(submit(service, "A", file), "refused: 1 duplicate\n", "submit again")
+        expect(submit(service, "B", file), "done: submit 2\n", "submit of another one")
+        expect(converse(service, session_of("receiving/one_octet").joined("in"))[:8], "session ", "the line")
+        expect(service.give("release", "1").stdout, b"done: release 1\n", "release")
+        expect(service.give("refuse", "1", "12", "no").stdout, b"refused: 3 state\n", "refuse")
+        service.ends()
+    expect([oct(file.stat().st_mode)[-3:] for file in (room / "record").iterdir()], ["600"], "the modes")
+    expect_same(room, 1, 5)
+    # It goes on from its end, too.
+    expect_same(room, 0, 0)
+
+
+def rows(room):
+    """Sessions of rows, as a caller plays them, one after another."""
+    names = ["opening/wrong_password", "receiving/one_octet", "listening/nothing_waiting"]
+    names += sorted(path.relative_to(row_files.ROWS).with_suffix("").as_posix() for path in (row_files.ROWS / "receiving").glob("*.row"))[:25]
+    with recording(room) as service:
+        for name in names:
+            for session in row_files.Row(row_files.ROWS / f"{name}.row").sessions():
+                if not session.role and session.book == BOOK and not session.closes():
+                    converse(service, session.joined("in"))
+    with recording(room, "--jobs", "1") as service:
+        converse(service, session_of("listening/nothing_waiting").joined("in"))
+        service.ends()
+    expect_same(room)
+
+
+def two_books(room, ports):
+    """The books of the station and of its partner, which call each other at these ports."""
+    book, theirs = room / "book", room / "theirs"
+    book.write_text(BOOK.read_text().replace("127.0.0.1:3305", f"127.0.0.1:{ports[1]}"))
+    theirs.write_text((ROOT / "examples/carmaker/book.toml").read_text().replace("127.0.0.1:3306", f"127.0.0.1:{ports[0]}"))
+    return book, theirs
+
+
+def two_stations(room):
+    """Files both ways between two stations, of which each calls the other."""
+    ports = [free_port(), free_port()]
+    folder, file = room / "partner", room / "file"
+    folder.mkdir()
+    file.write_bytes(random.Random(7).randbytes(200_000))
+    book, theirs = two_books(room, ports)
+    with recording(room, book=book, port=ports[0]) as service, Resident(folder, book=theirs, port=ports[1]) as partner:
+        for name in ("A", "B"):
+            expect(submit(service, name, file, book)[:13], "done: submit ", "submit")
+        offer = ["submit", "--db", partner.database, "--book", theirs, "--dataset", "C", "--to", "O0013SUPPLIER", "--format", "U", file]
+        expect(subprocess.run([PROGRAM, *offer], capture_output=True, timeout=LONG, check=False).stdout, b"done: submit 1\n", "their submit")
+        call = [PROGRAM, "call", "--db", service.database, "--book", book, "--partner", CARMAKER]
+        expect(subprocess.run(call, capture_output=True, timeout=LONG, check=False).stdout[:5], b"end: ", "the call")
+        service.line()
+        call = [PROGRAM, "call", "--db", partner.database, "--book", theirs, "--partner", "O0013SUPPLIER"]
+        expect(subprocess.run(call, capture_output=True, timeout=LONG, check=False).stdout[:5], b"end: ", "their call")
+        service.line()
+        for number in ("1", "2"):
+            release = [PROGRAM, "release", "--db", partner.database, "--book", theirs, number]
+            expect(subprocess.run(release, capture_output=True, timeout=LONG, check=False).stdout[:13], b"done: release", "their release")
+        subprocess.run(call, capture_output=True, timeout=LONG, check=False)
+        service.line()
+        time.sleep(0.2)
+        resend = [PROGRAM, "resend", "--db", service.database, "--book", book, "1"]
+        expect(subprocess.run(resend, capture_output=True, timeout=LONG, check=False).stdout, b"done: resend 1 3\n", "resend")
+    with recording(room, "--jobs", "1", book=book, port=ports[0]) as service:
+        expect(submit(service, "D", file, book)[:13], "done: submit ", "submit")
+        service.ends()
+    expect_same(room, book=book)
+
+
+def book_read_again(room):
+    """A session by a book that the station has read again is played by that one, and what isn't done of a resend isn't done again."""
+    first, book, file = room / "first", room / "book", room / "file"
+    first.write_text(BOOK.read_text().replace(CARMAKER, "O0188CARMAKER"))
+    shutil.copyfile(first, book)
+    file.write_bytes(b"ABC")
+    octets = session_of("receiving/one_octet").joined("in")
+    with recording(room, book=book) as service:
+        expect(converse(service, octets), "session - in: end: own 03", "a caller who isn't in the book")
+        book.write_text(BOOK.read_text())
+        expect(service.give("reload").stdout, b"done: reload\n", "reload")
+        expect(converse(service, octets)[:25], f"session {CARMAKER} in: "[:25], "the same caller")
+        expect(submit(service, "A", file), "done: submit 1\n", "submit")
+        expect(service.give("resend", "--book", BOOK, "1").stdout, b"refused: 3 state\n", "resend of what still goes out")
+        expect(service.give("stop").stdout, b"done: stop\n", "stop")
+        service.ends()
+    expect_same(room, 1, 2, book=first)
+
+
+def killed(room, seed):
+    """SIGKILL at any moment of sessions and commands, with a start again each time."""
+    chance = random.Random(seed)
+    file = room / "file"
+    file.write_bytes(bytes(5000))
+    whole = [one_file.session(30_000, 128, 2), session_of("receiving/one_octet").joined("in"), one_file.session(3000, 2048, 5)]
+    for turn in range(6):
+        with recording(room) as service:
+            for octets in chance.sample(whole, 2):
+                with service.caller() as caller, contextlib.suppress(OSError):
+                    cut = chance.randrange(len(octets) + 1)
+                    caller.sendall(octets[:cut])
+                    if chance.random() < 0.5:
+                        caller.shutdown(socket.SHUT_WR)
+                        rest_of(caller)
+                    time.sleep(chance.choice([0, 0.01, 0.1]))
+            asked = service.asked("submit", *command_of(turn), book=BOOK.read_bytes(), content=file.read_bytes()) if chance.random() < 0.7 else None
+            time.sleep(chance.choice([0, 0, 0.002, 0.02]))
+            service.program.kill()
+            service.program.wait()
+            if asked:
+                asked.close()
+    with recording(room, "--jobs", "1") as service:
+        submit(service, "LAST", file)
+        service.ends()
+    expect_same(room)
+
+
+def asked_only(service, number, book):
+    """Asks the station itself for a release. The command `release` would open the database, once the station is killed, and record nothing."""
+    with contextlib.suppress(OSError, Wrong), service.asked("release", number, book=book.read_bytes()) as client:
+        rest_of(client)
+
+
+def killed_beside_a_partner(room, seed):
+    """SIGKILL at any moment of sessions with another station, which send files both ways, and responses."""
+    chance = random.Random(seed)
+    ports = [free_port(), free_port()]
+    folder, file = room / "partner", room / "file"
+    folder.mkdir()
+    book, theirs = two_books(room, ports)
+    with Resident(folder, book=theirs, port=ports[1]) as partner:
+        for turn in range(5):
+            with recording(room, "--call-every", "1", book=book, port=ports[0]) as service:
+                file.write_bytes(chance.randbytes(chance.choice([1, 5_000, 300_000])))
+                submit(service, f"OUT{turn}", file, book)
+                theirs_of = ["--book", theirs, "--to", "O0013SUPPLIER", "--format", "U", "--dataset", f"IN{turn}"]
+                subprocess.run([PROGRAM, "submit", "--db", partner.database, *theirs_of, file], capture_output=True, timeout=LONG, check=False)
+                asks = [["call", "--db", partner.database, "--book", theirs, "--partner", "O0013SUPPLIER"]]
+                asks += [["release", "--db", partner.database, "--book", theirs, str(number)] for number in range(1, turn + 1)]
+                own = [threading.Thread(target=asked_only, args=(service, str(number), book), daemon=True) for number in range(1, turn + 1)]
+                asks = [subprocess.Popen([PROGRAM, *words], stdout=subprocess.DEVNULL, stderr=subprocess.DEVNULL) for words in chance.sample(asks, len(asks))]
+                for ask in own:
+                    ask.start()
+                time.sleep(chance.choice([0, 0.01, 0.05, 0.2, 0.5, 1.2, 1.5]))
+                service.program.kill()
+                service.program.wait()
+                for ask in asks:
+                    ask.wait(LONG)
+                for ask in own:
+                    ask.join(LONG)
+    with recording(room, "--jobs", "1", book=book, port=ports[0]) as service:
+        submit(service, "LAST", file, book)
+        service.ends()
+    expect_same(room, book=book)
+
+
+def many(room, case, count):
+    """A case with each of the first seeds, in a folder of its own."""
+
+    def one(seed):
+        folder = room / str(seed)
+        folder.mkdir()
+        case(folder, seed)
+
+    with ThreadPoolExecutor(max_workers=4) as runners:
+        list(runners.map(one, range(count)))
+
+
+def killed_at_moments(room):
+    """SIGKILL while callers talk and commands ask."""
+    many(room, killed, 12)
+
+
+def killed_beside_partners(room):
+    """SIGKILL while two stations talk."""
+    many(room, killed_beside_a_partner, 4)
+
+
+def command_of(turn):
+    """The options with which a file is submitted."""
+    return [*IDENTITY, "--dataset", f"T{turn}", "--time", "0800000001"]
+
+
+def file_of(room):
+    """The only file of the record."""
+    (file,) = (room / "record").glob("*.record")
+    return file
+
+
+def one_session(room):
+    with recording(room, "--jobs", "1") as service:
+        converse(service, session_of("receiving/one_octet").joined("in"))
+        service.ends()
+
+
+def changed_octet(room):
+    """A changed octet anywhere is told, and no station goes on behind it."""
+    one_session(room)
+    file = file_of(room)
+    octets = file.read_bytes()
+    for place in sorted(random.Random(1).sample(range(len(octets)), 25)):
+        file.write_bytes(octets[:place] + bytes([octets[place] ^ 1]) + octets[place + 1 :])
+        (room / "again").unlink(missing_ok=True)
+        (room / "again-wal").unlink(missing_ok=True)
+        status, out, err = replayed(room)
+        expect((status, out[:9], err), (1, "differs: ", ""), f"replay with octet {place} changed")
+    done = subprocess.run([PROGRAM, "run", "--db", room / "database", "--book", BOOK, "--record", room / "record", "--jobs", "1", "--port", str(free_port())], capture_output=True, timeout=LONG, check=False)
+    expect((done.returncode, done.stderr), (1, b"fault: 7 file\n"), "a station over a changed record")
+
+
+def cut_record(room):
+    """A record that is cut off is told, and a station cuts off what is behind the last whole entry."""
+    one_session(room)
+    file = file_of(room)
+    octets = file.read_bytes()
+    file.write_bytes(octets[:-1])
+    status, out, err = replayed(room)
+    expect((status, out[-12:], err), (1, "it is cut off\n"[-12:], ""), "replay")
+    one_session(room)
+    shutil.rmtree(room / "record" / "none", ignore_errors=True)
+    (room / "again").unlink()
+    (room / "again-wal").unlink(missing_ok=True)
+    expect_same(room, 2, 0)
+
+
+def backup(room):
+    """The record goes on from a backup that was made between two stations' lives."""
+    one_session(room)
+    copied = subprocess.run([PROGRAM, "backup", "--db", room / "database", room / "copy"], capture_output=True, timeout=LONG, check=False)
+    expect(copied.stdout, b"done: backup\n", "backup")
+    file = room / "file"
+    file.write_bytes(b"ABC")
+    with recording(room, "--jobs", "1") as service:
+        expect(submit(service, "A", file), "done: submit 1\n", "submit")
+        service.ends()
+    expect_same(room, 0, 1, database="copy")
+
+
+def days(room):
+    """A file for each day, which follows the one before: a day that is missing is told, and the first ones may be gone."""
+    file = room / "file"
+    for number, day in enumerate(("20200101", "20200102", None), 1):
+        file.write_bytes(bytes(number))
+        with recording(room, "--jobs", "1") as service:
+            expect(submit(service, f"D{number}", file), f"done: submit {number}\n", "submit")
+            service.ends()
+        for end in ("", "-wal"):
+            if (room / f"database{end}").exists():
+                shutil.copyfile(room / f"database{end}", room / f"copy{number}{end}")
+        if number == 2:
+            # The clock was set back.
+            (newest,) = [path for path in (room / "record").iterdir() if path.stem > "20210101"]
+            newest.rename(newest.with_stem("29990101"))
+            with recording(room, "--jobs", "1") as service:
+                converse(service, session_of("listening/nothing_waiting").joined("in"))
+                service.ends()
+        if day:
+            (newest,) = [path for path in (room / "record").iterdir() if path.stem > "20210101"]
+            newest.rename(newest.with_stem(day))
+    expect_same(room, 1, 3)
+    middle = room / "record/20200102.record"
+    middle.rename(room / "away")
+    status, out, _ = replayed(room, "third")
+    expect((status, out.split(": ")[2]), (1, "it doesn't follow the day before\n"), "replay without a day")
+    (room / "away").rename(middle)
+    (room / "record/20200101.record").unlink()
+    expect_same(room, 1, 2, database="copy1")
+
+
+def two_in_one_folder(room):
+    """A second station doesn't write to the record of the first one, and no station to a folder that isn't there."""
+    one_session(room)
+    (room / "other").mkdir()
+    words = ["run", "--db", room / "other/database", "--book", BOOK, "--jobs", "1", "--port", str(free_port())]
+    with recording(room):
+        pipe = room / "pipe"
+        pipe.mkdir()
+        os.mkfifo(pipe / file_of(room).name)
+        for folder in (room / "record", room / "nowhere", BOOK, pipe):
+            done = subprocess.run([PROGRAM, *words, "--record", folder], capture_output=True, timeout=LONG, check=False)
+            expect((done.returncode, done.stdout, done.stderr), (1, b"", b"fault: 7 file\n"), f"a station with {folder.name}")
+
+
+def without_syncing(room):
+    """`--record-sync no` leaves the syncing out, and nothing else."""
+    with recording(room, "--record-sync", "no", "--jobs", "2") as service:
+        converse(service, one_file.session(300_000, 128, 2))
+        converse(service, session_of("receiving/one_octet").joined("in"))
+        service.ends()
+    expect_same(room, 2, 0)
+
+
+def other_database(room):
+    """A database that the record never had, and another book."""
+    one_session(room)
+    subprocess.run([PROGRAM, "submit", "--db", room / "again", "--book", BOOK, *IDENTITY, "--dataset", "A", BOOK], capture_output=True, timeout=LONG, check=True)
+    status, out, _ = replayed(room)
+    expect((status, out[:9]), (1, "differs: "), "replay over another database")
+    other = room / "other"
+    other.write_text(BOOK.read_text().replace("SUPPW", "OTHER"))
+    status, out, _ = replayed(room, "third", other)
+    expect((status, out[-9:]), (1, "the book\n"), "replay by another book")
+    expect(b"SUPPW" in file_of(room).read_bytes()[:1000], False, "whether the opening has a password")
+
+
+@contextlib.contextmanager
+def disk_of(folder, size):
+    """A small disk at this folder."""
+    folder.mkdir()
+    if subprocess.run(["mount", "-t", "tmpfs", "-o", f"size={size}", "small", folder], capture_output=True, check=False).returncode:
+        raise NotTried("the right to mount: a full disk")
+    try:
+        yield
+    finally:
+        subprocess.run(["umount", folder], check=False)
+
+
+def full_disk_of_the_database(room):
+    """An office that fails is as a kill: what it was to do is done or not, and the record goes on from there."""
+    small, folder = room / "small", room / "record"
+    folder.mkdir()
+    with disk_of(small, 400_000):
+        with Resident(small, "--record", folder) as service:
+            expect(converse(service, one_file.session(600_000, 128, 2)), f"session {CARMAKER} in: fault: 3 office", "the line")
+            service.ends(1, b"fault: 3 office\n")
+        subprocess.run(["mount", "-o", "remount,size=4000000", small], check=True)
+        with Resident(small, "--record", folder, "--jobs", "1") as service:
+            converse(service, one_file.session(100_000, 128, 2))
+            service.ends()
+        expect_same(room, station="small/database")
+
+
+def full_disk(room):
+    """A station whose disk is full ends, and nothing is answered that isn't recorded."""
+    with disk_of(room / "record", 65_536):
+        file = room / "file"
+        file.write_bytes(bytes(100_000))
+        with recording(room) as service:
+            told = submit(service, "A", file)
+            expect(told, "", "what the command printed")
+            service.ends(1, b"fault: 7 file\n")
+        expect(len(tables.read(room / "database")["out_file"]), 0, "the files that were submitted")
+        file.write_bytes(b"ABC")
+        with recording(room, "--jobs", "1") as service:
+            expect(submit(service, "B", file), "done: submit 1\n", "submit of a small file")
+            service.ends()
+        expect_same(room, 0, 1)
+
+
+CASES = [commands, rows, two_stations, book_read_again, killed_at_moments, killed_beside_partners, changed_octet, cut_record, backup, days, two_in_one_folder, without_syncing, other_database, full_disk, full_disk_of_the_database]
+
+
+def tried(case):
+    """Runs a case. It returns its result, and whether it failed."""
+    with tempfile.TemporaryDirectory() as room:
+        try:
+            case(Path(room))
+        except NotTried as why:
+            return f"NOT TRIED without {why}", False
+        except (Wrong, OSError, subprocess.SubprocessError, ValueError, LookupError) as why:
+            return f"{case.__name__.replace('_', ' ')}: {type(why).__name__}: {why}", True
+    return f"{case.__name__.replace('_', ' ')}: as it must be", False
+
+
+def main():
+    cases = [case for case in CASES if not sys.argv[1:] or any(word in case.__name__ for word in sys.argv[1:])]
+    with ThreadPoolExecutor(max_workers=4) as runners:
+        tries = list(runners.map(tried, cases))
+    print("".join(f"{told}\n" for told, _ in tries), end="")
+    failed = sum(has_failed for _, has_failed in tries)
+    print(f"{sum(told.endswith('as it must be') for told, _ in tries)} passed, {failed} failed")
+    return 1 if failed or not cases else 0
+
+
+if __name__ == "__main__":
+    sys.exit(main())

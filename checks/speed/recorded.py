@@ -1,0 +1,143 @@
+#!/usr/bin/env python3
+"""Measures what a record costs: beside a station without one, beside `feed`, and as it is read.
+
+    checks/speed/recorded.py [--assert]
+
+Three stations receive 8 MiB in large windows by turns: without a record, with one, and with one that isn't synced. The least time of each counts.
+With a record a session may take 1.3 times as long on the clock, and 1.1 times without syncs. `replay` of such a session may take the processor no
+longer than `feed` of its octets, each over a new database. A record that is read to its end, behind which nothing is played, may take a processor
+10 s for 1 GB. With `--assert` it fails if something takes longer than it may. The last line is `N passed, M failed`.
+
+Shows: what a record adds to a session of 8 MiB, synced and not; what `replay` takes beside `feed`; what reading a record takes. It fails where that is
+more than 1.3 and 1.1 times, longer than `feed`, or more than 10 s of a processor for 1 GB
+"""
+
+import argparse
+import contextlib
+import shutil
+import sys
+import tempfile
+import time
+from pathlib import Path
+
+sys.path.insert(0, str(Path(__file__).resolve().parents[1] / "lib"))
+
+from filled import BLOCK, MEBI
+from holding import Holding, spoken
+from measured import by_processor, run, run_quietly
+from one_file import BOOK, FILE, data_frames, frame_of
+from program import PROGRAM
+
+SIZE, BUFFER = 8 * MEBI, 16384
+OFTEN, ROUNDS = 7, 4
+# The random error of the clock, in seconds.
+OFF = 0.0002
+WORDS = {"without a record": [], "with a record": ["--record"], "without syncs": ["--record-sync", "no", "--record"]}
+MOST = {"with a record": 1.3, "without syncs": 1.1}
+
+
+def file_of(name, size=SIZE):
+    """The frames with which a file is sent to the station."""
+    offer = frame_of("SFID", size=str(size // BLOCK), **{**FILE, "dataset": name})
+    return [offer, *data_frames(size, BUFFER), frame_of("EFID", records="0", units=str(size))]
+
+
+class Room:
+    """A folder with a book, an empty database, and stations that keep records or none."""
+
+    def __init__(self, path):
+        self.path = path
+        self.book, self.empty = path / "book.toml", path / "empty"
+        self.book.write_text(BOOK.format(buffer=BUFFER, credit=99))
+        run_quietly([PROGRAM, "init", "--db", self.empty])
+
+    def station(self, name):
+        folder = self.path / name
+        (folder / "record").mkdir(parents=True)
+        words = WORDS[name] + ([folder / "record"] if WORDS[name] else [])
+        return Holding(folder, self.empty, self.book, *words)
+
+    def again(self, name):
+        """A new database."""
+        path = self.path / name
+        for end in ("", "-wal"):
+            Path(f"{path}{end}").unlink(missing_ok=True)
+        shutil.copyfile(self.empty, path)
+        return path
+
+
+def clocked(station, frames):
+    begin = time.perf_counter()
+    station.session(*frames)
+    return time.perf_counter() - begin
+
+
+def sessions(room):
+    """Whether sessions with a record take no longer than they may."""
+    with contextlib.ExitStack() as stack:
+        stations = {name: stack.enter_context(room.station(name)) for name in WORDS}
+        least, turn = {}, 0
+        while turn < OFTEN or (turn < OFTEN * ROUNDS and not are_held(least)):
+            frames = file_of(f"IN.{turn}")
+            for name, station in stations.items():
+                least[name] = min(least.get(name, 999), clocked(station, frames))
+            turn += 1
+    for name, most in MOST.items():
+        first, second = least["without a record"], least[name]
+        line = f"  8 MiB come in: {first * 1000:.1f} ms without a record, {second * 1000:.1f} ms {name}, {second / first:.2f} times"
+        print(line if is_held(least, name) else f"{line}: TOO MUCH, it may be {most} times", flush=True)
+    return [is_held(least, name) for name in MOST]
+
+
+def is_held(least, name):
+    return least[name] <= MOST[name] * least["without a record"] + OFF
+
+
+def are_held(least):
+    return all(is_held(least, name) for name in MOST)
+
+
+def replays(room):
+    """Whether a record is replayed as fast as its octets are fed, and read as fast as it may be."""
+    name = "with a record"
+    shutil.rmtree(room.path / name)
+    with room.station(name) as station:
+        station.session(*file_of("IN", 64 * MEBI))
+        run_quietly([PROGRAM, "stop", "--db", station.database])
+        station.program.wait()
+    record, heard = station.database.parent / "record", room.path / "heard"
+    heard.write_bytes(spoken(*file_of("IN", 64 * MEBI)))
+    of_book = ["--book", room.book]
+    replayed, fed, read = [], [], []
+    for _ in range(3):
+        words = [PROGRAM, "replay", "--record", record, "--db"]
+        replayed.append(run([*words, room.again("again"), *of_book]))
+        # The database has the register of the last entry now, so the record is only read.
+        read.append(run([*words, room.path / "again", *of_book]))
+        fed.append(run([PROGRAM, "feed", "--db", room.again("fed"), *of_book, heard, room.path / "said"]))
+    replayed, fed, read = (by_processor(runs).processor for runs in (replayed, fed, read))
+    size = sum(file.stat().st_size for file in record.iterdir())
+    per_gigabyte = read / size * 1e9
+    told = [
+        (f"a session of 64 MiB: {fed:.2f} s by `feed`, {replayed:.2f} s by `replay`, {replayed / fed:.2f} times", replayed <= fed + OFF),
+        (f"a record of {size / 1e6:.0f} MB is read in {read:.2f} s, {per_gigabyte:.1f} s for 1 GB", per_gigabyte <= 10),
+    ]
+    for line, is_well in told:
+        print(f"  {line}{'' if is_well else ': TOO MUCH'}", flush=True)
+    return [is_well for _, is_well in told]
+
+
+def main():
+    parser = argparse.ArgumentParser(description=__doc__.splitlines()[0])
+    parser.add_argument("--assert", action="store_true", dest="is_asserted")
+    taken = parser.parse_args()
+    with tempfile.TemporaryDirectory() as path:
+        room = Room(Path(path))
+        done = sessions(room) + replays(room)
+    failed = done.count(False)
+    print(f"{len(done) - failed} passed, {failed} failed")
+    return 1 if taken.is_asserted and failed else 0
+
+
+if __name__ == "__main__":
+    sys.exit(main())

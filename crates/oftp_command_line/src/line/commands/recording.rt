@@ -1,0 +1,45 @@
+//! The option `record-sync` of `run`, and the command `replay`.
+#![tactic(auto, using(crate::proofs::Values::has_text), unfolding(crate::specs::RecordLines::replay_app))]
+
+ghost use Rattle.std.specs.Prelude.{◌≡◌, codes};
+ghost use Rattle.oftp_command_line.specs.Arguments.{HasValues, values_in};
+ghost use Rattle.oftp_command_line.specs.RecordLines.{replay_app, replay_said, replay_with};
+
+use super::files::{Files, files_read};
+use crate::line::values::given;
+use clap::ArgMatches;
+
+/// Whether a record is synced before an answer to what it has goes out.
+#[derive(Debug, Clone, Copy, PartialEq, Eq)]
+pub enum RecordSync {
+    /// It is.
+    Synced,
+    /// It isn't.
+    Unsynced,
+}
+
+/// Whether a record is synced, by its names for `run`.
+pub(super) const RECORD_SYNCS: &[(&str, RecordSync)] = &[
+    ("yes", RecordSync::Synced),
+    ("no", RecordSync::Unsynced),
+];
+
+/// The command `replay`, which plays a record over a database.
+#[derive(Debug, Clone, Copy, PartialEq, Eq)]
+pub struct Replay<'a> {
+    /// The folder with the record.
+    pub folder: &'a str,
+    /// The database and the book.
+    pub files: Files<'a>,
+}
+
+/// Reads the values of the options of `replay`.
+pub(super) fn replay_read<'a>(matches: &ArgMatches<'a>) -> Replay<'a>
+    requires { HasValues replay_app (values_in matches.now) }
+    ensures { replay_said result ≡ replay_with (values_in matches.now) }
+{
+    Replay {
+        folder: given(matches, "record"),
+        files: files_read(matches),
+    }
+}

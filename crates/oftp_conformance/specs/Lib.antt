@@ -1,0 +1,16 @@
+pub mod Departures
+pub mod FrameRules
+pub mod FormRules
+pub mod ValueRules
+pub mod OrderRules
+pub mod Rules
+pub mod Places
+pub mod Forms
+pub mod Walks
+pub mod Values
+pub mod Findings
+pub mod Sessions
+pub mod Orders
+pub mod Hearing
+pub mod Silences
+pub mod Lines

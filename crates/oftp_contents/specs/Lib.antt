@@ -1,0 +1,3 @@
+-- The definitions that contracts cite: the fields of a content as octets, and the codes.
+pub mod Fields
+pub mod Codes

@@ -1,0 +1,32 @@
+//! What the entries of a station's record tell, as octets, written and read.
+//!
+//! The content of each entry has the same layout ([`ContentFields`]):
+//!
+//! | Octets | What |
+//! |---|---|
+//! | 0 to 7 | a number |
+//! | 8 | a code |
+//! | then | two texts, each with its length before it, in four octets |
+//! | the others | octets |
+//!
+//! Numbers have their most significant octet first. What the fields are depends on the kind of the entry:
+//!
+//! | Kind | Number | Code | First text | Second text | Octets |
+//! |---|---|---|---|---|---|
+//! | opening | the salt of the passwords | 0 | the program's version | the digest of its register | its book |
+//! | session | of the session | [`RecordSide`] | the partner's code | the partner's address | |
+//! | octets in, octets out | of the session | 0 | | | the octets |
+//! | call | of the call | 0 | | | the request |
+//! | end | of the session or the call | [`EndCause`] | its line | | |
+//! | mark | 0 | [`Marked`] | the digest | | |
+//!
+//! [`ContentFields::octets`] writes a content, and [`ContentFields::of`] reads one. Both are proved against the one encoding (specs/Fields.antt). The
+//! theorem of [`laws`] is that octets are read in one way: so what was written is what is read.
+#![tactic(auto)]
+
+mod codes;
+mod fields;
+pub mod laws;
+
+pub use codes::{EndCause, Marked, RecordSide};
+pub use fields::ContentFields;

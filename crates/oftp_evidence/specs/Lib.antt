@@ -1,0 +1,6 @@
+pub mod Facts
+pub mod Folders
+pub mod Laws
+pub mod Parts
+pub mod Scripts
+pub mod Sides

@@ -1,0 +1,16 @@
+//! What a record and a register have of one file: the commands that say something of it, in the octets of a session's side, and what a folder
+//! of evidence tells of it.
+#![tactic(auto)]
+
+mod facts;
+mod folder;
+pub mod laws;
+mod names;
+mod part;
+mod script;
+mod session_parts;
+
+pub use folder::{FileFacts, ResponseFacts, SessionFacts, StationFacts, readme};
+pub use part::{Part, part_in};
+pub use script::verify_script;
+pub use session_parts::SessionParts;

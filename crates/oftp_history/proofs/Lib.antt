@@ -1,0 +1,3 @@
+pub mod DetailLemmas
+pub mod PastLemmas
+pub mod Utf8

@@ -1,0 +1,5 @@
+pub mod Details
+pub mod Histories
+pub mod Past
+pub mod Proofs
+pub mod Values

@@ -1,0 +1,401 @@
+//! Writing a record.
+
+use crate::days::{day_of, file_of, record_files};
+use crate::reading::{Found, RecordReader, refuse_others};
+use crate::registers::Digest;
+use jiff::Timestamp;
+use oftp_contents::{ContentFields, EndCause, Marked, RecordSide};
+use oftp_files::{file_fault, is_free, make_private};
+use oftp_outcomes::Fault;
+use oftp_record::{AppendFault, ChainDigest, RecordEntry, RecordKind, append_entry};
+use std::cell::RefCell;
+use std::fs::{self, File, OpenFile, OpenOptions};
+use std::io::{ErrorKind, Write};
+
+/// Whether what is recorded is synced before an answer to it goes out.
+#[derive(Clone, Copy, Debug, PartialEq, Eq)]
+pub enum Syncing {
+    /// It is.
+    Synced,
+    /// It isn't.
+    Unsynced,
+}
+
+/// The fields of a content that has none.
+const NOTHING: ContentFields<'static> = ContentFields {
+    number: 0,
+    code: 0,
+    first: &[],
+    second: &[],
+    rest: &[],
+};
+
+/// A record that is written.
+#[derive(Drop)]
+pub struct Recorder<'a> {
+    rt: &'a HostRuntime,
+    folder: &'a str,
+    syncing: Syncing,
+    // `None` once the record couldn't be written.
+    day: RefCell<Option<Day>>,
+}
+
+/// The file of a day.
+#[derive(Drop)]
+struct Day {
+    name: String,
+    file: File,
+    // That of its last entry.
+    digest: Digest,
+}
+
+impl<'a> Recorder<'a> {
+    /// Goes on with the record in a folder. What is behind the last whole entry of the day's file is cut off.
+    ///
+    /// # Errors
+    /// [`Fault::File`] if there is no such folder, a file of it can't be written or was changed, or another station writes it; [`Fault::MEMORY`].
+    pub fn open(
+        rt: &'a HostRuntime,
+        folder: &'a str,
+        syncing: Syncing,
+    ) -> Result<Recorder<'a>, Fault> {
+        let name = last_day(rt, folder)?;
+        let before = last_before(rt, folder, name.as_str())?;
+        let day = Day::open(rt, folder, name, before)?;
+        Ok(Recorder {
+            rt,
+            folder,
+            syncing,
+            day: RefCell::new(Some(day)),
+        })
+    }
+
+    /// Records that the program begins, with a book whose passwords are hidden by this salt, and a register with this digest.
+    ///
+    /// # Errors
+    /// [`Fault::File`] if the record can't be written; [`Fault::MEMORY`].
+    pub fn begin(
+        &self,
+        version: &str,
+        salt: u64,
+        book: &[u8],
+        register: &Digest,
+    ) -> Result<(), Fault> {
+        let fields = ContentFields {
+            number: salt,
+            first: version.as_bytes(),
+            second: register.as_slice(),
+            rest: book,
+            ..NOTHING
+        };
+        self.put(RecordKind::Opening, &fields)?;
+        self.sync()
+    }
+
+    /// Records the register at this moment.
+    ///
+    /// # Errors
+    /// Those of [`Recorder::begin`].
+    pub fn mark(&self, register: &Digest) -> Result<(), Fault> {
+        self.put(RecordKind::Mark, &mark_of(Marked::Register, register))?;
+        self.sync()
+    }
+
+    /// Records that a session begins, with the partner's code and address, and the book of the command that wanted it.
+    ///
+    /// # Errors
+    /// Those of [`Recorder::begin`].
+    pub fn session(
+        &self,
+        number: u64,
+        side: RecordSide,
+        partner: &str,
+        peer: &str,
+        book: &[u8],
+    ) -> Result<(), Fault> {
+        let fields = ContentFields {
+            number,
+            code: side.code(),
+            first: partner.as_bytes(),
+            second: peer.as_bytes(),
+            rest: book,
+        };
+        self.put(RecordKind::Session, &fields)
+    }
+
+    /// Records what a session is to hear.
+    ///
+    /// # Errors
+    /// Those of [`Recorder::begin`].
+    pub fn heard(&self, number: u64, octets: &[u8]) -> Result<(), Fault> {
+        if octets.is_empty() {
+            return Ok(());
+        }
+        self.put(RecordKind::OctetsIn, &octets_of(number, octets))
+    }
+
+    /// Records what a session has said, before it goes out.
+    ///
+    /// # Errors
+    /// Those of [`Recorder::begin`].
+    pub fn said(&self, number: u64, octets: &[u8]) -> Result<(), Fault> {
+        if octets.is_empty() {
+            return Ok(());
+        }
+        self.put(RecordKind::OctetsOut, &octets_of(number, octets))?;
+        self.sync()
+    }
+
+    /// Records an operator's call that is to be made.
+    ///
+    /// # Errors
+    /// Those of [`Recorder::begin`].
+    pub fn called(&self, number: u64, request: &[u8]) -> Result<(), Fault> {
+        self.put(RecordKind::Call, &octets_of(number, request))
+    }
+
+    /// Records how a session or an operator's call ended.
+    ///
+    /// # Errors
+    /// Those of [`Recorder::begin`].
+    pub fn ended(&self, number: u64, cause: EndCause, line: &str) -> Result<(), Fault> {
+        let fields = ContentFields {
+            number,
+            code: cause.code(),
+            first: line.as_bytes(),
+            ..NOTHING
+        };
+        self.put(RecordKind::End, &fields)?;
+        self.sync()
+    }
+
+    /// Appends an entry.
+    fn put(&self, kind: RecordKind, fields: &ContentFields<'_>) -> Result<(), Fault> {
+        let Ok(Some(day)) = self.day.try_replace(None) else {
+            return Err(Fault::File);
+        };
+        let day = self.day_now(day)?;
+        let day = day.put(self.rt, kind, fields)?;
+        let _ = self.day.try_replace(Some(day));
+        Ok(())
+    }
+
+    /// The file of the day that it is. A day that is earlier than the last one goes on as that.
+    fn day_now(&self, day: Day) -> Result<Day, Fault> {
+        let name = day_of(self.rt, now_text(self.rt)?.as_str())?;
+        if name.as_str() <= day.name.as_str() {
+            return Ok(day);
+        }
+        day.sync()?;
+        Day::open(self.rt, self.folder, name, Some(day.digest))
+    }
+
+    /// Syncs what was recorded, unless that is left out.
+    fn sync(&self) -> Result<(), Fault> {
+        if self.syncing == Syncing::Unsynced {
+            return Ok(());
+        }
+        let Ok(Some(day)) = self.day.try_replace(None) else {
+            return Err(Fault::File);
+        };
+        day.sync()?;
+        let _ = self.day.try_replace(Some(day));
+        Ok(())
+    }
+}
+
+impl Day {
+    /// Opens the file of a day, and makes it if it isn't there. Its first entry then says which entry was the last of the day before.
+    fn open(
+        rt: &HostRuntime,
+        folder: &str,
+        name: String,
+        before: Option<Digest>,
+    ) -> Result<Day, Fault> {
+        let path = file_of(rt, folder, name.as_str())?;
+        match make_private(rt, path.as_str()) {
+            Ok(file) => {
+                sync_folder(rt, folder);
+                Day::new(rt, name, file, before)
+            }
+            Err(error) if error.kind() == ErrorKind::AlreadyExists => {
+                Day::go_on(rt, path.as_str(), name)
+            }
+            Err(error) => Err(file_fault(&error)),
+        }
+    }
+
+    /// Begins a file.
+    fn new(
+        rt: &HostRuntime,
+        name: String,
+        file: File,
+        before: Option<Digest>,
+    ) -> Result<Day, Fault> {
+        if !is_free(&file) {
+            return Err(Fault::File);
+        }
+        let digest = ChainDigest::first().0;
+        let day = Day { name, file, digest };
+        match before {
+            Some(before) => day.put(rt, RecordKind::Mark, &mark_of(Marked::DayBefore, &before)),
+            None => Ok(day),
+        }
+    }
+
+    /// Goes on with a file behind its last whole entry.
+    fn go_on(rt: &HostRuntime, path: &str, name: String) -> Result<Day, Fault> {
+        let file = OpenOptions::new()
+            .read(true)
+            .append(true)
+            .open(rt, path)
+            .map_err(|error| file_fault(&error))?;
+        refuse_others(&file)?;
+        if !is_free(&file) {
+            return Err(Fault::File);
+        }
+        let ended = ended_at(rt, path)?;
+        file.set_len(ended.whole)
+            .map_err(|error| file_fault(&error))?;
+        let digest = ended.digest;
+        Ok(Day { name, file, digest })
+    }
+
+    /// Appends an entry, with one write.
+    fn put(
+        mut self,
+        rt: &HostRuntime,
+        kind: RecordKind,
+        fields: &ContentFields<'_>,
+    ) -> Result<Day, Fault> {
+        let content = fields.octets(rt.alloc()).map_err(append_fault)?;
+        let mut octets = Vec::new(rt.alloc());
+        let entry = RecordEntry {
+            kind,
+            moment: moment_now(rt)?,
+            content: content.as_slice(),
+        };
+        let digest = append_entry(&mut octets, &entry, &ChainDigest(self.digest)).map_err(
+            append_fault,
+        )?;
+        match self.file.write_all(octets.as_slice()) {
+            Ok(()) => {
+                self.digest = digest.0;
+                Ok(self)
+            }
+            Err(error) => Err(file_fault(&error)),
+        }
+    }
+
+    /// Syncs it.
+    fn sync(&self) -> Result<(), Fault> {
+        match self.file.sync_data() {
+            Ok(()) => Ok(()),
+            Err(_) => Err(Fault::File),
+        }
+    }
+}
+
+/// Where a file's whole entries end.
+#[derive(Clone, Copy)]
+struct Ended {
+    whole: u64,
+    digest: Digest,
+}
+
+/// Reads a file of a record to its end.
+///
+/// # Errors
+/// [`Fault::File`] if it can't be read, or was changed; [`Fault::MEMORY`].
+fn ended_at(rt: &HostRuntime, path: &str) -> Result<Ended, Fault> {
+    let mut reader = RecordReader::open(rt, path)?;
+    for _ in 0..u64::MAX {
+        match reader.advance()? {
+            Found::Entry => {}
+            Found::Changed => return Err(Fault::File),
+            Found::End | Found::Cut => break,
+        }
+    }
+    Ok(Ended {
+        whole: reader.whole(),
+        digest: reader.digest(),
+    })
+}
+
+/// The day that it is, or a later one of which there is a file already, since the clock was set back.
+fn last_day(rt: &HostRuntime, folder: &str) -> Result<String, Fault> {
+    let mut last = day_of(rt, now_text(rt)?.as_str())?;
+    for name in record_files(rt, folder)? {
+        if name.as_str() > last.as_str() {
+            last = name;
+        }
+    }
+    Ok(last)
+}
+
+/// The digest of the last entry of the last day before this one, if there is one.
+fn last_before(rt: &HostRuntime, folder: &str, day: &str) -> Result<Option<Digest>, Fault> {
+    let mut last = None;
+    for name in record_files(rt, folder)? {
+        if name.as_str() < day {
+            last = Some(name);
+        }
+    }
+    match last {
+        Some(name) => {
+            let path = file_of(rt, folder, name.as_str())?;
+            let ended = ended_at(rt, path.as_str())?;
+            Ok(Some(ended.digest))
+        }
+        None => Ok(None),
+    }
+}
+
+/// Syncs a folder, so that the names in it are durable. File systems that don't sync folders are accepted.
+fn sync_folder(rt: &HostRuntime, folder: &str) {
+    if let Ok(folder) = fs::open(rt, folder) {
+        let _ = folder.sync_all();
+    }
+}
+
+/// The fields of what a session hears or says, or of a request.
+fn octets_of(number: u64, octets: &[u8]) -> ContentFields<'_> {
+    ContentFields {
+        number,
+        rest: octets,
+        ..NOTHING
+    }
+}
+
+/// The fields of a mark.
+fn mark_of(marked: Marked, digest: &Digest) -> ContentFields<'_> {
+    ContentFields {
+        code: marked.code(),
+        first: digest.as_slice(),
+        ..NOTHING
+    }
+}
+
+/// The time as text, which begins with the date.
+fn now_text(rt: &HostRuntime) -> Result<String, Fault> {
+    match Timestamp::now(rt) {
+        Ok(now) => Ok(format!(in rt.alloc(); "{now}")?),
+        Err(_) => Err(Fault::File),
+    }
+}
+
+/// The time: microseconds since 1970 began. One before that counts as its beginning.
+fn moment_now(rt: &HostRuntime) -> Result<u64, Fault> {
+    match Timestamp::now(rt) {
+        Ok(now) => Ok(u64::try_from(now.as_microsecond()).unwrap_or(0)),
+        Err(_) => Err(Fault::File),
+    }
+}
+
+/// The error for an entry that can't be written.
+fn append_fault(fault: AppendFault) -> Fault {
+    match fault {
+        AppendFault::TooLong => Fault::File,
+        AppendFault::Memory => Fault::MEMORY,
+    }
+}

@@ -1,0 +1,154 @@
+//! What partners did in the sessions of a record.
+
+use crate::tape::{At, Tape, text_of};
+use oftp_contents::ContentFields;
+use oftp_engine::{Refusal, RunFault};
+use oftp_files::explained;
+use oftp_outcomes::{DONE, FAILED, Fault, Outcome, tell, write_line};
+use oftp_record::RecordKind;
+use std::alloc::Global;
+use std::io::Write;
+
+/// Whether a session is being read.
+#[derive(Clone, Copy, PartialEq, Eq)]
+enum Reading {
+    /// The session with this number.
+    Session(u64),
+    /// None.
+    Nothing,
+}
+
+/// What was read of the sessions that are asked for.
+#[derive(Drop)]
+struct Listener {
+    alloc: Global,
+    // The number of the one session that is asked for; 0 for each.
+    wanted: u64,
+    reading: Reading,
+    // Which session it is.
+    title: String,
+    heard: Vec<u8>,
+    said: Vec<u8>,
+    // How many sessions were told of, and of how many there was something to tell.
+    sessions: u64,
+    broken: u64,
+}
+
+/// Tells what partners did that RFC 5024 doesn't allow, or that this station doesn't take, in the sessions of the record in a folder: in the one with a
+/// number, or with 0 in each. A record that is cut off or was changed is told of, up to there. Returns the exit status: 1 if there was something to
+/// tell, and that of a refusal if there is no such session.
+///
+/// # Errors
+/// [`Fault::File`] if the record can't be read; [`Fault::Run`] if `out` returned an error; [`Fault::MEMORY`].
+pub fn explain_record(
+    rt: &HostRuntime,
+    folder: &str,
+    session: u64,
+    out: &mut impl Write,
+) -> Result<u8, Fault> {
+    let mut tape = Tape::open(rt, folder)?;
+    let mut listener = Listener::new(rt.alloc(), session);
+    for _ in 0..u64::MAX {
+        match tape.at() {
+            At::End => break,
+            At::Entry(kind) => listener.take(kind, tape.content(), out)?,
+            At::Broken(what) => {
+                listener.close(out)?;
+                let line = tape.told(what)?;
+                write_line(out, &line.as_str())?;
+                return Ok(FAILED);
+            }
+        }
+        tape.advance()?;
+    }
+    listener.close(out)?;
+    listener.status(out)
+}
+
+impl Listener {
+    /// Nothing was read yet.
+    fn new(alloc: Global, wanted: u64) -> Listener {
+        Listener {
+            alloc,
+            wanted,
+            reading: Reading::Nothing,
+            title: String::new(alloc),
+            heard: Vec::new(alloc),
+            said: Vec::new(alloc),
+            sessions: 0,
+            broken: 0,
+        }
+    }
+
+    /// Takes an entry.
+    fn take(
+        &mut self,
+        kind: RecordKind,
+        content: &[u8],
+        out: &mut impl Write,
+    ) -> Result<(), Fault> {
+        let Some(fields) = ContentFields::of(content) else {
+            return Ok(());
+        };
+        match kind {
+            RecordKind::Session => {
+                self.close(out)?;
+                self.begin(&fields)
+            }
+            RecordKind::OctetsIn if self.reading == Reading::Session(fields.number) => {
+                Ok(self.heard.extend_from_slice(fields.rest)?)
+            }
+            RecordKind::OctetsOut if self.reading == Reading::Session(fields.number) => {
+                Ok(self.said.extend_from_slice(fields.rest)?)
+            }
+            RecordKind::End if self.reading == Reading::Session(fields.number) => self.close(out),
+            _ => Ok(()),
+        }
+    }
+
+    /// Begins a session, if it is asked for.
+    fn begin(&mut self, fields: &ContentFields<'_>) -> Result<(), Fault> {
+        if self.wanted != 0 && self.wanted != fields.number {
+            return Ok(());
+        }
+        let partner = text_of(fields.first);
+        let peer = text_of(fields.second);
+        let number = fields.number;
+        self.title = format!(in self.alloc; "session {number}: {partner} {peer}")?;
+        self.reading = Reading::Session(number);
+        self.sessions = self.sessions.saturating_add(1);
+        Ok(())
+    }
+
+    /// Tells of the session that was read, if there is one.
+    fn close(&mut self, out: &mut impl Write) -> Result<(), Fault> {
+        if self.reading == Reading::Nothing {
+            return Ok(());
+        }
+        self.reading = Reading::Nothing;
+        let lines = explained(
+            self.alloc,
+            self.heard.as_slice(),
+            Some(self.said.as_slice()),
+        )?;
+        self.heard.clear();
+        self.said.clear();
+        if lines.is_empty() {
+            return Ok(());
+        }
+        self.broken = self.broken.saturating_add(1);
+        write_line(out, &self.title.as_str())?;
+        match out.write_all(lines.as_bytes()) {
+            Ok(()) => Ok(()),
+            Err(_) => Err(Fault::Run(RunFault::Write)),
+        }
+    }
+
+    /// The exit status.
+    fn status(&self, out: &mut impl Write) -> Result<u8, Fault> {
+        if self.sessions == 0 && self.wanted != 0 {
+            return tell(Outcome::Refused(Refusal::Unknown), out);
+        }
+        Ok(if self.broken == 0 { DONE } else { FAILED })
+    }
+}

@@ -1,0 +1,170 @@
+//! What was played so far, and the ends of sessions and calls that are still to be compared.
+
+use crate::tape::{At, Stop, Tape};
+use oftp_contents::{ContentFields, EndCause};
+use oftp_life::Life;
+use oftp_outcomes::Fault;
+use oftp_record::RecordKind;
+use oftp_recording::{Digest, end_for, hidden, line_of_end, register_digest};
+use oftp_register::Office;
+use oftp_requests::{Asked, line_of_answer};
+use std::alloc::Global;
+
+/// The line of a session or a call that is over.
+#[derive(Drop)]
+struct Ended {
+    job: u64,
+    line: String,
+}
+
+/// A record that is played.
+#[derive(Drop)]
+pub(crate) struct Player<'a> {
+    pub(crate) alloc: Global,
+    pub(crate) tape: Tape<'a>,
+    // The station's book.
+    octets: &'a [u8],
+    pub(crate) sessions: u64,
+    calls: u64,
+    ended: Vec<Ended>,
+}
+
+impl<'a> Player<'a> {
+    /// A record of which nothing was played.
+    pub(crate) fn new(alloc: Global, tape: Tape<'a>, octets: &'a [u8]) -> Player<'a> {
+        Player {
+            alloc,
+            tape,
+            octets,
+            sessions: 0,
+            calls: 0,
+            ended: Vec::new(alloc),
+        }
+    }
+
+    /// How many sessions and calls were played.
+    pub(crate) fn counts(&self) -> (u64, u64) {
+        (self.sessions, self.calls)
+    }
+
+    /// Goes on to the entry with the digest of a register.
+    pub(crate) fn find(&mut self, register: &Digest) -> Result<(), Stop> {
+        for _ in 0..u64::MAX {
+            if self.tape.register() == Some(*register) {
+                return Ok(());
+            }
+            match self.tape.at() {
+                At::Entry(_) => self.tape.advance()?,
+                At::End => return Err(Stop::Differs("no entry has the register of the database")),
+                At::Broken(what) => return Err(Stop::Differs(what)),
+            }
+        }
+        Ok(())
+    }
+
+    /// Compares the register with that of an opening or a mark, and the book with that of an opening.
+    pub(crate) fn compare<O: Office>(&mut self, life: &mut Life<O>) -> Result<(), Stop> {
+        let Some(wanted) = self.tape.register() else {
+            return Err(Stop::Differs("it is none that a station records"));
+        };
+        if register_digest(self.alloc, life)? != wanted {
+            return Err(Stop::Differs("the register"));
+        }
+        if self.tape.at() == At::Entry(RecordKind::Opening) && !self.has_book()? {
+            return Err(Stop::Differs("the book"));
+        }
+        Ok(self.tape.advance()?)
+    }
+
+    /// Whether an opening has the station's book.
+    fn has_book(&self) -> Result<bool, Stop> {
+        let Some(fields) = ContentFields::of(self.tape.content()) else {
+            return Ok(false);
+        };
+        let book = hidden(self.alloc, self.octets, fields.number)?;
+        Ok(book.as_slice() == fields.rest)
+    }
+
+    /// Makes an operator's call again. One behind which the station was killed may have been made or not.
+    pub(crate) fn call<O: Office>(&mut self, life: &mut Life<O>) -> Result<(), Stop> {
+        let content = self.tape.copied(self.alloc)?;
+        let Some(fields) = ContentFields::of(content.as_slice()) else {
+            return Err(Stop::Differs("it is no call"));
+        };
+        let Some(asked) = Asked::of(self.alloc, fields.rest) else {
+            return Err(Stop::Differs("it is no call"));
+        };
+        self.tape.advance()?;
+        if !self.was_done(life)? {
+            return Ok(());
+        }
+        let made = asked.change(self.alloc, life);
+        let line = line_of_answer(self.alloc, made.octets.as_slice())?;
+        self.calls = self.calls.saturating_add(1);
+        self.keep(fields.number, line)
+    }
+
+    /// Whether that was done which the record has last before this place: not where the record ends there, or the station was killed with the
+    /// register that it had before.
+    fn was_done<O: Office>(&mut self, life: &mut Life<O>) -> Result<bool, Stop> {
+        match self.tape.at() {
+            At::Entry(RecordKind::Opening) => {
+                let now = register_digest(self.alloc, life)?;
+                Ok(self.tape.register() != Some(now))
+            }
+            At::Entry(_) => Ok(true),
+            At::End | At::Broken(_) => Ok(false),
+        }
+    }
+
+    /// Keeps the line of a session or a call that is over, until its end is read.
+    pub(crate) fn keep(&mut self, job: u64, line: String) -> Result<(), Stop> {
+        self.ended.retain(|ended| ended.job != job);
+        match self.ended.push(Ended { job, line }) {
+            Ok(()) => Ok(()),
+            Err(_) => Err(Stop::Failed(Fault::MEMORY)),
+        }
+    }
+
+    /// Compares the end of a session or a call that is over.
+    pub(crate) fn compare_end(&mut self) -> Result<(), Stop> {
+        let content = self.tape.copied(self.alloc)?;
+        let Some(fields) = ContentFields::of(content.as_slice()) else {
+            return Err(Stop::Differs("it is no end"));
+        };
+        let line = match cause_line(self.alloc, fields.code)? {
+            Some(line) => Some(line),
+            None => self.take(fields.number),
+        };
+        let is_same = match line {
+            Some(line) => line.as_bytes() == fields.first,
+            None => fields.code == EndCause::Other.code(),
+        };
+        if is_same || fields.code == EndCause::Other.code() {
+            Ok(self.tape.advance()?)
+        } else {
+            Err(Stop::Differs("the line"))
+        }
+    }
+
+    /// The line that was kept of a session or a call.
+    fn take(&mut self, job: u64) -> Option<String> {
+        let place = self.ended.iter().position(|ended| ended.job == job)?;
+        let Ended { line, .. } = self.ended.remove(place);
+        Some(line)
+    }
+}
+
+/// The line of a session that ended for the cause with a code, if that alone determines it.
+fn cause_line(alloc: Global, code: u8) -> Result<Option<String>, Stop> {
+    let Some(cause) = EndCause::of_code(code) else {
+        return Err(Stop::Differs("it is no end"));
+    };
+    let Some(ended) = end_for(cause) else {
+        return Ok(None);
+    };
+    match line_of_end(alloc, &ended) {
+        Ok(line) => Ok(Some(line)),
+        Err(_) => Err(Stop::Failed(Fault::MEMORY)),
+    }
+}

@@ -1,0 +1,81 @@
+//! Playing a record over a register.
+
+use crate::player::Player;
+use crate::tape::{At, Stop, Tape};
+use oftp_life::Life;
+use oftp_outcomes::{DONE, FAILED, Fault, write_line};
+use oftp_partners::Book;
+use oftp_progress::Gauge;
+use oftp_record::RecordKind;
+use oftp_recording::register_digest;
+use oftp_register::Office;
+use std::io::Write;
+
+/// Plays the record in a folder over the register of a life, from the entry on that has the digest of that register, by the station's book, whose
+/// octets are given too. Writes what came of it to `out`: that all is the same, or the first difference. Returns the exit status.
+///
+/// # Errors
+/// [`Fault::File`] if the record can't be read; [`Fault::Run`] if the office failed, or `out` returned an error; [`Fault::MEMORY`].
+pub fn replay<O: Office + Drop>(
+    rt: &HostRuntime,
+    folder: &str,
+    life: Life<O>,
+    book: &Book,
+    octets: &[u8],
+    out: &mut impl Write,
+) -> Result<u8, Fault> {
+    let mut tape = Tape::open(rt, folder)?;
+    tape.gauge = Some(Gauge::new(rt));
+    let mut player = Player::new(rt.alloc(), tape, octets);
+    let played = player.play_all(life, book);
+    player.tape.finish();
+    match played {
+        Ok(()) => {
+            let (sessions, calls) = player.counts();
+            let line = format!(in rt.alloc(); "same: {sessions} sessions, {calls} calls")?;
+            write_line(out, &line.as_str())?;
+            Ok(DONE)
+        }
+        Err(Stop::Differs(what)) => {
+            let line = player.tape.told(what)?;
+            write_line(out, &line.as_str())?;
+            Ok(FAILED)
+        }
+        Err(Stop::Failed(fault)) => Err(fault),
+    }
+}
+
+impl Player<'_> {
+    /// Plays all entries.
+    fn play_all<O: Office + Drop>(&mut self, life: Life<O>, book: &Book) -> Result<(), Stop> {
+        let mut life = life;
+        let register = register_digest(self.alloc, &mut life)?;
+        self.find(&register)?;
+        for _ in 0..u64::MAX {
+            match self.tape.at() {
+                At::End => return Ok(()),
+                At::Broken(what) => return Err(Stop::Differs(what)),
+                At::Entry(RecordKind::Session) => life = self.session(life, book)?,
+                At::Entry(kind) => self.play_entry(kind, &mut life)?,
+            }
+        }
+        Ok(())
+    }
+
+    /// Plays an entry that is no session's beginning.
+    fn play_entry<O: Office + Drop>(
+        &mut self,
+        kind: RecordKind,
+        life: &mut Life<O>,
+    ) -> Result<(), Stop> {
+        match kind {
+            RecordKind::Opening | RecordKind::Mark => self.compare(life),
+            RecordKind::Call => self.call(life),
+            RecordKind::End => self.compare_end(),
+            RecordKind::Backup => Ok(self.tape.advance()?),
+            RecordKind::Session | RecordKind::OctetsIn | RecordKind::OctetsOut => {
+                Err(Stop::Differs("it belongs to no session"))
+            }
+        }
+    }
+}

@@ -1,0 +1,295 @@
+//! Playing a session.
+
+use crate::player::Player;
+use crate::tape::{At, Stop};
+use oftp_contents::{ContentFields, RecordSide};
+use oftp_engine::{Admission, End, Role};
+use oftp_files::book_of;
+use oftp_life::{Life, LifeSession, Opening, Stage};
+use oftp_outcomes::Fault;
+use oftp_partners::Book;
+use oftp_record::RecordKind;
+use oftp_recording::{line_of_end, register_digest};
+use oftp_register::Office;
+use oftp_requests::goes_on;
+use std::alloc::Global;
+
+/// A session that is played.
+#[derive(Drop)]
+struct Talk<'b, O: Office> {
+    alloc: Global,
+    number: u64,
+    session: LifeSession<'b, O>,
+    // What it has said, and the record hasn't said yet.
+    said: Vec<u8>,
+}
+
+impl Player<'_> {
+    /// Plays the session at which the record stands. Returns the life.
+    pub(crate) fn session<O: Office + Drop>(
+        &mut self,
+        life: Life<O>,
+        book: &Book,
+    ) -> Result<Life<O>, Stop> {
+        let content = self.tape.copied(self.alloc)?;
+        let Some(fields) = ContentFields::of(content.as_slice()) else {
+            return Err(Stop::Differs("it is no session"));
+        };
+        self.tape.advance()?;
+        if fields.rest.is_empty() {
+            return self.session_by(life, book, &fields);
+        }
+        let lent = book_of(self.alloc, fields.rest)?;
+        self.session_by(life, &lent, &fields)
+    }
+
+    /// Plays a session by a book.
+    fn session_by<O: Office + Drop>(
+        &mut self,
+        life: Life<O>,
+        book: &Book,
+        fields: &ContentFields<'_>,
+    ) -> Result<Life<O>, Stop> {
+        match RecordSide::of_code(fields.code) {
+            Some(RecordSide::Initiator) => {
+                let Some(partner) = book.partner(fields.first) else {
+                    return Err(Stop::Differs("the book has no such partner"));
+                };
+                let session = life.begin(self.alloc, book, Role::Initiator(partner));
+                self.play(Talk::new(self.alloc, fields.number, session), &[])
+            }
+            Some(RecordSide::Responder) => self.admitted(life, book, fields.number),
+            None => Err(Stop::Differs("it is no session")),
+        }
+    }
+
+    /// Plays a session with a caller, who is let in by the octets that were heard first. Without them it was never begun.
+    fn admitted<O: Office + Drop>(
+        &mut self,
+        life: Life<O>,
+        book: &Book,
+        number: u64,
+    ) -> Result<Life<O>, Stop> {
+        if self.tape.at() != At::Entry(RecordKind::OctetsIn) {
+            return Ok(life);
+        }
+        let content = self.tape.copied(self.alloc)?;
+        let Some(fields) = ContentFields::of(content.as_slice()) else {
+            return Err(Stop::Differs("it is no piece of a session"));
+        };
+        let mut opening = Opening::new(self.alloc, book);
+        drop(opening.take_out(self.alloc));
+        let count = let_in(&mut opening, fields.rest)?;
+        let Ok(guest) = opening.into_guest() else {
+            return Err(Stop::Differs("the caller isn't let in"));
+        };
+        self.tape.advance()?;
+        let session = life.admit(self.alloc, guest);
+        let rest = fields.rest.get(count..).unwrap_or(&[]);
+        self.play(Talk::new(self.alloc, number, session), rest)
+    }
+
+    /// Plays a session to its end, which hears these octets first. Returns the life.
+    fn play<O: Office + Drop>(
+        &mut self,
+        talk: Talk<'_, O>,
+        octets: &[u8],
+    ) -> Result<Life<O>, Stop> {
+        let mut talk = talk;
+        self.sessions = self.sessions.saturating_add(1);
+        if !octets.is_empty() {
+            self.hear_on(&mut talk, octets)?;
+        }
+        for _ in 0..u64::MAX {
+            match self.tape.at() {
+                At::Entry(RecordKind::OctetsIn) => self.hear(&mut talk)?,
+                At::Entry(RecordKind::OctetsOut) => self.compare_said(&mut talk)?,
+                At::Entry(RecordKind::End) => {
+                    if self.compare_talk(&mut talk)? {
+                        break;
+                    }
+                }
+                At::Entry(RecordKind::Opening) => {
+                    self.settle(&mut talk, &[])?;
+                    break;
+                }
+                _ => break,
+            }
+        }
+        if let Some(line) = talk.line()? {
+            self.keep(talk.number, line)?;
+        }
+        let Talk { session, .. } = talk;
+        let (life, _) = session.end();
+        Ok(life)
+    }
+
+    /// Lets a session hear the octets at which the record stands.
+    fn hear<O: Office + Drop>(&mut self, talk: &mut Talk<'_, O>) -> Result<(), Stop> {
+        let content = self.tape.copied(self.alloc)?;
+        let Some(fields) = ContentFields::of(content.as_slice()) else {
+            return Err(Stop::Differs("it is no piece of a session"));
+        };
+        if fields.number != talk.number {
+            return Err(Stop::Differs("the session"));
+        }
+        self.tape.advance()?;
+        self.hear_on(talk, fields.rest)
+    }
+
+    /// Lets a session hear octets, behind which the record stands. At its end nothing says that they were heard.
+    fn hear_on<O: Office + Drop>(
+        &mut self,
+        talk: &mut Talk<'_, O>,
+        octets: &[u8],
+    ) -> Result<(), Stop> {
+        match self.tape.at() {
+            At::Entry(RecordKind::Opening) => self.settle(talk, octets),
+            At::Entry(_) => {
+                talk.send()?;
+                talk.hear(octets)
+            }
+            At::End | At::Broken(_) => Ok(()),
+        }
+    }
+
+    /// Lets a session hear the last octets before the station was killed, as far as it had heard them: until its register is that of the opening
+    /// behind them.
+    fn settle<O: Office + Drop>(
+        &mut self,
+        talk: &mut Talk<'_, O>,
+        octets: &[u8],
+    ) -> Result<(), Stop> {
+        // Behind each change the session says something.
+        let mut has_changed = true;
+        for octet in octets {
+            if has_changed && self.is_settled(talk)? {
+                return Ok(());
+            }
+            let before = talk.said.len();
+            talk.hear(&[*octet])?;
+            has_changed = talk.said.len() > before;
+        }
+        if !self.is_settled(talk)? {
+            talk.send()?;
+        }
+        Ok(())
+    }
+
+    /// Whether a session has the register of the opening at which the record stands, or goes on no more, so that nothing can be looked up by it.
+    fn is_settled<O: Office + Drop>(&mut self, talk: &mut Talk<'_, O>) -> Result<bool, Stop> {
+        if !goes_on(Some(talk.session.stage())) {
+            return Ok(true);
+        }
+        let now = register_digest(self.alloc, &mut talk.session)?;
+        Ok(self.tape.register() == Some(now))
+    }
+
+    /// Compares the octets that went out with those that the session says.
+    fn compare_said<O: Office + Drop>(&mut self, talk: &mut Talk<'_, O>) -> Result<(), Stop> {
+        let content = self.tape.copied(self.alloc)?;
+        let Some(fields) = ContentFields::of(content.as_slice()) else {
+            return Err(Stop::Differs("it is no piece of a session"));
+        };
+        if fields.number != talk.number {
+            return Err(Stop::Differs("the session"));
+        }
+        if talk.says(fields.rest)? {
+            Ok(self.tape.advance()?)
+        } else {
+            Err(Stop::Differs("the octets that went out"))
+        }
+    }
+
+    /// Compares the end at which the record stands. Returns whether it is that of this session.
+    fn compare_talk<O: Office + Drop>(&mut self, talk: &mut Talk<'_, O>) -> Result<bool, Stop> {
+        let number = match ContentFields::of(self.tape.content()) {
+            Some(fields) => fields.number,
+            None => return Err(Stop::Differs("it is no end")),
+        };
+        let is_own = number == talk.number;
+        if is_own && let Some(line) = talk.line()? {
+            self.keep(number, line)?;
+        }
+        self.compare_end()?;
+        Ok(is_own)
+    }
+}
+
+/// Lets an opening hear octets until its caller is let in, or sent away. Returns how many it has heard.
+fn let_in(opening: &mut Opening<'_>, octets: &[u8]) -> Result<usize, Stop> {
+    for (place, octet) in octets.iter().enumerate() {
+        match opening.hear(&[*octet]) {
+            Ok(Admission::Undecided) => {}
+            Ok(_) => return Ok(place.saturating_add(1)),
+            Err(_) => return Err(Stop::Failed(Fault::MEMORY)),
+        }
+    }
+    Ok(octets.len())
+}
+
+impl<'b, O: Office + Drop> Talk<'b, O> {
+    /// A session that has said nothing yet.
+    fn new(alloc: Global, number: u64, session: LifeSession<'b, O>) -> Talk<'b, O> {
+        Talk {
+            alloc,
+            number,
+            session,
+            said: Vec::new(alloc),
+        }
+    }
+
+    /// Lets the session hear octets.
+    fn hear(&mut self, octets: &[u8]) -> Result<(), Stop> {
+        let _ = self.session.hear(octets);
+        self.pull()
+    }
+
+    /// Takes what the session has said.
+    fn pull(&mut self) -> Result<(), Stop> {
+        let said = self.session.take_out(self.alloc);
+        match self.said.extend_from_slice(said.as_slice()) {
+            Ok(()) => Ok(()),
+            Err(_) => Err(Stop::Failed(Fault::MEMORY)),
+        }
+    }
+
+    /// Lets the session go on that sends a file, as far as it goes without more octets.
+    fn send(&mut self) -> Result<(), Stop> {
+        for _ in 0..u64::MAX {
+            if self.session.stage() != Stage::Sends {
+                break;
+            }
+            self.hear(&[])?;
+        }
+        Ok(())
+    }
+
+    /// Whether the session says these octets next. They are taken then.
+    fn says(&mut self, octets: &[u8]) -> Result<bool, Stop> {
+        self.pull()?;
+        for _ in 0..u64::MAX {
+            if self.said.len() >= octets.len() || self.session.stage() != Stage::Sends {
+                break;
+            }
+            self.hear(&[])?;
+        }
+        let count = octets.len();
+        if count > self.said.len() || !self.said.starts_with(octets) {
+            return Ok(false);
+        }
+        let _ = self.said.drain(..count);
+        Ok(true)
+    }
+
+    /// The line of the session, if it has ended by itself.
+    fn line(&mut self) -> Result<Option<String>, Stop> {
+        match self.session.stage() {
+            Stage::Ended(ending) => match line_of_end(self.alloc, &Ok(End::from(ending))) {
+                Ok(line) => Ok(Some(line)),
+                Err(_) => Err(Stop::Failed(Fault::MEMORY)),
+            },
+            _ => Ok(None),
+        }
+    }
+}

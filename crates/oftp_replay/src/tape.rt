@@ -1,0 +1,238 @@
+//! The entries of a record, one after another, over all its days.
+
+use oftp_contents::{ContentFields, Marked};
+use oftp_outcomes::Fault;
+use oftp_progress::{Extent, Gauge};
+use oftp_record::{ChainDigest, RecordKind};
+use oftp_recording::{Digest, Found, RecordReader, file_of, record_files};
+use std::alloc::Global;
+
+/// Why playing a record stops.
+#[derive(Clone, Copy, Debug)]
+pub(crate) enum Stop {
+    /// What was recorded isn't what comes of it, or isn't as it was written: this differs.
+    Differs(&'static str),
+    /// An error.
+    Failed(Fault),
+}
+
+impl From<Fault> for Stop {
+    fn from(fault: Fault) -> Stop {
+        Stop::Failed(fault)
+    }
+}
+
+/// Where a tape stands.
+#[derive(Clone, Copy, PartialEq, Eq)]
+pub(crate) enum At {
+    /// At an entry of this kind.
+    Entry(RecordKind),
+    /// At its end.
+    End,
+    /// At an entry that is cut off, was changed, or doesn't follow the day before: this is wrong with it.
+    Broken(&'static str),
+}
+
+/// A record that is read, entry by entry.
+#[derive(Drop)]
+pub(crate) struct Tape<'a> {
+    rt: &'a HostRuntime,
+    folder: &'a str,
+    days: Vec<String>,
+    // Which of them is read next.
+    next: usize,
+    reader: Option<RecordReader>,
+    // The last digest of the days before this one; `None` on the first day.
+    before: Option<Digest>,
+    at: At,
+    // How many entries were read.
+    entries: u64,
+    /// What shows it, if something does.
+    pub(crate) gauge: Option<Gauge<'a>>,
+}
+
+impl<'a> Tape<'a> {
+    /// The record in a folder, at its first entry.
+    pub(crate) fn open(rt: &'a HostRuntime, folder: &'a str) -> Result<Tape<'a>, Fault> {
+        let mut tape = Tape {
+            rt,
+            folder,
+            days: record_files(rt, folder)?,
+            next: 0,
+            reader: None,
+            before: None,
+            at: At::End,
+            entries: 0,
+            gauge: None,
+        };
+        tape.advance()?;
+        Ok(tape)
+    }
+
+    /// Where it stands.
+    pub(crate) fn at(&self) -> At {
+        self.at
+    }
+
+    /// Goes on to the next entry. At its end, and at an entry that is broken, it stays.
+    pub(crate) fn advance(&mut self) -> Result<(), Fault> {
+        if let At::Broken(_) = self.at {
+            return Ok(());
+        }
+        for _ in 0..u64::MAX {
+            if let Some(at) = self.step()? {
+                self.at = at;
+                self.show();
+                return Ok(());
+            }
+        }
+        Ok(())
+    }
+
+    /// Counts an entry at which it stands, and shows how many were read.
+    fn show(&mut self) {
+        if let At::Entry(_) = self.at {
+            self.entries = self.entries.saturating_add(1);
+        }
+        let entries = self.entries;
+        if let Some(gauge) = &mut self.gauge {
+            gauge.show(&Extent::Replay { entries });
+        }
+    }
+
+    /// Shows how many entries were read in all.
+    pub(crate) fn finish(&mut self) {
+        let entries = self.entries;
+        if let Some(gauge) = &mut self.gauge {
+            gauge.finish(&Extent::Replay { entries });
+        }
+    }
+
+    /// Goes on in the file of the day, or opens that of the next one. Returns where it stands, if there is something.
+    fn step(&mut self) -> Result<Option<At>, Fault> {
+        let found = match &mut self.reader {
+            Some(reader) => reader.advance()?,
+            None => return self.turn(),
+        };
+        match found {
+            Found::Entry => Ok(self.seen()),
+            Found::Cut => Ok(Some(At::Broken("it is cut off"))),
+            Found::Changed => Ok(Some(At::Broken("it was changed, or what was before it"))),
+            Found::End => {
+                self.before = self.last_digest();
+                self.reader = None;
+                Ok(None)
+            }
+        }
+    }
+
+    /// The digest of the last entry of the day.
+    fn last_digest(&self) -> Option<Digest> {
+        let reader = self.reader.as_ref()?;
+        Some(reader.digest())
+    }
+
+    /// Opens the file of the next day.
+    fn turn(&mut self) -> Result<Option<At>, Fault> {
+        let Some(day) = self.days.get(self.next) else {
+            return Ok(Some(At::End));
+        };
+        let path = file_of(self.rt, self.folder, day.as_str())?;
+        self.reader = Some(RecordReader::open(self.rt, path.as_str())?);
+        self.next = self.next.saturating_add(1);
+        Ok(None)
+    }
+
+    /// What the entry is that was read. The first of each day but the first says which entry was the last before it.
+    fn seen(&self) -> Option<At> {
+        let reader = self.reader.as_ref()?;
+        let kind = reader.kind();
+        let fields = ContentFields::of(reader.content());
+        let link = match (kind, fields) {
+            (RecordKind::Mark, Some(fields)) if fields.code == Marked::DayBefore.code() => {
+                Some(fields.first)
+            }
+            _ => None,
+        };
+        match (reader.count(), &self.before, link) {
+            (1, None, Some(_)) => None,
+            (1, Some(before), Some(digest)) if digest == before.as_slice() => None,
+            (1, Some(_), _) => Some(At::Broken("it doesn't follow the day before")),
+            _ => Some(At::Entry(kind)),
+        }
+    }
+
+    /// The content of the entry at which it stands.
+    pub(crate) fn content(&self) -> &[u8] {
+        match &self.reader {
+            Some(reader) => reader.content(),
+            None => &[],
+        }
+    }
+
+    /// A copy of it.
+    pub(crate) fn copied(&self, alloc: Global) -> Result<Vec<u8>, Fault> {
+        Ok(Vec::from_slice(alloc, self.content())?)
+    }
+
+    /// When the entry was written at which it stands: microseconds since 1970 began.
+    pub(crate) fn moment(&self) -> u64 {
+        match &self.reader {
+            Some(reader) => reader.moment(),
+            None => 0,
+        }
+    }
+
+    /// How many days were begun, that of the entry at which it stands among them.
+    pub(crate) fn count(&self) -> usize {
+        self.next
+    }
+
+    /// The digest that the entry has at which it stands, if it is an opening or a mark of a register.
+    pub(crate) fn register(&self) -> Option<Digest> {
+        let At::Entry(kind) = self.at else {
+            return None;
+        };
+        let fields = ContentFields::of(self.content())?;
+        let text = match kind {
+            RecordKind::Opening => fields.second,
+            RecordKind::Mark if fields.code == Marked::Register.code() => fields.first,
+            _ => return None,
+        };
+        digest_of(text)
+    }
+
+    /// The line for what differs where it stands: at the entry that was read last, or behind it if that is broken.
+    pub(crate) fn told(&self, what: &str) -> Result<String, Fault> {
+        let alloc = self.rt.alloc();
+        let (Some(reader), Some(day)) = (&self.reader, self.days.get(self.next.saturating_sub(1)))
+        else {
+            return Ok(format!(in alloc; "differs: at the end of the record: {what}")?);
+        };
+        let entry = match self.at {
+            At::Broken(_) => reader.count().saturating_add(1),
+            At::Entry(_) | At::End => reader.count(),
+        };
+        Ok(format!(in alloc; "differs: {day}.record, entry {entry}: {what}")?)
+    }
+}
+
+/// Octets as text.
+pub(crate) fn text_of(octets: &[u8]) -> &str {
+    match str::from_utf8(octets) {
+        Ok(text) => text,
+        Err(_) => "?",
+    }
+}
+
+/// The digest with these octets.
+fn digest_of(octets: &[u8]) -> Option<Digest> {
+    let mut digest = ChainDigest::first().0;
+    if octets.len() != digest.len() {
+        return None;
+    }
+    for (place, octet) in digest.iter_mut().zip(octets) {
+        *place = *octet;
+    }
+    Some(digest)
+}

@@ -1,0 +1,155 @@
+//! What is recorded of sessions and of operators' calls.
+
+use crate::peer::{Peer, Task};
+use crate::service::{Shell, peer_in};
+use oftp_contents::{EndCause, RecordSide};
+use oftp_engine::RunFault;
+use oftp_life::Stage;
+use oftp_listing::OfficeState;
+use oftp_outcomes::{Fault, plain};
+use oftp_recording::{Recorder, cause_of, line_of_end};
+use oftp_requests::{Made, line_of_answer};
+use std::alloc::{AllocError, Global};
+use std::mem;
+
+/// What the record has of a connection.
+#[derive(Drop)]
+pub(crate) enum Recorded {
+    /// Nothing.
+    Nothing,
+    /// Nothing yet: its session is recorded once it begins, with these octets that were heard before.
+    Later(Vec<u8>),
+    /// Its session.
+    Session,
+}
+
+/// Records what a session is to hear.
+pub(crate) fn record_heard(
+    recorder: Option<&Recorder<'_>>,
+    id: u64,
+    octets: &[u8],
+) -> Result<(), Fault> {
+    match recorder {
+        Some(recorder) => recorder.heard(id, octets),
+        None => Ok(()),
+    }
+}
+
+/// Records what a session that stands like this has said, unless its office failed: then nothing more is recorded, as after a kill.
+pub(crate) fn record_said(
+    recorder: Option<&Recorder<'_>>,
+    id: u64,
+    octets: &[u8],
+    stage: Stage,
+) -> Result<(), Fault> {
+    match (recorder, stage) {
+        (_, Stage::Lost | Stage::Failed(RunFault::Office)) => Ok(()),
+        (Some(recorder), _) => recorder.said(id, octets),
+        (None, _) => Ok(()),
+    }
+}
+
+impl Shell<'_> {
+    /// Records that a session begins, and what was heard of its partner before.
+    pub(crate) fn record_begin(&mut self, id: u64) -> Result<(), Fault> {
+        let alloc = self.rt.alloc();
+        let Some(recorder) = self.config.recorder else {
+            return Ok(());
+        };
+        let Some(peer) = peer_in(&mut self.peers, id) else {
+            return Ok(());
+        };
+        let before = peer.take_recorded(alloc);
+        let code = peer.code_text(alloc)?;
+        let address = peer.address_text(alloc)?;
+        let side = peer.side();
+        recorder.session(id, side, code.as_str(), address.as_str(), peer.latest)?;
+        recorder.heard(id, before.as_slice())
+    }
+
+    /// Records the operator's call that a command asks for, which is to be made.
+    pub(crate) fn record_call(&self, id: u64) -> Result<(), Fault> {
+        match (self.config.recorder, self.asked_by(id)) {
+            (Some(recorder), Some(asked)) => {
+                let request = asked.octets(self.rt.alloc())?;
+                recorder.called(id, request.as_slice())
+            }
+            _ => Ok(()),
+        }
+    }
+
+    /// Records the answer to an operator's call, unless the office failed: then nothing more is recorded, as after a kill.
+    pub(crate) fn record_answer(&self, id: u64, made: &Made) -> Result<(), Fault> {
+        match (self.config.recorder, made.office) {
+            (Some(recorder), OfficeState::Working) => {
+                let line = line_of_answer(self.rt.alloc(), made.octets.as_slice())?;
+                recorder.ended(id, EndCause::Itself, line.as_str())
+            }
+            _ => Ok(()),
+        }
+    }
+}
+
+impl Peer<'_> {
+    /// Keeps octets that are heard before its session, if that is to be recorded.
+    pub(crate) fn record_later(&mut self, octets: &[u8]) -> Result<(), Fault> {
+        if let Recorded::Later(kept) = &mut self.recorded {
+            kept.extend_from_slice(octets)?;
+        }
+        Ok(())
+    }
+
+    /// Takes the octets that were heard before its session, which is recorded from now on.
+    fn take_recorded(&mut self, alloc: Global) -> Vec<u8> {
+        let before = mem::replace(&mut self.recorded, Recorded::Session);
+        match before {
+            Recorded::Later(octets) => octets,
+            Recorded::Nothing | Recorded::Session => Vec::new(alloc),
+        }
+    }
+
+    /// The partner's code; empty where none is known.
+    fn code_text(&self, alloc: Global) -> Result<String, AllocError> {
+        match &self.code {
+            Some(code) => String::from_str(alloc, code.as_str()),
+            None => Ok(String::new(alloc)),
+        }
+    }
+
+    /// The address of its other end as text; empty where that isn't known.
+    fn address_text(&self, alloc: Global) -> Result<String, AllocError> {
+        match self.stream.peer_address() {
+            Some(address) => format!(in alloc; "{address}"),
+            None => Ok(String::new(alloc)),
+        }
+    }
+
+    /// The side of the station in its session.
+    fn side(&self) -> RecordSide {
+        match self.task {
+            Task::Call(_) => RecordSide::Initiator,
+            _ => RecordSide::Responder,
+        }
+    }
+
+    /// Records how its session ended, if that was recorded.
+    pub(crate) fn record_end(
+        &mut self,
+        alloc: Global,
+        recorder: Option<&Recorder<'_>>,
+    ) -> Result<(), Fault> {
+        let (Some(recorder), Some(ended)) = (recorder, self.ended) else {
+            return Ok(());
+        };
+        if !matches!(self.recorded, Recorded::Session) {
+            return Ok(());
+        }
+        self.recorded = Recorded::Nothing;
+        let ended = plain(&ended);
+        if let Err(Fault::Run(RunFault::Office)) = &ended {
+            return Ok(());
+        }
+        let line = line_of_end(alloc, &ended)?;
+        recorder.ended(self.id, cause_of(&ended), line.as_str())
+    }
+}
