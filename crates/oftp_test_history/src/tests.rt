@@ -8,19 +8,19 @@ use std::process::Abort;
 use std::test::Fail;
 
 /// Events of incoming file 1, and between them those of other files, four lines that are no events, and a last line that is cut.
-const EVENTS: &[u8] = b"{\"at\":\"T0\",\"event\":\"started\"}
-{\"at\":\"T1\",\"event\":\"refused file\",\"way\":\"in\",\"dataset\":\"D\",\"date\":\"9\",\"time\":\"1\",\"originator\":\"O\",\"destination\":\"S\"}
-{\"at\":\"T2\",\"event\":\"started to come\",\"way\":\"in\",\"no\":1,\"dataset\":\"D\",\"date\":\"9\",\"time\":\"1\",\"originator\":\"O\",\"destination\":\"S\"}
-{\"at\":\"T3\",\"event\":\"submitted\",\"way\":\"out\",\"no\":1}
-{\"at\":\"T4\",\"event\":\"started to come\",\"way\":\"in\",\"no\":2}
+const EVENTS: &[u8] = b"{\"at\":\"10:00\",\"event\":\"started\"}
+{\"at\":\"10:01\",\"event\":\"refused file\",\"way\":\"in\",\"dataset\":\"D\",\"date\":\"9\",\"time\":\"1\",\"originator\":\"O\",\"destination\":\"S\"}
+{\"at\":\"10:02\",\"event\":\"started to come\",\"way\":\"in\",\"no\":1,\"dataset\":\"D\",\"date\":\"9\",\"time\":\"1\",\"originator\":\"O\",\"destination\":\"S\"}
+{\"at\":\"10:03\",\"event\":\"submitted\",\"way\":\"out\",\"no\":1}
+{\"at\":\"10:04\",\"event\":\"started to come\",\"way\":\"in\",\"no\":2}
 garbage
 
 [1]
 {\"event\":\"came\",\"way\":\"in\",\"no\":1}
-{\"at\":\"T5\",\"event\":\"came\",\"session\":3,\"partner\":\"O\",\"way\":\"in\",\"no\":1,\"dataset\":\"D\",\"rows\":2,\"units\":2048,\"novel\":{\"a\":[]}}
-{\"at\":\"T6\",\"event\":\"refused file\",\"way\":\"in\",\"dataset\":\"D\",\"date\":\"9\",\"time\":\"1\",\"originator\":\"O\",\"destination\":\"S\",\"reason\":\"13\",\"words\":\"duplicate file\"}
-{\"at\":\"T7\",\"event\":\"refused file\",\"way\":\"in\",\"dataset\":\"E\",\"date\":\"9\",\"time\":\"1\",\"originator\":\"O\",\"destination\":\"S\"}
-{\"at\":\"T8";
+{\"at\":\"10:05\",\"event\":\"came\",\"session\":3,\"partner\":\"O\",\"way\":\"in\",\"no\":1,\"dataset\":\"D\",\"rows\":2,\"units\":2048,\"novel\":{\"a\":[]}}
+{\"at\":\"10:06\",\"event\":\"refused file\",\"way\":\"in\",\"dataset\":\"D\",\"date\":\"9\",\"time\":\"1\",\"originator\":\"O\",\"destination\":\"S\",\"reason\":\"13\",\"words\":\"duplicate file\"}
+{\"at\":\"10:07\",\"event\":\"refused file\",\"way\":\"in\",\"dataset\":\"E\",\"date\":\"9\",\"time\":\"1\",\"originator\":\"O\",\"destination\":\"S\"}
+{\"at\":\"10:08";
 
 /// What is told of the three events of incoming file 1.
 const LINES: [&str; 3] = [
@@ -68,8 +68,8 @@ fn lines_for_people(rt: HostRuntime) -> Result<(), Fail> {
     let Some(first) = history.events().first() else {
         return Ok(());
     };
-    assert_eq!(rt; first.at(), "T2");
-    assert!(rt; first.text().starts_with("{\"at\":\"T2\""));
+    assert_eq!(rt; first.at(), "10:02");
+    assert!(rt; first.text().starts_with("{\"at\":\"10:02\""));
     let passed = passed_line(alloc, history.passed())?;
     assert_eq!(rt;
         passed.as_str(),
