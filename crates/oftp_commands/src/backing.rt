@@ -1,7 +1,9 @@
 //! Who carries out the requests of a command: the database, which is opened for it, or the station that has it open.
 
 use oftp_asking::Beside;
+use crate::recording::Recording;
 use oftp_channel::{Ending, Request};
+use oftp_command_line::Files;
 use oftp_database::{self as database, WatchedOffice};
 use oftp_engine::{Operator, Port, RunFault};
 use oftp_files::{EventFile, Noted, book_of, open_events};
@@ -18,20 +20,41 @@ use std::mem;
 /// What lets the database's files be copied.
 const COPY: &[u8] = b"copy";
 
-/// Where the events of a command go, if it has the database itself.
+/// Where the events and the record of a command go, if it has the database itself.
 #[derive(Clone, Copy)]
 pub(crate) struct Telling<'t> {
     pub(crate) rt: &'t HostRuntime,
-    /// Where they are noted.
+    /// Where events are noted.
     pub(crate) news: &'t News,
     /// The file to which they are appended, if there is one.
     pub(crate) path: Option<&'t str>,
-    /// The book, which isn't that file.
+    /// The file of the book, which isn't that file.
     pub(crate) book: &'t str,
+    /// The octets of the book; none of a command without one.
+    pub(crate) octets: &'t [u8],
+    /// The folder of the record, if there is one.
+    pub(crate) record: Option<&'t str>,
 }
 
 impl<'t> Telling<'t> {
-    /// Where they are noted, if they are told.
+    /// Where those of a command go that names these files, of which the book has these octets.
+    pub(crate) fn of(
+        rt: &'t HostRuntime,
+        files: &Files<'t>,
+        octets: &'t [u8],
+        news: &'t News,
+    ) -> Telling<'t> {
+        Telling {
+            rt,
+            news,
+            path: files.events,
+            book: files.book,
+            octets,
+            record: files.record,
+        }
+    }
+
+    /// Where events are noted, if they are told.
     fn noting(self) -> Option<&'t News> {
         match self.path {
             Some(_) => Some(self.news),
@@ -39,7 +62,7 @@ impl<'t> Telling<'t> {
         }
     }
 
-    /// Opens their file.
+    /// Opens the file of the events.
     ///
     /// # Errors
     /// Those of [`open_events`].
@@ -118,8 +141,13 @@ impl<'a, 'b, 't> Wanted<'a, 'b, 't> {
 
     /// The database, which is open.
     fn by_own(self, life: Life<WatchedOffice<'t>>) -> Result<Backing<'a, 'b, 't>, Fault> {
+        let mut life = life;
         let events = match self.telling {
             Some(telling) => telling.opened(self.database)?,
+            None => None,
+        };
+        let recording = match self.telling {
+            Some(telling) => Recording::begun(telling, &mut life)?,
             None => None,
         };
         Ok(Backing::Own(Own {
@@ -128,6 +156,7 @@ impl<'a, 'b, 't> Wanted<'a, 'b, 't> {
             life,
             noted: Vec::new(self.rt.alloc()),
             events,
+            recording,
         }))
     }
 
@@ -158,7 +187,7 @@ impl Backend for Backing<'_, '_, '_> {
 }
 
 /// A database that a command has opened, with the book that goes with its requests if it has read one. The events of a request are written
-/// before the next one, or as the database is let go: its answer is out then.
+/// before the next one, or as the database is let go: its answer is out then. Its changes are recorded as they are made.
 pub(crate) struct Own<'b, 't> {
     alloc: Global,
     book: Option<&'b Book>,
@@ -166,6 +195,7 @@ pub(crate) struct Own<'b, 't> {
     // The events that are to be written.
     noted: Vec<Noted>,
     events: Option<EventFile<'t>>,
+    recording: Option<Recording<'t>>,
 }
 
 impl Drop for Own<'_, '_> {
@@ -176,10 +206,14 @@ impl Drop for Own<'_, '_> {
             life,
             noted,
             events,
+            recording,
         } = self;
         let mut life = life;
         if let Some(events) = &events {
             events.tell_all(noted, &mut life);
+        }
+        if let Some(recording) = recording {
+            recording.end(&mut life);
         }
     }
 }
@@ -197,6 +231,33 @@ impl Own<'_, '_> {
         let noted = mem::replace(&mut self.noted, Vec::new(self.alloc));
         if let Some(events) = &self.events {
             events.tell_all(noted, &mut self.life);
+        }
+    }
+
+    /// Makes a change, and records it.
+    fn change(&mut self, request: &Request<'_>) -> Result<Ending, Fault> {
+        if let Some(recording) = &mut self.recording {
+            recording.ask(self.alloc, request)?;
+        }
+        let ending = self.changed(request);
+        self.note();
+        if let Some(recording) = &self.recording {
+            recording.answer(self.alloc, &ending)?;
+        }
+        ending
+    }
+
+    /// Makes a change.
+    fn changed(&mut self, request: &Request<'_>) -> Result<Ending, Fault> {
+        match *request {
+            Request::Operate { book, call } => self.operate(book, &call),
+            Request::Resend {
+                book,
+                no,
+                date,
+                time,
+            } => self.resend(book, &Again { no, date, time }),
+            _ => Err(Fault::Socket),
         }
     }
 
@@ -229,22 +290,13 @@ impl Backend for Own<'_, '_> {
     fn ask(&mut self, request: &Request<'_>, out: &mut impl Write) -> Result<Ending, Fault> {
         self.tell();
         match *request {
-            Request::Operate { book, call } => {
-                let ending = self.operate(book, &call);
-                self.note();
-                ending
+            Request::Operate { .. } | Request::Resend { .. } => self.change(request),
+            Request::Backup { to } => {
+                if let Some(recording) = &self.recording {
+                    recording.back_up(to, &mut self.life)?;
+                }
+                let_copy(out)
             }
-            Request::Resend {
-                book,
-                no,
-                date,
-                time,
-            } => {
-                let ending = self.resend(book, &Again { no, date, time });
-                self.note();
-                ending
-            }
-            Request::Backup => let_copy(out),
             _ => look_up(self.alloc, &mut self.life, request, &mut Port::new(out, 0)),
         }
     }

@@ -1,6 +1,6 @@
 //! The command `backup`, which copies a database to one file.
 
-use crate::backing::Backing;
+use crate::backing::{Backing, Telling};
 use oftp_channel::{Ending, Request};
 use oftp_command_line::Backup;
 use oftp_database as database;
@@ -33,7 +33,16 @@ pub fn back_up<'a>(
     out: &mut impl Write,
 ) -> Result<Outcome, Fault> {
     let news = News::new(rt.alloc());
-    let backing = Backing::opened(rt, line.database, None, None)?;
+    let telling = Telling {
+        rt,
+        news: &news,
+        // It writes its own event, once the copy is finished.
+        path: None,
+        book: "",
+        octets: &[],
+        record: line.record,
+    };
+    let backing = Backing::opened(rt, line.database, None, Some(telling))?;
     back_up_over(rt, line, backing, &news, out)
 }
 
@@ -68,7 +77,7 @@ fn copied(
         copy: &copy,
         written: Err(GONE),
     };
-    let asked = backing.ask(&Request::Backup, &mut copying);
+    let asked = backing.ask(&Request::Backup { to: line.to }, &mut copying);
     let written = copying.written;
     drop(backing);
     match asked {

@@ -1,7 +1,6 @@
 //! The command `collect`, which writes the incoming files that are whole and have no response to a folder.
 
-use crate::backing::Backing;
-use crate::operators::telling_of;
+use crate::backing::{Backing, Telling};
 use oftp_command_line::Collect;
 use oftp_files::read_book_octets;
 use oftp_folders::{self as folders, Folder};
@@ -33,7 +32,7 @@ fn collect_to<'a>(
     out: &mut impl Write,
 ) -> Result<bool, Fault> {
     let news = News::new(rt.alloc());
-    let telling = telling_of(rt, line.files.events, line.files.book, &news);
+    let telling = Telling::of(rt, &line.files, octets, &news);
     let backing = Backing::opened(rt, line.files.database, Some(book), Some(telling))?;
     folders::collect(rt, line, folder, octets, backing, out)
 }

@@ -12,6 +12,7 @@ mod histories;
 mod offering;
 mod operators;
 mod ordering;
+mod recording;
 mod registers;
 mod replaying;
 mod reporting;

@@ -1,7 +1,6 @@
 //! The command `offer`, which submits the files of a folder, to be sent to a partner.
 
-use crate::backing::Backing;
-use crate::operators::telling_of;
+use crate::backing::{Backing, Telling};
 use oftp_command_line::Offer;
 use oftp_engine::Refusal;
 use oftp_files::read_book_octets;
@@ -37,7 +36,7 @@ fn offer_from<'a>(
     out: &mut impl Write,
 ) -> Result<bool, Fault> {
     let news = News::new(rt.alloc());
-    let telling = telling_of(rt, line.files.events, line.files.book, &news);
+    let telling = Telling::of(rt, &line.files, octets, &news);
     let backing = Backing::opened(rt, line.files.database, Some(book), Some(telling))?;
     folders::offer(rt, line, folder, octets, backing, out)
 }

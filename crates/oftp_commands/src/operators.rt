@@ -46,7 +46,7 @@ pub fn submit<'a>(
     let content = Content::of(rt, submit);
     let (octets, book) = read_book_octets(rt, submit.files.book)?;
     let news = News::new(rt.alloc());
-    let telling = telling_of(rt, submit.files.events, submit.files.book, &news);
+    let telling = Telling::of(rt, &submit.files, octets.as_slice(), &news);
     let database = submit.files.database;
     let backing = Backing::opened(rt, database, Some(&book), Some(telling))?;
     submit_over(rt, submit, content, backing, octets.as_slice(), out)
@@ -85,7 +85,7 @@ pub fn resend<'a>(
 ) -> Result<Outcome, Fault> {
     let (octets, book) = read_book_octets(rt, resend.files.book)?;
     let news = News::new(rt.alloc());
-    let telling = telling_of(rt, resend.files.events, resend.files.book, &news);
+    let telling = Telling::of(rt, &resend.files, octets.as_slice(), &news);
     let database = resend.files.database;
     let backing = Backing::opened(rt, database, Some(&book), Some(telling))?;
     resend_over(rt, resend, backing, octets.as_slice(), out)
@@ -174,21 +174,6 @@ fn submission_at<'a>(
     })
 }
 
-/// Where the events of a command go: to the file at this path, if there is one, which isn't this book.
-pub(crate) fn telling_of<'t>(
-    rt: &'t HostRuntime,
-    path: Option<&'t str>,
-    book: &'t str,
-    news: &'t News,
-) -> Telling<'t> {
-    Telling {
-        rt,
-        news,
-        path,
-        book,
-    }
-}
-
 /// Issues the End-to-End Response of an incoming file, and writes its line. Returns its outcome.
 ///
 /// # Errors
@@ -228,7 +213,7 @@ fn respond<'a>(
 ) -> Result<Outcome, Fault> {
     let (octets, book) = read_book_octets(rt, files.book)?;
     let news = News::new(rt.alloc());
-    let telling = telling_of(rt, files.events, files.book, &news);
+    let telling = Telling::of(rt, files, octets.as_slice(), &news);
     let backing = Backing::opened(rt, files.database, Some(&book), Some(telling))?;
     let book = octets.as_slice();
     respond_over(backing, &Request::Operate { book, call }, out)

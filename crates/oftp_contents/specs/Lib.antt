@@ -1,3 +1,4 @@
 -- The definitions that contracts cite: the fields of a content as octets, and the codes.
 pub mod Fields
+pub mod Places
 pub mod Codes

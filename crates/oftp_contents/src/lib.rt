@@ -13,11 +13,12 @@
 //!
 //! | Kind | Number | Code | First text | Second text | Octets |
 //! |---|---|---|---|---|---|
-//! | opening | the salt of the passwords | 0 | the program's version | the digest of its register | its book |
+//! | opening | the salt of the passwords | 0 | the program's version | the digest of its register | its book; none of a command without one |
 //! | session | of the session | [`RecordSide`] | the partner's code | the partner's address | |
 //! | octets in, octets out | of the session | 0 | | | the octets |
 //! | call | of the call | 0 | | | the request |
 //! | end | of the session or the call | [`EndCause`] | its line | | |
+//! | backup | 0 | 0 | the path of the copy | the digest of its register | |
 //! | mark | 0 | [`Marked`] | the digest | | |
 //!
 //! [`ContentFields::octets`] writes a content, and [`ContentFields::of`] reads one. Both are proved against the one encoding (specs/Fields.antt). The
@@ -27,6 +28,10 @@
 mod codes;
 mod fields;
 pub mod laws;
+mod marks;
+mod places;
 
 pub use codes::{EndCause, Marked, RecordSide};
 pub use fields::ContentFields;
+pub use marks::{BETWEEN_MARKS, left_to_mark};
+pub use places::EntryPlace;

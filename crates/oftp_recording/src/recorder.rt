@@ -1,15 +1,18 @@
 //! Writing a record.
 
 use crate::days::{day_of, file_of, record_files};
+use crate::hiding::hidden;
 use crate::reading::{Found, RecordReader, refuse_others};
-use crate::registers::Digest;
+use crate::registers::{Digest, register_digest};
 use jiff::Timestamp;
 use oftp_contents::{ContentFields, EndCause, Marked, RecordSide};
 use oftp_files::{file_fault, is_free, make_private};
 use oftp_outcomes::Fault;
 use oftp_record::{AppendFault, ChainDigest, RecordEntry, RecordKind, append_entry};
+use oftp_register::Office;
 use std::cell::RefCell;
 use std::fs::{self, File, OpenFile, OpenOptions};
+use std::hash::{BuildHasher, RandomState};
 use std::io::{ErrorKind, Write};
 
 /// Whether what is recorded is synced before an answer to it goes out.
@@ -70,22 +73,25 @@ impl<'a> Recorder<'a> {
         })
     }
 
-    /// Records that the program begins, with a book whose passwords are hidden by this salt, and a register with this digest.
+    /// Records that the program begins: its version, the octets of its book, of which passwords are hidden, and the register. A command without
+    /// a book has no octets of one.
     ///
     /// # Errors
-    /// [`Fault::File`] if the record can't be written; [`Fault::MEMORY`].
-    pub fn begin(
+    /// [`Fault::File`] if the record can't be written; [`Fault::Run`] if the office failed; [`Fault::MEMORY`].
+    pub fn begin<O: Office>(
         &self,
         version: &str,
-        salt: u64,
         book: &[u8],
-        register: &Digest,
+        office: &mut O,
     ) -> Result<(), Fault> {
+        let register = register_digest(self.rt.alloc(), office)?;
+        let salt = salt_drawn(self.rt)?;
+        let book = hidden(self.rt.alloc(), book, salt)?;
         let fields = ContentFields {
             number: salt,
             first: version.as_bytes(),
             second: register.as_slice(),
-            rest: book,
+            rest: book.as_slice(),
             ..NOTHING
         };
         self.put(RecordKind::Opening, &fields)?;
@@ -96,8 +102,24 @@ impl<'a> Recorder<'a> {
     ///
     /// # Errors
     /// Those of [`Recorder::begin`].
-    pub fn mark(&self, register: &Digest) -> Result<(), Fault> {
-        self.put(RecordKind::Mark, &mark_of(Marked::Register, register))?;
+    pub fn mark<O: Office>(&self, office: &mut O) -> Result<(), Fault> {
+        let register = register_digest(self.rt.alloc(), office)?;
+        self.put(RecordKind::Mark, &mark_of(Marked::Register, &register))?;
+        self.sync()
+    }
+
+    /// Records that the database is about to be copied to a file, with the register that the copy has.
+    ///
+    /// # Errors
+    /// Those of [`Recorder::begin`].
+    pub fn back_up<O: Office>(&self, to: &str, office: &mut O) -> Result<(), Fault> {
+        let register = register_digest(self.rt.alloc(), office)?;
+        let fields = ContentFields {
+            first: to.as_bytes(),
+            second: register.as_slice(),
+            ..NOTHING
+        };
+        self.put(RecordKind::Backup, &fields)?;
         self.sync()
     }
 
@@ -373,6 +395,14 @@ fn mark_of(marked: Marked, digest: &Digest) -> ContentFields<'_> {
         code: marked.code(),
         first: digest.as_slice(),
         ..NOTHING
+    }
+}
+
+/// A number that nobody knows before.
+fn salt_drawn(rt: &HostRuntime) -> Result<u64, Fault> {
+    match RandomState::new(rt) {
+        Ok(random) => Ok(random.hash_one(&0u8)),
+        Err(_) => Err(Fault::File),
     }
 }
 

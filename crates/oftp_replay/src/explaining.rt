@@ -4,6 +4,7 @@ use crate::tape::{At, Tape, text_of};
 use oftp_contents::ContentFields;
 use oftp_engine::{Refusal, RunFault};
 use oftp_files::explained;
+use oftp_notes::seen_line;
 use oftp_outcomes::{DONE, FAILED, Fault, Outcome, tell, write_line};
 use oftp_record::RecordKind;
 use std::alloc::Global;
@@ -25,7 +26,7 @@ struct Listener {
     // The number of the one session that is asked for; 0 for each.
     wanted: u64,
     reading: Reading,
-    // Which session it is.
+    // The line that says which session it is.
     title: String,
     heard: Vec<u8>,
     said: Vec<u8>,
@@ -114,7 +115,8 @@ impl Listener {
         let partner = text_of(fields.first);
         let peer = text_of(fields.second);
         let number = fields.number;
-        self.title = format!(in self.alloc; "session {number}: {partner} {peer}")?;
+        let title = format!(in self.alloc; "session {number}: {partner} {peer}")?;
+        self.title = seen_line(self.alloc, title.as_str())?;
         self.reading = Reading::Session(number);
         self.sessions = self.sessions.saturating_add(1);
         Ok(())
@@ -137,11 +139,8 @@ impl Listener {
             return Ok(());
         }
         self.broken = self.broken.saturating_add(1);
-        write_line(out, &self.title.as_str())?;
-        match out.write_all(lines.as_bytes()) {
-            Ok(()) => Ok(()),
-            Err(_) => Err(Fault::Run(RunFault::Write)),
-        }
+        write_all(out, self.title.as_str())?;
+        write_all(out, lines.as_str())
     }
 
     /// The exit status.
@@ -150,5 +149,13 @@ impl Listener {
             return tell(Outcome::Refused(Refusal::Unknown), out);
         }
         Ok(if self.broken == 0 { DONE } else { FAILED })
+    }
+}
+
+/// Writes lines.
+fn write_all(out: &mut impl Write, lines: &str) -> Result<(), Fault> {
+    match out.write_all(lines.as_bytes()) {
+        Ok(()) => Ok(()),
+        Err(_) => Err(Fault::Run(RunFault::Write)),
     }
 }

@@ -6,6 +6,7 @@ mod bundle;
 mod evidencing;
 mod explaining;
 pub mod laws;
+mod part;
 mod player;
 mod replaying;
 mod searching;

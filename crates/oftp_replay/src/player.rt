@@ -62,7 +62,7 @@ impl<'a> Player<'a> {
         Ok(())
     }
 
-    /// Compares the register with that of an opening or a mark, and the book with that of an opening.
+    /// Compares the register with that of an opening, a backup or a mark, and the book with that of an opening.
     pub(crate) fn compare<O: Office>(&mut self, life: &mut Life<O>) -> Result<(), Stop> {
         let Some(wanted) = self.tape.register() else {
             return Err(Stop::Differs("it is none that a station records"));
@@ -76,13 +76,13 @@ impl<'a> Player<'a> {
         Ok(self.tape.advance()?)
     }
 
-    /// Whether an opening has the station's book.
+    /// Whether an opening has the station's book. That of a command without a book has none.
     fn has_book(&self) -> Result<bool, Stop> {
         let Some(fields) = ContentFields::of(self.tape.content()) else {
             return Ok(false);
         };
         let book = hidden(self.alloc, self.octets, fields.number)?;
-        Ok(book.as_slice() == fields.rest)
+        Ok(fields.rest.is_empty() || book.as_slice() == fields.rest)
     }
 
     /// Makes an operator's call again. One behind which the station was killed may have been made or not.

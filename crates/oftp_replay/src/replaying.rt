@@ -1,9 +1,12 @@
 //! Playing a record over a register.
 
+use crate::part::Part;
 use crate::player::Player;
 use crate::tape::{At, Stop, Tape};
+use oftp_command_line::Replay;
+use oftp_engine::Refusal;
 use oftp_life::Life;
-use oftp_outcomes::{DONE, FAILED, Fault, write_line};
+use oftp_outcomes::{DONE, FAILED, Fault, Outcome, tell, write_line};
 use oftp_partners::Book;
 use oftp_progress::Gauge;
 use oftp_record::RecordKind;
@@ -11,23 +14,27 @@ use oftp_recording::register_digest;
 use oftp_register::Office;
 use std::io::Write;
 
-/// Plays the record in a folder over the register of a life, from the entry on that has the digest of that register, by the station's book, whose
-/// octets are given too. Writes what came of it to `out`: that all is the same, or the first difference. Returns the exit status.
+/// Plays a record over the register of a life, by the station's book, whose octets are given too. It begins with the entry that the command line
+/// names, or else with the first that has the digest of the register. Writes what came of it to `out`: that all is the same, or the first
+/// difference. Returns the exit status. It is refused if an entry is named by what is no place, or isn't there.
 ///
 /// # Errors
 /// [`Fault::File`] if the record can't be read; [`Fault::Run`] if the office failed, or `out` returned an error; [`Fault::MEMORY`].
 pub fn replay<O: Office + Drop>(
     rt: &HostRuntime,
-    folder: &str,
+    line: &Replay<'_>,
     life: Life<O>,
     book: &Book,
     octets: &[u8],
     out: &mut impl Write,
 ) -> Result<u8, Fault> {
-    let mut tape = Tape::open(rt, folder)?;
+    let Some(part) = Part::of(line) else {
+        return tell(Outcome::Refused(Refusal::Field), out);
+    };
+    let mut tape = Tape::open_part(rt, line.folder, part)?;
     tape.gauge = Some(Gauge::new(rt));
     let mut player = Player::new(rt.alloc(), tape, octets);
-    let played = player.play_all(life, book);
+    let played = player.play_all(part, life, book);
     player.tape.finish();
     match played {
         Ok(()) => {
@@ -41,16 +48,27 @@ pub fn replay<O: Office + Drop>(
             write_line(out, &line.as_str())?;
             Ok(FAILED)
         }
+        Err(Stop::Unknown) => tell(Outcome::Refused(Refusal::Unknown), out),
         Err(Stop::Failed(fault)) => Err(fault),
     }
 }
 
 impl Player<'_> {
-    /// Plays all entries.
-    fn play_all<O: Office + Drop>(&mut self, life: Life<O>, book: &Book) -> Result<(), Stop> {
+    /// Plays the entries of a part.
+    fn play_all<O: Office + Drop>(
+        &mut self,
+        part: Part,
+        life: Life<O>,
+        book: &Book,
+    ) -> Result<(), Stop> {
         let mut life = life;
-        let register = register_digest(self.alloc, &mut life)?;
-        self.find(&register)?;
+        match part.from {
+            Some(place) => self.tape.pass_to(place)?,
+            None => {
+                let register = register_digest(self.alloc, &mut life)?;
+                self.find(&register)?;
+            }
+        }
         for _ in 0..u64::MAX {
             match self.tape.at() {
                 At::End => return Ok(()),
@@ -69,10 +87,9 @@ impl Player<'_> {
         life: &mut Life<O>,
     ) -> Result<(), Stop> {
         match kind {
-            RecordKind::Opening | RecordKind::Mark => self.compare(life),
+            RecordKind::Opening | RecordKind::Backup | RecordKind::Mark => self.compare(life),
             RecordKind::Call => self.call(life),
             RecordKind::End => self.compare_end(),
-            RecordKind::Backup => Ok(self.tape.advance()?),
             RecordKind::Session | RecordKind::OctetsIn | RecordKind::OctetsOut => {
                 Err(Stop::Differs("it belongs to no session"))
             }

@@ -1,6 +1,7 @@
 //! The entries of a record, one after another, over all its days.
 
-use oftp_contents::{ContentFields, Marked};
+use crate::part::{Part, number_of_day};
+use oftp_contents::{ContentFields, EntryPlace, Marked};
 use oftp_outcomes::Fault;
 use oftp_progress::{Extent, Gauge};
 use oftp_record::{ChainDigest, RecordKind};
@@ -12,6 +13,8 @@ use std::alloc::Global;
 pub(crate) enum Stop {
     /// What was recorded isn't what comes of it, or isn't as it was written: this differs.
     Differs(&'static str),
+    /// There is no such entry.
+    Unknown,
     /// An error.
     Failed(Fault),
 }
@@ -38,6 +41,7 @@ pub(crate) enum At {
 pub(crate) struct Tape<'a> {
     rt: &'a HostRuntime,
     folder: &'a str,
+    part: Part,
     days: Vec<String>,
     // Which of them is read next.
     next: usize,
@@ -54,9 +58,19 @@ pub(crate) struct Tape<'a> {
 impl<'a> Tape<'a> {
     /// The record in a folder, at its first entry.
     pub(crate) fn open(rt: &'a HostRuntime, folder: &'a str) -> Result<Tape<'a>, Fault> {
+        Tape::open_part(rt, folder, Part::whole())
+    }
+
+    /// The record in a folder, at its first entry, and up to the last one of a part.
+    pub(crate) fn open_part(
+        rt: &'a HostRuntime,
+        folder: &'a str,
+        part: Part,
+    ) -> Result<Tape<'a>, Fault> {
         let mut tape = Tape {
             rt,
             folder,
+            part,
             days: record_files(rt, folder)?,
             next: 0,
             reader: None,
@@ -81,9 +95,43 @@ impl<'a> Tape<'a> {
         }
         for _ in 0..u64::MAX {
             if let Some(at) = self.step()? {
-                self.at = at;
+                self.at = self.within(at);
                 self.show();
                 return Ok(());
+            }
+        }
+        Ok(())
+    }
+
+    /// Where it stands, if an entry behind the part isn't there.
+    fn within(&self, at: At) -> At {
+        match at {
+            At::Entry(_) if !self.part.reaches(&self.place()) => At::End,
+            at => at,
+        }
+    }
+
+    /// The place of the entry that was read last.
+    pub(crate) fn place(&self) -> EntryPlace {
+        let day = match self.days.get(self.next.saturating_sub(1)) {
+            Some(day) => number_of_day(day.as_str()),
+            None => 0,
+        };
+        let number = match &self.reader {
+            Some(reader) => reader.count(),
+            None => 0,
+        };
+        EntryPlace { day, number }
+    }
+
+    /// Goes on to the entry at a place.
+    pub(crate) fn pass_to(&mut self, place: EntryPlace) -> Result<(), Stop> {
+        for _ in 0..u64::MAX {
+            match self.at {
+                At::Entry(_) if self.place() == place => return Ok(()),
+                At::Entry(_) => self.advance()?,
+                At::End => return Err(Stop::Unknown),
+                At::Broken(what) => return Err(Stop::Differs(what)),
             }
         }
         Ok(())
@@ -188,14 +236,14 @@ impl<'a> Tape<'a> {
         self.next
     }
 
-    /// The digest that the entry has at which it stands, if it is an opening or a mark of a register.
+    /// The digest that the entry has at which it stands, if it is an opening, a backup or a mark of a register.
     pub(crate) fn register(&self) -> Option<Digest> {
         let At::Entry(kind) = self.at else {
             return None;
         };
         let fields = ContentFields::of(self.content())?;
         let text = match kind {
-            RecordKind::Opening => fields.second,
+            RecordKind::Opening | RecordKind::Backup => fields.second,
             RecordKind::Mark if fields.code == Marked::Register.code() => fields.first,
             _ => return None,
         };

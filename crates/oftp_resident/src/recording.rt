@@ -1,14 +1,18 @@
 //! What is recorded of sessions and of operators' calls.
 
+use crate::home::Home;
 use crate::peer::{Peer, Task};
 use crate::service::{Shell, peer_in};
-use oftp_contents::{EndCause, RecordSide};
+use crate::telling::Progress;
+use oftp_contents::{EndCause, RecordSide, left_to_mark};
 use oftp_engine::RunFault;
-use oftp_life::Stage;
+use oftp_life::{Life, Stage};
 use oftp_listing::OfficeState;
 use oftp_outcomes::{Fault, plain};
 use oftp_recording::{Recorder, cause_of, line_of_end};
+use oftp_register::Office;
 use oftp_requests::{Made, line_of_answer};
+use oftp_sockets::Keeper;
 use std::alloc::{AllocError, Global};
 use std::mem;
 
@@ -50,6 +54,56 @@ pub(crate) fn record_said(
 }
 
 impl Shell<'_> {
+    /// The milliseconds after which the register is to be marked in the record, if there is a record and no session goes on.
+    pub(crate) fn left_to_mark(&self, progress: Progress) -> Result<Option<u64>, Fault> {
+        match (self.config.recorder, progress) {
+            (Some(_), Progress::Over) => {
+                let passed = self.now()?.saturating_sub(self.marked);
+                Ok(Some(left_to_mark(passed)))
+            }
+            _ => Ok(None),
+        }
+    }
+
+    /// Marks the register in the record, if it is time for that.
+    pub(crate) fn mark_in_time<O: Office + Drop>(
+        &mut self,
+        home: &mut Home<'_, O>,
+        keeper: &mut impl Keeper<Life<O>>,
+    ) -> Result<(), Fault> {
+        if self.left_to_mark(home.progress())? != Some(0) {
+            return Ok(());
+        }
+        self.marked = self.now()?;
+        let opened = home.open(self.rt, keeper);
+        if let (Some(recorder), Home::Idle(life)) = (self.config.recorder, home) {
+            recorder.mark(life)?;
+        }
+        self.settle_opening(opened)
+    }
+
+    /// Records that a command is about to copy the database, if it is asked for that.
+    pub(crate) fn record_backup<O: Office + Drop>(
+        &mut self,
+        id: u64,
+        home: &mut Home<'_, O>,
+        keeper: &mut impl Keeper<Life<O>>,
+    ) -> Result<(), Fault> {
+        let Some(recorder) = self.config.recorder else {
+            return Ok(());
+        };
+        let opened = home.open(self.rt, keeper);
+        if let (Some(to), Home::Idle(life)) = (self.copy_to(id), home) {
+            recorder.back_up(to, life)?;
+        }
+        self.settle_opening(opened)
+    }
+
+    /// The path of the copy that a command asks for.
+    fn copy_to(&self, id: u64) -> Option<&str> {
+        self.asked_by(id)?.copy_to()
+    }
+
     /// Records that a session begins, and what was heard of its partner before.
     pub(crate) fn record_begin(&mut self, id: u64) -> Result<(), Fault> {
         let alloc = self.rt.alloc();

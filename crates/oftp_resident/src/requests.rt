@@ -208,7 +208,13 @@ impl<'a> Shell<'a> {
     }
 
     /// Lets a command copy the database's files.
-    pub(crate) fn let_copy(&mut self, id: u64) -> Result<(), Fault> {
+    pub(crate) fn let_copy<O: Office + Drop>(
+        &mut self,
+        id: u64,
+        home: &mut Home<'_, O>,
+        keeper: &mut impl Keeper<Life<O>>,
+    ) -> Result<(), Fault> {
+        self.record_backup(id, home, keeper)?;
         let octets = copy_let(self.rt.alloc());
         let Some(peer) = peer_in(&mut self.peers, id) else {
             return Ok(());

@@ -3,7 +3,7 @@
 use crate::home::Home;
 use crate::peer::Peer;
 use crate::status::moment;
-use crate::telling::Waiting;
+use crate::telling::{Progress, Waiting};
 use crate::watch::{DOORS, Source, Watch, source_of};
 use bumpalo::Bump;
 use oftp_channel::Haste;
@@ -113,6 +113,8 @@ pub(crate) struct Shell<'a> {
     pub(crate) sessions: u64,
     /// The events that are to be written.
     pub(crate) waiting: Vec<Waiting>,
+    // When the record last had the register, in milliseconds since it began.
+    pub(crate) marked: u64,
     // When it began, and when it last looked for whom something waits, in seconds since 1970.
     pub(crate) since: u64,
     pub(crate) reviewed: u64,
@@ -159,6 +161,7 @@ pub fn serve<O: Office + Drop>(
         stop: None,
         sessions: 0,
         waiting: Vec::new(alloc),
+        marked: 0,
         since,
         reviewed: since,
         counters: Tallies::new(alloc),
@@ -287,8 +290,9 @@ impl<'a> Shell<'a> {
             self.show_call();
         }
         self.tell_in_time(action.is_some(), home, keeper);
+        self.mark_in_time(home, keeper)?;
         self.give_back(home, keeper);
-        self.wait(action.is_some())
+        self.wait(action.is_some(), home.progress())
     }
 
     /// Gives a life that isn't in a session back to its keeper.
@@ -329,7 +333,7 @@ impl<'a> Shell<'a> {
             Action::Accept(id, door) => self.accept(id, door)?,
             Action::Answer(id) => self.answer(id)?,
             Action::Decline(id, reason) => self.decline(id, reason)?,
-            Action::Copy(id) => self.let_copy(id)?,
+            Action::Copy(id) => self.let_copy(id, home, keeper)?,
             Action::Resolve(id) => self.resolve(id)?,
             Action::Dial(id) => self.dial(id)?,
             Action::Part(id) => self.part(id),
@@ -398,11 +402,11 @@ impl<'a> Shell<'a> {
     }
 
     /// Waits for the sockets, and notes what they have. After an action it only looks.
-    fn wait(&mut self, has_acted: bool) -> Result<(), Fault> {
+    fn wait(&mut self, has_acted: bool, progress: Progress) -> Result<(), Fault> {
         let limit = if has_acted || self.peers.iter().any(|peer| peer.is_ready()) {
             Some(Duration::from_millis(0))
         } else {
-            self.limit()?
+            self.limit(progress)?
         };
         if self.watch.wait(limit).is_err() {
             return Err(Fault::Socket);
@@ -411,13 +415,16 @@ impl<'a> Shell<'a> {
     }
 
     /// How long the wait may be.
-    fn limit(&self) -> Result<Option<Duration>, Fault> {
-        match self.schedule.poll_timeout() {
-            Some(time) => {
+    fn limit(&self, progress: Progress) -> Result<Option<Duration>, Fault> {
+        let marking = self.left_to_mark(progress)?;
+        match (self.schedule.poll_timeout(), marking) {
+            (Some(time), marking) => {
                 let left = time.saturating_sub(self.now()?);
+                let left = left.min(marking.unwrap_or(LATEST));
                 Ok(Some(Duration::from_millis(left)))
             }
-            None => Ok(None),
+            (None, Some(left)) => Ok(Some(Duration::from_millis(left))),
+            (None, None) => Ok(None),
         }
     }
 

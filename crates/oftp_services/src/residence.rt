@@ -1,15 +1,15 @@
 //! The command `run`, over sockets.
 
+use crate::recorded::{Recorded, recorder_of};
 use crate::services::{admission_of, events_of, noting, station_of, trace_of};
 use bumpalo::Bump;
 use oftp_channel::{Ending, READY};
-use oftp_command_line::{RecordSync, Run, VERSION};
+use oftp_command_line::Run;
 use oftp_database::{self as database, PATIENCE, WatchedOffice};
 use oftp_files::{EventFile, read_book_octets};
 use oftp_life::Life;
 use oftp_listing::Site;
-use oftp_outcomes::{Fault, Trouble};
-use oftp_recording::{Recorder, Syncing, hidden, register_digest};
+use oftp_outcomes::Fault;
 use oftp_register::Office;
 use oftp_requests::{bare_answer, codes_of, overdues_of};
 use oftp_resident::{Kept, ServiceConfig, SessionLines, Shelf, Start, serve};
@@ -17,7 +17,6 @@ use oftp_schedule::connection::Counted;
 use oftp_sockets::{Keeper, SocketPlace, Station, bound, socket_fault};
 use oftp_watching::News;
 use std::alloc::Global;
-use std::hash::{BuildHasher, RandomState};
 use std::io::Write;
 use std::os::unix::net::UnixListener;
 
@@ -49,60 +48,13 @@ fn run_noting<'n>(
     let life = database::live(rt, line.files.database, PATIENCE, noting(&line.files, news))?;
     let trace = trace_of(rt, &line.files, &line.terms)?;
     let events = events_of(rt, &line.files, news)?;
-    let recorder = recorder_of(rt, line)?;
+    let recorder = recorder_of(rt, line.files.record, line.sync)?;
     let station = station_of(&book, &line.terms, trace.as_ref());
-    let own = Own {
-        octets: octets.as_slice(),
+    let recorded = Recorded {
+        book: octets.as_slice(),
         recorder: recorder.as_ref(),
     };
-    run_over(rt, line, &station, events.as_ref(), own, life, out)
-}
-
-/// What a station has beside its life.
-#[derive(Clone, Copy)]
-struct Own<'a> {
-    /// The octets of its book.
-    octets: &'a [u8],
-    /// Its record, if there is one.
-    recorder: Option<&'a Recorder<'a>>,
-}
-
-impl Own<'_> {
-    /// Records that the program begins.
-    fn begin<O: Office>(&self, rt: &HostRuntime, life: &mut Life<O>) -> Result<(), Fault> {
-        let Some(recorder) = self.recorder else {
-            return Ok(());
-        };
-        let register = register_digest(rt.alloc(), life)?;
-        let Ok(random) = RandomState::new(rt) else {
-            return Err(Fault::File);
-        };
-        let salt = random.hash_one(&0u8);
-        let book = hidden(rt.alloc(), self.octets, salt)?;
-        recorder.begin(VERSION, salt, book.as_slice(), &register)
-    }
-
-    /// Records the register at the end.
-    fn end<O: Office + Drop>(&self, rt: &HostRuntime, kept: &mut Kept<O>) -> Result<(), Fault> {
-        let Some(recorder) = self.recorder else {
-            return Ok(());
-        };
-        let mut life = kept.open(rt).map_err(Trouble::fault)?;
-        let register = register_digest(rt.alloc(), &mut life)?;
-        recorder.mark(&register)
-    }
-}
-
-/// The record that the command line asks for, if it asks for one.
-fn recorder_of<'a>(rt: &'a HostRuntime, line: &Run<'a>) -> Result<Option<Recorder<'a>>, Fault> {
-    let syncing = match line.sync {
-        RecordSync::Synced => Syncing::Synced,
-        RecordSync::Unsynced => Syncing::Unsynced,
-    };
-    match line.record_folder {
-        Some(folder) => Ok(Some(Recorder::open(rt, folder, syncing)?)),
-        None => Ok(None),
-    }
+    run_over(rt, line, &station, events.as_ref(), recorded, life, out)
 }
 
 /// A copy of a name, if there is one.
@@ -135,14 +87,12 @@ fn run_over(
     line: &Run<'_>,
     station: &Station<'_>,
     events: Option<&EventFile<'_>>,
-    own: Own<'_>,
+    recorded: Recorded<'_>,
     life: Life<WatchedOffice<'_>>,
     out: &mut impl Write,
 ) -> Result<(), Fault> {
-    let mut life = life;
-    own.begin(rt, &mut life)?;
-    let codes = codes_of(rt.alloc(), own.octets)?;
-    let limits = overdues_of(rt.alloc(), own.octets)?;
+    let codes = codes_of(rt.alloc(), recorded.book)?;
+    let limits = overdues_of(rt.alloc(), recorded.book)?;
     let host = name_of(rt.alloc(), line.host)?;
     let partners = bound(rt, line.entrance.address, line.entrance.port)?;
     let requests = match line.http_port {
@@ -170,26 +120,27 @@ fn run_over(
         jobs: line.jobs,
         events,
         told: line.files.events,
-        recorder: own.recorder,
+        recorder: recorded.recorder,
     };
-    let ended = serve_on(rt, &config, station, own, life, out);
+    let ended = serve_on(rt, &config, station, recorded, life, out);
     let _ = place.remove(rt);
     dismiss(rt.alloc(), &commands);
     ended
 }
 
-/// Serves them, and records the register at the end.
+/// Serves them, and records the register before and after that.
 fn serve_on<O: Office + Drop>(
     rt: &HostRuntime,
     config: &ServiceConfig<'_>,
     station: &Station<'_>,
-    own: Own<'_>,
+    recorded: Recorded<'_>,
     life: Life<O>,
     out: &mut impl Write,
 ) -> Result<(), Fault> {
     let mut kept = Kept::new(life);
+    recorded.begin(rt, &mut kept)?;
     serve(rt, config, station, &mut kept, &mut SessionLines::new(out))?;
-    own.end(rt, &mut kept)
+    recorded.end(rt, &mut kept)
 }
 
 /// Answers each command that was never accepted that the station has ended, so that nothing of it was begun.

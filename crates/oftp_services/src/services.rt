@@ -1,9 +1,10 @@
 //! The commands `listen`, `call` and `http`, over sockets.
 
-use oftp_command_line::{Call, Entrance, Files, Http, Listen, SessionTerms};
+use crate::recorded::{Recorded, recorder_of};
+use oftp_command_line::{Call, Entrance, Files, Http, Listen, RecordSync, SessionTerms};
 use oftp_database::{self as database, Opened};
 use oftp_engine::End;
-use oftp_files::{EventFile, Trace, book_of, open_events, open_trace, read_book};
+use oftp_files::{EventFile, Trace, book_of, open_events, open_trace, read_book_octets};
 use oftp_listing::Site;
 use oftp_outcomes::{Fault, Outcome, Trouble, Way, write_line};
 use oftp_partners::Book;
@@ -102,8 +103,8 @@ fn bare_station(book: &Book) -> Station<'_> {
 /// Serves the sessions of partners that call, and writes a line for each: its end to `out`, or its error to `err`.
 ///
 /// # Errors
-/// [`Fault::Book`], [`Fault::File`], [`Fault::Store`] or [`Fault::Socket`] if the book, the trace, the events, the database or the port can't be
-/// opened; those of [`serve`].
+/// [`Fault::Book`], [`Fault::File`], [`Fault::Store`] or [`Fault::Socket`] if the book, the trace, the events, the record, the database or the port
+/// can't be opened; those of [`serve`].
 pub fn listen(
     rt: &HostRuntime,
     line: &Listen<'_>,
@@ -122,15 +123,20 @@ fn listen_noting<'n>(
     out: &mut impl Write,
     err: &mut impl Write,
 ) -> Result<(), Fault> {
-    let book = read_book(rt, line.files.book)?;
+    let (octets, book) = read_book_octets(rt, line.files.book)?;
     database::make(rt, line.files.database)?;
     let trace = trace_of(rt, &line.files, &line.terms)?;
     let events = events_of(rt, &line.files, news)?;
     let listener = bound(rt, line.entrance.address, line.entrance.port)?;
-    let config = config_of_callers(line, &listener, events.as_ref());
+    let recorder = recorder_of(rt, line.files.record, RecordSync::Synced)?;
+    let recorded = Recorded {
+        book: octets.as_slice(),
+        recorder: recorder.as_ref(),
+    };
+    let config = config_of_callers(line, &listener, events.as_ref(), recorded);
     let station = station_of(&book, &line.terms, trace.as_ref());
     let keeper = Opened::new(rt, line.files.database, noting(&line.files, news));
-    serve_each(rt, &config, &station, keeper, out, err)
+    serve_recorded(rt, &config, &station, recorded, keeper, &mut EndLines { out, err })
 }
 
 /// The settings of a service for callers who come to this listener.
@@ -138,47 +144,63 @@ fn config_of_callers<'c>(
     line: &Listen<'_>,
     listener: &'c TcpListener,
     events: Option<&'c EventFile<'c>>,
+    recorded: Recorded<'c>,
 ) -> ServiceConfig<'c> {
     ServiceConfig {
         partners: Some(listener),
         places: line.sessions,
         admission: admission_of(&line.entrance, &line.terms),
         events,
+        recorder: recorded.recorder,
         ..idle_config(line.sessions)
     }
 }
 
-/// Serves whoever comes, with a life over the database for each job.
-fn serve_each(
+/// Serves whoever comes, or calls, with a life over the database for each job. Records the register before and after that.
+fn serve_recorded(
     rt: &HostRuntime,
     config: &ServiceConfig<'_>,
     station: &Station<'_>,
+    recorded: Recorded<'_>,
     keeper: Opened<'_>,
-    out: &mut impl Write,
-    err: &mut impl Write,
+    reporter: &mut impl Reporter,
 ) -> Result<(), Fault> {
     let mut keeper = keeper;
-    serve(rt, config, station, &mut keeper, &mut EndLines { out, err })
+    recorded.begin(rt, &mut keeper)?;
+    serve(rt, config, station, &mut keeper, reporter)?;
+    recorded.end(rt, &mut keeper)
 }
 
-/// Calls a partner of the book for one session, over a database that isn't locked.
+/// Calls a partner of a book, whose octets are given too, for one session, over a database that isn't locked.
 ///
 /// # Errors
-/// [`Fault::File`], [`Fault::Store`] or [`Fault::Socket`] if the trace, the events, the database or the connection can't be opened; those of the session.
-pub fn call(rt: &HostRuntime, line: &Call<'_>, book: &Book) -> Result<Outcome, Fault> {
+/// [`Fault::File`], [`Fault::Store`] or [`Fault::Socket`] if the trace, the events, the record, the database or the connection can't be opened; those of
+/// the session.
+pub fn call(
+    rt: &HostRuntime,
+    line: &Call<'_>,
+    octets: &[u8],
+    book: &Book,
+) -> Result<Outcome, Fault> {
     let news = News::new(rt.alloc());
-    call_noting(rt, line, book, &news)
+    call_noting(rt, line, octets, book, &news)
 }
 
 /// Calls a partner as [`call`] says. The events of that are noted here.
 fn call_noting<'n>(
     rt: &'n HostRuntime,
     line: &Call<'_>,
+    octets: &[u8],
     book: &Book,
     news: &'n News,
 ) -> Result<Outcome, Fault> {
     let trace = trace_of(rt, &line.files, &line.terms)?;
     let events = events_of(rt, &line.files, news)?;
+    let recorder = recorder_of(rt, line.files.record, RecordSync::Synced)?;
+    let recorded = Recorded {
+        book: octets,
+        recorder: recorder.as_ref(),
+    };
     let station = station_of(book, &line.terms, trace.as_ref());
     let code = String::from_str(rt.alloc(), line.partner)?;
     let config = ServiceConfig {
@@ -186,10 +208,11 @@ fn call_noting<'n>(
         codes: &[code],
         start: Start::Calling,
         events: events.as_ref(),
+        recorder: recorded.recorder,
         ..idle_config(1)
     };
     let keeper = Opened::new(rt, line.files.database, noting(&line.files, news));
-    end_of_call(rt, &config, &station, keeper)
+    end_of_call(rt, &config, &station, recorded, keeper)
 }
 
 /// Makes a call, with a life over the database. Returns how it ended.
@@ -197,11 +220,11 @@ fn end_of_call(
     rt: &HostRuntime,
     config: &ServiceConfig<'_>,
     station: &Station<'_>,
+    recorded: Recorded<'_>,
     keeper: Opened<'_>,
 ) -> Result<Outcome, Fault> {
-    let mut keeper = keeper;
     let mut ended = LastEnd { ended: None };
-    serve(rt, config, station, &mut keeper, &mut ended)?;
+    serve_recorded(rt, config, station, recorded, keeper, &mut ended)?;
     match ended.ended {
         Some(ended) => ended.map(Outcome::Ended),
         None => Err(Fault::Socket),
@@ -230,7 +253,11 @@ pub fn http(
     };
     let book = book_of(rt.alloc(), NOBODY)?;
     let keeper = Opened::new(rt, line.database, None);
-    serve_each(rt, &config, &bare_station(&book), keeper, out, err)
+    let recorded = Recorded {
+        book: NOBODY,
+        recorder: None,
+    };
+    serve_recorded(rt, &config, &bare_station(&book), recorded, keeper, &mut EndLines { out, err })
 }
 
 /// Writes the end of each session to one output, and the error of each session or request to the other. That the error can't be written

@@ -171,7 +171,7 @@ fn carry_out_alone(
 fn call_partner(rt: &HostRuntime, line: &Call<'_>) -> Result<Outcome, Fault> {
     match commands::call(rt, line)? {
         Called::Told(outcome) => Ok(outcome),
-        Called::Alone(book) => services::call(rt, line, &book),
+        Called::Alone(octets, book) => services::call(rt, line, octets.as_slice(), &book),
     }
 }
 

@@ -1,0 +1,81 @@
+//! What is recorded of a command that has the database itself.
+
+use crate::backing::Telling;
+use oftp_channel::{Ending, Request};
+use oftp_command_line::VERSION;
+use oftp_contents::EndCause;
+use oftp_engine::RunFault;
+use oftp_outcomes::Fault;
+use oftp_recording::{Recorder, Syncing};
+use oftp_register::Office;
+use oftp_requests::{line_of_ending, request_octets};
+use std::alloc::Global;
+
+/// The record of a command.
+#[derive(Drop)]
+pub(crate) struct Recording<'t> {
+    recorder: Recorder<'t>,
+    // The number of the last operator's call.
+    calls: u64,
+}
+
+impl<'t> Recording<'t> {
+    /// Records that a command begins, if it names a record.
+    ///
+    /// # Errors
+    /// [`Fault::File`] if the record can't be written; [`Fault::Run`] if the office failed; [`Fault::MEMORY`].
+    pub(crate) fn begun<O: Office>(
+        telling: Telling<'t>,
+        office: &mut O,
+    ) -> Result<Option<Recording<'t>>, Fault> {
+        let Some(folder) = telling.record else {
+            return Ok(None);
+        };
+        let recorder = Recorder::open(telling.rt, folder, Syncing::Synced)?;
+        recorder.begin(VERSION, telling.octets, office)?;
+        Ok(Some(Recording { recorder, calls: 0 }))
+    }
+
+    /// Records an operator's call that is to be made.
+    ///
+    /// # Errors
+    /// [`Fault::File`] if the record can't be written; [`Fault::MEMORY`].
+    pub(crate) fn ask(&mut self, alloc: Global, request: &Request<'_>) -> Result<(), Fault> {
+        let octets = request_octets(alloc, request)?;
+        self.calls = self.calls.saturating_add(1);
+        self.recorder.called(self.calls, octets.as_slice())
+    }
+
+    /// Records the answer to the last call, unless the office failed: then nothing more is recorded, as after a kill.
+    ///
+    /// # Errors
+    /// Those of [`Recording::ask`].
+    pub(crate) fn answer(
+        &self,
+        alloc: Global,
+        answer: &Result<Ending, Fault>,
+    ) -> Result<(), Fault> {
+        let ending = match answer {
+            Ok(ending) => *ending,
+            Err(Fault::Run(RunFault::Office)) => return Ok(()),
+            Err(fault) => Ending::Failed(fault.in_memory()),
+        };
+        let line = line_of_ending(alloc, ending)?;
+        self.recorder
+            .ended(self.calls, EndCause::Itself, line.as_str())
+    }
+
+    /// Records that the database is about to be copied to a file.
+    ///
+    /// # Errors
+    /// Those of [`Recording::begun`].
+    pub(crate) fn back_up<O: Office>(&self, to: &str, office: &mut O) -> Result<(), Fault> {
+        self.recorder.back_up(to, office)
+    }
+
+    /// Records the register at the end. The answer is out, so what can't be recorded of that isn't told.
+    pub(crate) fn end<O: Office>(self, office: &mut O) {
+        let Recording { recorder, calls: _ } = self;
+        let _ = recorder.mark(office);
+    }
+}

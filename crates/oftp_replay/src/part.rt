@@ -1,0 +1,68 @@
+//! Which part of a record is played.
+
+use oftp_command_line::Replay;
+use oftp_contents::EntryPlace;
+
+/// The number of digits of a day.
+const DIGITS: usize = 8;
+
+/// The part of a record that is played.
+#[derive(Clone, Copy)]
+pub(crate) struct Part {
+    /// Its first entry, if one is named.
+    pub(crate) from: Option<EntryPlace>,
+    /// Its last entry, if one is named.
+    pub(crate) to: Option<EntryPlace>,
+}
+
+impl Part {
+    /// The whole record.
+    pub(crate) fn whole() -> Part {
+        Part {
+            from: None,
+            to: None,
+        }
+    }
+
+    /// The part that a command line names, or `None` if it names an entry by what is no place.
+    pub(crate) fn of(line: &Replay<'_>) -> Option<Part> {
+        let from = match line.from {
+            Some(text) => Some(place_of(text)?),
+            None => None,
+        };
+        let to = match line.to {
+            Some(text) => Some(place_of(text)?),
+            None => None,
+        };
+        Some(Part { from, to })
+    }
+
+    /// Whether an entry isn't behind the last one.
+    pub(crate) fn reaches(&self, place: &EntryPlace) -> bool {
+        match &self.to {
+            Some(last) => place.is_up_to(last),
+            None => true,
+        }
+    }
+}
+
+/// The place that a text names: the digits of the day, a colon, and the number of the entry.
+fn place_of(text: &str) -> Option<EntryPlace> {
+    let (day, number) = text.split_once(':')?;
+    if day.len() != DIGITS || !are_digits(day) || !are_digits(number) {
+        return None;
+    }
+    let day = day.parse::<u64>().ok()?;
+    let number = number.parse::<u64>().ok()?;
+    Some(EntryPlace { day, number })
+}
+
+/// Whether a text is digits alone, so that no sign is taken.
+fn are_digits(text: &str) -> bool {
+    text.chars().all(|character| character.is_ascii_digit())
+}
+
+/// The number of a day, of which the digits are given.
+pub(crate) fn number_of_day(day: &str) -> u64 {
+    day.parse::<u64>().unwrap_or(0)
+}
