@@ -54,11 +54,19 @@ AreRead examples = map (λ (e : Example). line_of_words e.0) examples ≡ map (�
 
 -- the database d and the book b
 abbrev d_and_b : FilesSaid
-d_and_b = record { database = codes "d"; book = codes "b"; events = None }
+d_and_b = record { database = codes "d"; book = codes "b"; events = None; «record» = None }
 
 -- the same, and events go to e
 abbrev e_beside : FilesSaid
-e_beside = record { database = codes "d"; book = codes "b"; events = Some (codes "e") }
+e_beside = record { database = codes "d"; book = codes "b"; events = Some (codes "e"); «record» = None }
+
+-- the same without events, and the record is folder r
+abbrev r_beside : FilesSaid
+r_beside = record { database = codes "d"; book = codes "b"; events = None; «record» = Some (codes "r") }
+
+-- both
+abbrev e_and_r : FilesSaid
+e_and_r = record { database = codes "d"; book = codes "b"; events = Some (codes "e"); «record» = Some (codes "r") }
 
 -- lines about the program itself
 program_lines : AreRead (
@@ -188,6 +196,19 @@ submit_lines : AreRead (
       description = [];
       file = codes "f";
     }))
+    -- it takes a record
+    ∷ asks (codes "submit --db=d --book=b --record=r --dataset=n --date=20240131 --time=1015300001 --to=p --format=U f")
+    (said_submit (record {
+      files = r_beside;
+      dataset = codes "n";
+      date = Some (codes "20240131");
+      time = Some (codes "1015300001");
+      to = codes "p";
+      format = format.Unstructured;
+      longest = 0;
+      description = [];
+      file = codes "f";
+    }))
     -- no format has this letter
     ∷ bad (submit_line (codes " --format=u f"))
     -- a length has an upper limit
@@ -256,6 +277,18 @@ offer_lines : AreRead (
       format = format.Unstructured;
       longest = 0;
     }))
+    -- it takes a record
+    ∷ asks (codes "offer --record r --db=d --book=b --to=p --from=f")
+    (said_offer (record {
+      files = r_beside;
+      to = codes "p";
+      folder = codes "f";
+      dataset = None;
+      description = [];
+      describes = false;
+      format = format.Unstructured;
+      longest = 0;
+    }))
     -- no format has this letter
     ∷ bad (codes "offer --db=d --book=b --to=p --from=f --format=u")
     -- a length has an upper limit
@@ -291,6 +324,8 @@ resend_lines : AreRead (
     -- and a date and a time
     ∷ asks (codes "resend --db=d --book=b --date 20240131 --time=1015300001 7")
     (said_resend (record { files = d_and_b; date = Some (codes "20240131"); time = Some (codes "1015300001"); no = 7 }))
+    -- it takes a record
+    ∷ asks (codes "resend --db=d --book=b --record r 7") (said_resend (record { files = r_beside; date = None; time = None; no = 7 }))
     -- no file has the number 0
     ∷ bad (codes "resend --db=d --book=b 0")
     -- the last number is 9999999
@@ -313,6 +348,10 @@ release_lines : AreRead (
     ∷ asks (codes "release --db=d --book=b 9999999") (said_release (record { files = d_and_b; no = 9999999 }))
     -- its events go to a file
     ∷ asks (codes "release --db=d --book=b --events=e 7") (said_release (record { files = e_beside; no = 7 }))
+    -- it takes a record, beside them
+    ∷ asks (codes "release --record=r --db=d --book=b --events=e 7") (said_release (record { files = e_and_r; no = 7 }))
+    -- a record has one folder
+    ∷ bad (codes "release --record=r --record=r --db=d --book=b 7")
     -- 0 is too small
     ∷ bad (codes "release --db=d --book=b 0")
     -- 10000000 is too large
@@ -335,6 +374,8 @@ refuse_lines : AreRead (
     ∷ (words_of (codes "refuse --db=d --book=b 7 0") ++ [] ∷ [], Some (said_refuse (record { files = d_and_b; no = 7; reason = 0; text = [] })))
     -- its events go to a file
     ∷ asks (codes "refuse --events e --db=d --book=b 7 99 x") (said_refuse (record { files = e_beside; no = 7; reason = 99; text = codes "x" }))
+    -- it takes a record
+    ∷ asks (codes "refuse --record r --db=d --book=b 7 99 x") (said_refuse (record { files = r_beside; no = 7; reason = 99; text = codes "x" }))
     -- a reason has two digits at most
     ∷ bad (codes "refuse --db=d --book=b 7 100 x")
     -- no file has the number 0
@@ -353,6 +394,8 @@ fetch_lines : AreRead (
     ∷ bad (codes "fetch --db=d f 7")
     -- it takes no book
     ∷ bad (codes "fetch --db=d --book=b 7 f")
+    -- and no record, since it changes nothing
+    ∷ bad (codes "fetch --db=d --record=r 7 f")
     ∷ [])
 unfolding clap_on_literals fetch_app line_named taken
 fetch_lines = refl
@@ -388,6 +431,9 @@ collect_lines : AreRead (
     -- its events go to a file
     ∷ asks (codes "collect --events=e --db=d --book=b --to=f")
     (said_collect (record { files = e_beside; folder = codes "f"; from = None; dataset = None; releases = false }))
+    -- it takes a record
+    ∷ asks (codes "collect --record=r --db=d --book=b --to=f")
+    (said_collect (record { files = r_beside; folder = codes "f"; from = None; dataset = None; releases = false }))
     -- `--release` takes no value
     ∷ bad (codes "collect --db=d --book=b --to=f --release=true")
     -- it takes no word
@@ -497,11 +543,13 @@ settled_lines = refl
 -- lines of `backup`
 backup_lines : AreRead (
     -- `backup` takes the database and a file
-    asks (codes "backup --db=d f") (said_backup (record { database = codes "d"; events = None; to = codes "f" }))
+    asks (codes "backup --db=d f") (said_backup (record { database = codes "d"; events = None; «record» = None; to = codes "f" }))
     -- they come in any order
-    ∷ asks (codes "backup f --db d") (said_backup (record { database = codes "d"; events = None; to = codes "f" }))
+    ∷ asks (codes "backup f --db d") (said_backup (record { database = codes "d"; events = None; «record» = None; to = codes "f" }))
     -- its event goes to a file
-    ∷ asks (codes "backup --db=d --events=e f") (said_backup (record { database = codes "d"; events = Some (codes "e"); to = codes "f" }))
+    ∷ asks (codes "backup --db=d --events=e f") (said_backup (record { database = codes "d"; events = Some (codes "e"); «record» = None; to = codes "f" }))
+    -- it takes a record
+    ∷ asks (codes "backup --record r --db=d f") (said_backup (record { database = codes "d"; events = None; «record» = Some (codes "r"); to = codes "f" }))
     -- the file is required
     ∷ bad (codes "backup --db=d")
     -- the database is required
@@ -685,20 +733,18 @@ run_lines : AreRead (
       interval = 0;
       terms = terms_of 300 86400 None;
       jobs = 0;
-      record_folder = None;
       sync = Synced;
     }))
     -- a record that isn't synced
     ∷ asks (codes "run --record-sync no --db=d --book=b --record r")
     (said_run (record {
-      files = d_and_b;
+      files = r_beside;
       entrance = entrance_at 3305 (codes "127.0.0.1") 30;
       http_port = 0;
       host = None;
       interval = 0;
       terms = terms_of 300 86400 None;
       jobs = 0;
-      record_folder = Some (codes "r");
       sync = Unsynced;
     }))
     -- options come in any order
@@ -711,7 +757,6 @@ run_lines : AreRead (
       interval = 9;
       terms = terms_of 0 1 (Some (codes "t"));
       jobs = 1000000;
-      record_folder = None;
       sync = Synced;
     }))
     -- its events go to a file
@@ -724,7 +769,6 @@ run_lines : AreRead (
       interval = 0;
       terms = terms_of 300 86400 None;
       jobs = 0;
-      record_folder = None;
       sync = Synced;
     }))
     -- a record is synced, or it isn't
@@ -755,8 +799,17 @@ run_lines = refl
 
 -- lines of `replay`
 replay_lines : AreRead (
-    -- options come in any order
-    asks (codes "replay --book b --record=r --db=d") (said_replay (record { folder = codes "r"; files = d_and_b }))
+    -- options come in any order, and all entries are played by default
+    asks (codes "replay --book b --record=r --db=d") (said_replay (record { folder = codes "r"; files = r_beside; from = None; to = None }))
+    -- or those from one to another
+    ∷ asks (codes "replay --to=20240201:9 --from 20240131:7 --book b --record=r --db=d")
+    (said_replay (record { folder = codes "r"; files = r_beside; from = Some (codes "20240131:7"); to = Some (codes "20240201:9") }))
+    -- either of them may be missing
+    ∷ asks (codes "replay --from=x --book b --record=r --db=d") (said_replay (record { folder = codes "r"; files = r_beside; from = Some (codes "x"); to = None }))
+    -- so may the other
+    ∷ asks (codes "replay --to=y --book b --record=r --db=d") (said_replay (record { folder = codes "r"; files = r_beside; from = None; to = Some (codes "y") }))
+    -- it appends no events
+    ∷ bad (codes "replay --events=e --book b --record=r --db=d")
     -- the folder is required
     ∷ bad (codes "replay --db=d --book=b")
     -- the book is required
@@ -778,6 +831,11 @@ listen_lines : AreRead (
     -- its events go to a file
     ∷ asks (codes "listen --db=d --book=b --events=e")
     (said_listen (record { files = e_beside; entrance = entrance_at 3305 (codes "127.0.0.1") 30; sessions = 1; terms = terms_of 300 86400 None }))
+    -- it takes a record
+    ∷ asks (codes "listen --db=d --book=b --record=r")
+    (said_listen (record { files = r_beside; entrance = entrance_at 3305 (codes "127.0.0.1") 30; sessions = 1; terms = terms_of 300 86400 None }))
+    -- which is always synced
+    ∷ bad (codes "listen --db=d --book=b --record=r --record-sync=no")
     -- the port isn't 0
     ∷ bad (codes "listen --db=d --book=b --port=0")
     -- the port has an upper limit
@@ -823,6 +881,9 @@ call_lines : AreRead (
     -- its events go to a file
     ∷ asks (codes "call --db=d --book=b --events=e --partner=p")
     (said_call (record { files = e_beside; partner = codes "p"; fails = false; terms = terms_of 300 86400 None }))
+    -- it takes a record
+    ∷ asks (codes "call --db=d --book=b --record=r --partner=p")
+    (said_call (record { files = r_beside; partner = codes "p"; fails = false; terms = terms_of 300 86400 None }))
     -- the partner is required
     ∷ bad (codes "call --db=d --book=b")
     -- it takes no admission

@@ -2,7 +2,7 @@
 use Rattle.std.specs.Prelude.{ℕ, Bool, List, [], ◌∷◌, Option, codes, option_map}
 use Rattle.clap.specs.Words.{App, Row, Text, first_of}
 use Rattle.oftp_vfile.specs.declared.format.Format.{Format}
-use Rattle.oftp_command_line.specs.Arguments.{app_with, defaulted, flag, given, has_flag, needed, number, numbered, optional, own_book, own_database, own_events}
+use Rattle.oftp_command_line.specs.Arguments.{app_with, defaulted, flag, given, has_flag, needed, number, numbered, optional, own_book, own_database, own_events, own_record}
 use Rattle.oftp_command_line.specs.Files.{FilesSaid, files_said, files_with}
 use Rattle.oftp_command_line.specs.OperatorLines.{format_of}
 use Rattle.oftp_command_line.specs.declared.line.commands.folders.Collect.{Collect}
@@ -29,7 +29,7 @@ collect_said c = record {
 
 -- the declaration of `collect` to the parser
 unfoldable pub collect_app : App
-collect_app = app_with (codes "collect") (own_database ∷ own_book ∷ own_events ∷ needed (codes "to") ∷ optional (codes "from")
+collect_app = app_with (codes "collect") (own_database ∷ own_book ∷ own_events ∷ own_record ∷ needed (codes "to") ∷ optional (codes "from")
     ∷ optional (codes "dataset") ∷ flag (codes "release") ∷ [])
 
 -- the command `collect` with these values
@@ -68,7 +68,7 @@ offer_said o = record {
 
 -- the declaration of `offer` to the parser
 unfoldable pub offer_app : App
-offer_app = app_with (codes "offer") (own_database ∷ own_book ∷ own_events ∷ needed (codes "to") ∷ needed (codes "from")
+offer_app = app_with (codes "offer") (own_database ∷ own_book ∷ own_events ∷ own_record ∷ needed (codes "to") ∷ needed (codes "from")
     ∷ optional (codes "dataset") ∷ defaulted (codes "description") [] ∷ flag (codes "describe")
     ∷ defaulted (codes "format") (codes "U") ∷ numbered 0 MOST_LONGEST (defaulted (codes "longest") (codes "0")) ∷ [])
 

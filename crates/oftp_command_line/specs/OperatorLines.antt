@@ -3,7 +3,7 @@ use Rattle.std.specs.Prelude.{ℕ, List, [], ◌∷◌, Option, codes, option_ma
 use Rattle.clap.specs.Words.{App, Row, Text, first_of}
 use Rattle.oftp_vfile.specs.declared.format.Format.{Format}
 use Rattle.oftp_vfile.specs.declared.format.Format.TheVariants as format
-use Rattle.oftp_command_line.specs.Arguments.{app_with, defaulted, file_number, given, named, needed, number, numbered, optional, own_book, own_database, own_events, word}
+use Rattle.oftp_command_line.specs.Arguments.{app_with, defaulted, file_number, given, named, needed, number, numbered, optional, own_book, own_database, own_events, own_record, word}
 use Rattle.oftp_command_line.specs.Files.{FilesSaid, files_said, files_with}
 use Rattle.oftp_command_line.specs.declared.line.commands.operators.Refuse.{Refuse}
 use Rattle.oftp_command_line.specs.declared.line.commands.operators.Release.{Release}
@@ -39,7 +39,7 @@ submit_said s = record {
 
 -- the declaration of `submit` to the parser
 unfoldable pub submit_app : App
-submit_app = app_with (codes "submit") (own_database ∷ own_book ∷ own_events ∷ needed (codes "dataset") ∷ optional (codes "date")
+submit_app = app_with (codes "submit") (own_database ∷ own_book ∷ own_events ∷ own_record ∷ needed (codes "dataset") ∷ optional (codes "date")
     ∷ optional (codes "time") ∷ needed (codes "to") ∷ needed (codes "format")
     ∷ numbered 0 MOST_LONGEST (defaulted (codes "longest") (codes "0"))
     ∷ defaulted (codes "description") [] ∷ word (codes "file") ∷ [])
@@ -85,7 +85,7 @@ resend_said r = record {
 
 -- the declaration of `resend` to the parser
 unfoldable pub resend_app : App
-resend_app = app_with (codes "resend") (own_database ∷ own_book ∷ own_events ∷ optional (codes "date") ∷ optional (codes "time") ∷ file_number ∷ [])
+resend_app = app_with (codes "resend") (own_database ∷ own_book ∷ own_events ∷ own_record ∷ optional (codes "date") ∷ optional (codes "time") ∷ file_number ∷ [])
 
 -- the command `resend` with these values
 abbrev pub resend_with : List Row → ResendSaid
@@ -107,7 +107,7 @@ release_said r = record { files = files_said r.files; no = r.no }
 
 -- the declaration of `release` to the parser
 unfoldable pub release_app : App
-release_app = app_with (codes "release") (own_database ∷ own_book ∷ own_events ∷ file_number ∷ [])
+release_app = app_with (codes "release") (own_database ∷ own_book ∷ own_events ∷ own_record ∷ file_number ∷ [])
 
 -- the command `release` with these values
 abbrev pub release_with : List Row → ReleaseSaid
@@ -131,7 +131,7 @@ refuse_said r = record {
 
 -- the declaration of `refuse` to the parser
 unfoldable pub refuse_app : App
-refuse_app = app_with (codes "refuse") (own_database ∷ own_book ∷ own_events ∷ file_number
+refuse_app = app_with (codes "refuse") (own_database ∷ own_book ∷ own_events ∷ own_record ∷ file_number
     ∷ numbered 0 MOST_REASON (word (codes "reason")) ∷ word (codes "text") ∷ [])
 
 -- the command `refuse` with these values

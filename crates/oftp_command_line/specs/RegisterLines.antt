@@ -3,7 +3,7 @@ use Rattle.std.specs.Prelude.{ℕ, Bool, List, [], ◌∷◌, Option, codes, opt
 use Rattle.clap.specs.Words.{App, Row, Text, first_of}
 use Rattle.oftp_listing.specs.declared.reports.ReportKind.{ReportKind}
 use Rattle.oftp_listing.specs.declared.reports.ReportKind.TheVariants.{Incoming, Outgoing, Issued, Received}
-use Rattle.oftp_command_line.specs.Arguments.{app_with, file_number, flag, given, has_flag, named, number, optional, own_database, own_events, word}
+use Rattle.oftp_command_line.specs.Arguments.{app_with, file_number, flag, given, has_flag, named, number, optional, own_database, own_events, own_record, word}
 use Rattle.oftp_command_line.specs.declared.line.commands.audit.Audit.{Audit}
 use Rattle.oftp_command_line.specs.declared.line.commands.registers.Backup.{Backup}
 use Rattle.oftp_command_line.specs.declared.line.commands.registers.Fetch.{Fetch}
@@ -80,19 +80,30 @@ report_in rows = option_map (λ kind. report_with kind rows) (kind_of (given (co
 pub record BackupSaid : Type 0 where
   pub database : Text
   pub events : Option Text
+  pub «record» : Option Text
   pub to : Text
 
 -- those of the command that was read
 abbrev pub backup_said : Backup → BackupSaid
-backup_said b = record { database = b.database.now; events = option_map (λ s. s.now) b.events; to = b.to.now }
+backup_said b = record {
+  database = b.database.now;
+  events = option_map (λ s. s.now) b.events;
+  «record» = option_map (λ s. s.now) b.«record»;
+  to = b.to.now;
+}
 
 -- the declaration of `backup` to the parser
 unfoldable pub backup_app : App
-backup_app = app_with (codes "backup") (own_database ∷ own_events ∷ word (codes "to") ∷ [])
+backup_app = app_with (codes "backup") (own_database ∷ own_events ∷ own_record ∷ word (codes "to") ∷ [])
 
 -- the command `backup` with these values
 abbrev pub backup_with : List Row → BackupSaid
-backup_with rows = record { database = given (codes "db") rows; events = first_of (codes "events") rows; to = given (codes "to") rows }
+backup_with rows = record {
+  database = given (codes "db") rows;
+  events = first_of (codes "events") rows;
+  «record» = first_of (codes "record") rows;
+  to = given (codes "to") rows;
+}
 
 -- the options of `audit`
 pub record AuditSaid : Type 0 where

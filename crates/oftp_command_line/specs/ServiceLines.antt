@@ -21,7 +21,6 @@ pub record RunSaid : Type 0 where
   pub interval : ℕ
   pub terms : TermsSaid
   pub jobs : ℕ
-  pub record_folder : Option Text
   pub sync : RecordSync
 
 -- those of the command that was read
@@ -34,15 +33,14 @@ run_said r = record {
   interval = r.interval;
   terms = terms_said r.terms;
   jobs = r.jobs;
-  record_folder = option_map (λ s. s.now) r.record_folder;
   sync = r.sync;
 }
 
 -- the declaration of `run` to the parser
 unfoldable pub run_app : App
 run_app = app_with (codes "run") (own_database ∷ own_book ∷ own_port (codes "3305") ∷ own_address ∷ own_http_port
-    ∷ own_host ∷ own_interval ∷ own_admission ∷ own_patience ∷ own_duration ∷ own_trace ∷ own_events ∷ own_jobs
-    ∷ own_record ∷ own_record_sync ∷ [])
+    ∷ own_host ∷ own_interval ∷ own_admission ∷ own_patience ∷ own_duration ∷ own_trace ∷ own_events ∷ own_record
+    ∷ own_record_sync ∷ own_jobs ∷ [])
 
 -- the command `run` with these values, and a record that is synced or not
 abbrev pub run_with : RecordSync → List Row → RunSaid
@@ -54,7 +52,6 @@ run_with sync rows = record {
   interval = number (codes "call-every") rows;
   terms = terms_with rows;
   jobs = number (codes "jobs") rows;
-  record_folder = first_of (codes "record") rows;
   sync = sync;
 }
 
@@ -98,7 +95,7 @@ listen_said l = record {
 -- the declaration of `listen` to the parser
 unfoldable pub listen_app : App
 listen_app = app_with (codes "listen") (own_database ∷ own_book ∷ own_port (codes "3305") ∷ own_address
-    ∷ callers (codes "sessions") ∷ own_admission ∷ own_patience ∷ own_duration ∷ own_trace ∷ own_events ∷ [])
+    ∷ callers (codes "sessions") ∷ own_admission ∷ own_patience ∷ own_duration ∷ own_trace ∷ own_events ∷ own_record ∷ [])
 
 -- the command `listen` with these values
 abbrev pub listen_with : List Row → ListenSaid
@@ -128,7 +125,7 @@ call_said c = record {
 -- the declaration of `call` to the parser
 unfoldable pub call_app : App
 call_app = app_with (codes "call") (own_database ∷ own_book ∷ needed (codes "partner") ∷ flag (codes "fail")
-    ∷ own_patience ∷ own_duration ∷ own_trace ∷ own_events ∷ [])
+    ∷ own_patience ∷ own_duration ∷ own_trace ∷ own_events ∷ own_record ∷ [])
 
 -- the command `call` with these values
 abbrev pub call_with : List Row → CallSaid

@@ -87,6 +87,9 @@ macro_rules! shared {
     ($to:ident $head:tt $tail:tt events) => {
         shared!($to $head $tail = Optional("events", "FILE", "The file to which each event is appended, as a line of JSON"))
     };
+    ($to:ident $head:tt $tail:tt record) => {
+        shared!($to $head $tail = Optional("record", "FOLDER", "The folder to which what is heard, said and asked is recorded"))
+    };
     ($to:ident {$($head:tt)*} {$($tail:tt)*} = $($argument:tt)*) => { $to!($($head)* $($argument)* $($tail)*) };
 }
 
@@ -118,6 +121,7 @@ const SUBMIT: Declaration =
         Shared(database),
         Shared(book),
         Shared(events),
+        Shared(record),
         Needed("dataset", "NAME", "The virtual file's dataset name"),
         Optional("date", "DATE", "Its date stamp, as 20240131; today's if it is missing"),
         Optional("time", "TIME", "Its time stamp, as 1015300001; that of this moment if it is missing"),
@@ -133,6 +137,7 @@ const OFFER: Declaration =
         Shared(database),
         Shared(book),
         Shared(events),
+        Shared(record),
         Needed("to", "CODE", "The code of the partner that they go to"),
         Needed("from", "FOLDER", "The folder that holds them in their local form"),
         Optional("dataset", "NAME", "The dataset name of each; its own name if this is missing"),
@@ -147,6 +152,7 @@ const RESEND: Declaration =
         Shared(database),
         Shared(book),
         Shared(events),
+        Shared(record),
         Optional("date", "DATE", "The new date stamp, as 20240131; today's if it is missing"),
         Optional("time", "TIME", "The new time stamp, as 1015300001; that of this moment if it is missing"),
         Word("no", "NO", "The outgoing file's number, 1 to 9999999", 1, MOST_NO),
@@ -157,6 +163,7 @@ const RELEASE: Declaration =
         Shared(database),
         Shared(book),
         Shared(events),
+        Shared(record),
         Shared(number),
     ] };
 
@@ -165,6 +172,7 @@ const REFUSE: Declaration =
         Shared(database),
         Shared(book),
         Shared(events),
+        Shared(record),
         Shared(number),
         Word("reason", "REASON", "Why it wasn't, 0 to 99", 0, MOST_REASON),
         Word("text", "TEXT", "The reason in words"),
@@ -182,6 +190,7 @@ const COLLECT: Declaration =
         Shared(database),
         Shared(book),
         Shared(events),
+        Shared(record),
         Needed("to", "FOLDER", "The folder to write them to"),
         Optional("from", "CODE", "Only files of the partner with this code"),
         Optional("dataset", "PATTERN", "Only files whose dataset names match this: * is any text, ? any character"),
@@ -217,6 +226,7 @@ const BACKUP: Declaration =
     declaration! { Backup, "backup", "Copies the database as it stands to file TO", [
         Shared(database),
         Shared(events),
+        Shared(record),
         Word("to", "TO", "The file to write the copy to"),
     ] };
 
@@ -294,9 +304,9 @@ const RUN: Declaration =
         Shared(duration),
         Shared(trace),
         Shared(events),
-        Defaulted("jobs", "COUNT", "After how many jobs it ends, 0 to 1000000, 0 for never", "0", 0, MOST_JOBS),
-        Optional("record", "FOLDER", "The folder to which what is heard, said and asked is recorded"),
+        Shared(record),
         Defaulted("record-sync", "SYNC", "Whether the record is synced before an answer goes out: yes or no", "yes"),
+        Defaulted("jobs", "COUNT", "After how many jobs it ends, 0 to 1000000, 0 for never", "0", 0, MOST_JOBS),
     ] };
 
 const REPLAY: Declaration =
@@ -304,6 +314,8 @@ const REPLAY: Declaration =
         Needed("record", "FOLDER", "The folder that holds the record"),
         Shared(database),
         Shared(book),
+        Optional("from", "ENTRY", "The first entry to play, as YYYYMMDD:NUMBER"),
+        Optional("to", "ENTRY", "The last entry to play, as YYYYMMDD:NUMBER"),
     ] };
 
 const LISTEN: Declaration =
@@ -318,6 +330,7 @@ const LISTEN: Declaration =
         Shared(duration),
         Shared(trace),
         Shared(events),
+        Shared(record),
     ] };
 
 const CALL: Declaration = declaration! { Call, "call", "Calls a partner for one session", [
@@ -329,6 +342,7 @@ const CALL: Declaration = declaration! { Call, "call", "Calls a partner for one 
     Shared(duration),
     Shared(trace),
     Shared(events),
+    Shared(record),
 ] };
 
 const HTTP: Declaration =

@@ -16,6 +16,8 @@ pub struct Files<'a> {
     pub book: &'a str,
     /// The file to which its events are appended, if there is one.
     pub events: Option<&'a str>,
+    /// The folder of its record, if there is one.
+    pub record: Option<&'a str>,
 }
 
 /// Reads the files from the values of the options.
@@ -28,5 +30,6 @@ pub(super) fn files_read<'a>(matches: &ArgMatches<'a>) -> Files<'a>
         database: given(matches, "db"),
         book: given(matches, "book"),
         events: value_of(matches, "events"),
+        record: value_of(matches, "record"),
     }
 }

@@ -6,7 +6,7 @@ ghost use Rattle.oftp_command_line.specs.Arguments.{HasValues, values_in};
 ghost use Rattle.oftp_command_line.specs.RecordLines.{replay_app, replay_said, replay_with};
 
 use super::files::{Files, files_read};
-use crate::line::values::given;
+use crate::line::values::{given, value_of};
 use clap::ArgMatches;
 
 /// Whether a record is synced before an answer to what it has goes out.
@@ -31,6 +31,10 @@ pub struct Replay<'a> {
     pub folder: &'a str,
     /// The database and the book.
     pub files: Files<'a>,
+    /// The first entry that is played, as YYYYMMDD:NUMBER. `None` is the record's first.
+    pub from: Option<&'a str>,
+    /// The last entry that is played, as YYYYMMDD:NUMBER. `None` is the record's last.
+    pub to: Option<&'a str>,
 }
 
 /// Reads the values of the options of `replay`.
@@ -41,5 +45,7 @@ pub(super) fn replay_read<'a>(matches: &ArgMatches<'a>) -> Replay<'a>
     Replay {
         folder: given(matches, "record"),
         files: files_read(matches),
+        from: value_of(matches, "from"),
+        to: value_of(matches, "to"),
     }
 }

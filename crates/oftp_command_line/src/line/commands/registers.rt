@@ -86,6 +86,8 @@ pub struct Backup<'a> {
     pub database: &'a str,
     /// The file to which its event is appended, if there is one.
     pub events: Option<&'a str>,
+    /// The folder of its record, if there is one.
+    pub record: Option<&'a str>,
     /// The file to which the copy is written.
     pub to: &'a str,
 }
@@ -98,6 +100,7 @@ pub(super) fn backup_read<'a>(matches: &ArgMatches<'a>) -> Backup<'a>
     Backup {
         database: given(matches, "db"),
         events: value_of(matches, "events"),
+        record: value_of(matches, "record"),
         to: given(matches, "to"),
     }
 }

@@ -30,8 +30,6 @@ pub struct Run<'a> {
     pub terms: SessionTerms<'a>,
     /// After how many jobs it ends, 0 to 1,000,000; 0 is never.
     pub jobs: u64,
-    /// The folder of its record, if there is one.
-    pub record_folder: Option<&'a str>,
     /// Whether the record is synced.
     pub sync: RecordSync,
 }
@@ -58,7 +56,6 @@ pub(super) fn run_read<'a>(alloc: Global, matches: &ArgMatches<'a>) -> Result<Ru
         interval: number(matches, "call-every"),
         terms: terms_read(matches),
         jobs: number(matches, "jobs"),
-        record_folder: value_of(matches, "record"),
         sync,
     })
 }
