@@ -114,12 +114,7 @@ impl<'a> Recorder<'a> {
     /// Those of [`Recorder::begin`].
     pub fn back_up<O: Office>(&self, to: &str, office: &mut O) -> Result<(), Fault> {
         let register = register_digest(self.rt.alloc(), office)?;
-        let fields = ContentFields {
-            first: to.as_bytes(),
-            second: register.as_slice(),
-            ..NOTHING
-        };
-        self.put(RecordKind::Backup, &fields)?;
+        self.put(RecordKind::Backup, &backup_of(to, &register))?;
         self.sync()
     }
 
@@ -385,6 +380,15 @@ fn octets_of(number: u64, octets: &[u8]) -> ContentFields<'_> {
     ContentFields {
         number,
         rest: octets,
+        ..NOTHING
+    }
+}
+
+/// The fields of a backup.
+fn backup_of<'f>(to: &'f str, register: &'f Digest) -> ContentFields<'f> {
+    ContentFields {
+        first: to.as_bytes(),
+        second: register.as_slice(),
         ..NOTHING
     }
 }
