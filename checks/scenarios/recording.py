@@ -1,5 +1,5 @@
 #!/usr/bin/env python3
-"""Tries `run --record` and `replay` as processes.
+"""Tries `--record` and `replay` as processes.
 
     checks/scenarios/recording.py [WORD ..]      all cases, or those whose names have one of these words
 
@@ -9,14 +9,18 @@ Shows: what a station recorded, played over a new database, gives the tables tha
 partner who calls and who is called, with files both ways, after operators' commands and after a book that was read again, and after SIGKILL between
 any two octets of sessions and within commands, with a start again each time. It goes on from a backup. A record that is cut off, or in which an
 octet was changed, is told, and so is a database that isn't the station's. A station goes on behind the last whole entry. One that can't write its
-record ends with `fault: 7 file`
+record ends with `fault: 7 file`. What commands without a station, `listen` and `call` record gives their tables, too, also after a kill of commands.
+The register is marked each hour if no session goes on, and as a copy of the database is made. A part of a record is played from an entry, up to an
+entry. `explain` shows what isn't to be seen in a changed record by its escape
 """
 
 import contextlib
+import hashlib
 import os
 import random
 import shutil
 import socket
+import struct
 import subprocess
 import sys
 import tempfile
@@ -31,7 +35,8 @@ import one_file
 import row_files
 import tables
 from program import PROGRAM, ROOT
-from services import BOOK, CARMAKER, LONG, NotTried, Resident, Wrong, expect, free_port, rest_of
+from services import BOOK, CARMAKER, LONG, NotTried, Resident, Service, Wrong, expect, free_port, rest_of
+from shims import compile_library
 
 IDENTITY = ["--date", "20240201", "--to", CARMAKER, "--format", "U"]
 
@@ -430,7 +435,197 @@ def full_disk(room):
         expect_same(room, 0, 1)
 
 
-CASES = [commands, rows, two_stations, book_read_again, killed_at_moments, killed_beside_partners, changed_octet, cut_record, backup, days, two_in_one_folder, without_syncing, other_database, full_disk, full_disk_of_the_database]
+# The kinds of entries that are looked for.
+OPENING, SESSION, CALL, BACKUP, MARK = 1, 2, 6, 7, 8
+
+
+def entries_of(file):
+    """The entries of a day's file: each with its kind, and its content."""
+    octets, at = file.read_bytes(), 0
+    while at < len(octets):
+        kind, (count,) = octets[at + 5], struct.unpack(">I", octets[at + 14 : at + 18])
+        yield kind, octets[at + 22 : at + 22 + count]
+        at += 22 + count + 32
+
+
+def kinds_in(room):
+    return [kind for kind, _ in entries_of(file_of(room))]
+
+
+def alone(room, name, *words, status=0, database="database", book=BOOK):
+    """What a command prints that has the database itself, and records."""
+    named = [PROGRAM, name, "--db", room / database, *(["--book", book] if book else []), "--record", room / "record", *words]
+    done = subprocess.run(named, capture_output=True, timeout=LONG, check=False)
+    if done.returncode != status:
+        raise Wrong(f"{name}: {done.returncode}, {done.stdout!r}, {done.stderr!r}")
+    return (done.stdout + done.stderr).decode()
+
+
+def commands_alone(room):
+    """Each command that changes the database, without a station, done and refused, and a station between them."""
+    (room / "record").mkdir()
+    for folder in ("offered", "collected"):
+        (room / folder).mkdir()
+    (room / "file").write_bytes(bytes(range(256)) * 10)
+    for name in ("one", "two"):
+        (room / "offered" / name).write_bytes(name.encode() * 100)
+    offer = ["--to", CARMAKER, "--from", room / "offered"]
+    for name, status in (("A", 0), ("A", 1), ("B", 0)):
+        alone(room, "submit", *IDENTITY, "--dataset", name, "--time", "0800000001", room / "file", status=status)
+    expect(len(alone(room, "offer", *offer).splitlines()), 2, "the lines of offer")
+    with recording(room, "--jobs", "1") as service:
+        converse(service, session_of("receiving/one_octet").joined("in"))
+        service.ends()
+    expect(alone(room, "collect", "--to", room / "collected", "--release")[:16], "done: collect 1 ", "collect")
+    expect(alone(room, "release", "1", status=1), "refused: 3 state\n", "release")
+    expect(alone(room, "refuse", "7", "12", "no", status=1), "refused: 2 unknown\n", "refuse")
+    expect(alone(room, "resend", "1", status=1), "refused: 3 state\n", "resend of what still goes out")
+    expect_same(room, 1, 9)
+    # Of each program there is its beginning and its end.
+    kinds = kinds_in(room)
+    expect((kinds.count(OPENING), kinds.count(MARK), kinds.count(CALL)), (9, 9, 9), "the entries")
+
+
+def killed_command(room, seed):
+    """SIGKILL at any moment of commands that have the database themselves."""
+    chance = random.Random(seed)
+    (room / "record").mkdir()
+    (room / "file").write_bytes(bytes(200_000))
+    for turn in range(8):
+        words = ["submit", "--db", room / "database", "--book", BOOK, "--record", room / "record", *command_of(turn), room / "file"]
+        with subprocess.Popen([PROGRAM, *words], stdout=subprocess.DEVNULL, stderr=subprocess.DEVNULL) as command:
+            time.sleep(chance.choice([0, 0.002, 0.005, 0.01, 0.02, 0.05]))
+            command.kill()
+    alone(room, "submit", *IDENTITY, "--dataset", "LAST", room / "file")
+    expect_same(room)
+
+
+def killed_commands(room):
+    """SIGKILL within commands that have the database themselves."""
+    many(room, killed_command, 12)
+
+
+def listen_and_call(room):
+    """`listen` and `call` with a record, each with the other, and a command between them."""
+    ports = [free_port(), free_port()]
+    book, theirs = two_books(room, ports)
+    folder = room / "partner"
+    for made in (folder, room / "record", folder / "record"):
+        made.mkdir()
+    (room / "file").write_bytes(random.Random(9).randbytes(100_000))
+    alone(room, "submit", *IDENTITY, "--dataset", "A", room / "file", book=book)
+    words = ["listen", "--db", folder / "database", "--book", theirs, "--record", folder / "record", "--sessions", "2", "--port", str(ports[1])]
+    with subprocess.Popen([PROGRAM, *words], stdout=subprocess.PIPE) as listener:
+        for _ in range(100):
+            with contextlib.suppress(OSError), socket.create_connection(("127.0.0.1", ports[1])):
+                break
+            time.sleep(0.05)
+        expect(alone(room, "call", "--partner", CARMAKER, book=book), "end: own 00\n", "the call")
+        expect(listener.wait(LONG), 0, "the exit status of listen")
+    expect(alone(folder, "release", "1", book=theirs), "done: release 1\n", "their release")
+    expect_same(room, 1, 1, book=book)
+    expect_same(folder, 1, 1, book=theirs)
+
+
+def backups_recorded(room):
+    """A backup of a station and one without a station are in the record, with their paths, and it goes on from either."""
+    (room / "record").mkdir()
+    (room / "file").write_bytes(b"ABC")
+    with recording(room) as service:
+        expect(submit(service, "A", room / "file"), "done: submit 1\n", "submit")
+        expect(service.give("backup", room / "copy").stdout, b"done: backup\n", "backup")
+        expect(submit(service, "B", room / "file"), "done: submit 2\n", "submit behind the backup")
+        service.give("stop")
+        service.ends()
+    expect(alone(room, "backup", room / "second", book=None), "done: backup\n", "backup without a station")
+    alone(room, "submit", *IDENTITY, "--dataset", "C", room / "file")
+    paths = [content for kind, content in entries_of(file_of(room)) if kind == BACKUP]
+    expect([str(room / name).encode() in content for name, content in zip(("copy", "second"), paths, strict=True)], [True, True], "the paths")
+    expect_same(room, 0, 2, database="copy")
+    expect_same(room, 0, 1, database="second")
+    expect_same(room, 0, 3)
+
+
+def parts(room):
+    """`--from` begins with an entry, and `--to` ends with one. What names none is refused."""
+    (room / "record").mkdir()
+    (room / "file").write_bytes(b"ABC")
+    for name in ("A", "B", "C"):
+        alone(room, "submit", *IDENTITY, "--dataset", name, room / "file")
+    day, kinds = file_of(room).stem, kinds_in(room)
+    expect(kinds, [OPENING, CALL, 5, MARK] * 3, "the entries")
+
+    def part(database, *words):
+        named = [PROGRAM, "replay", "--record", room / "record", "--db", room / database, "--book", BOOK, *words]
+        done = subprocess.run(named, capture_output=True, timeout=LONG, check=False)
+        return done.returncode, (done.stdout + done.stderr).decode()
+
+    same = {2: 0, 3: 1, 4: 1, 5: 1, 6: 1, 7: 2, 12: 3, 13: 3}
+    for last, calls in same.items():
+        expect(part(f"to{last}", "--to", f"{day}:{last}"), (0, f"same: 0 sessions, {calls} calls\n"), f"up to entry {last}")
+    expect(part("to4", "--from", f"{day}:5"), (0, "same: 0 sessions, 2 calls\n"), "from the next one on")
+    expect(part("to7", "--from", f"{day}:8", "--to", f"{day}:10"), (0, "same: 0 sessions, 0 calls\n"), "a part in the middle")
+    expect(part("other", "--from", f"{day}:4"), (1, f"differs: {day}.record, entry 4: the register\n"), "another database")
+    expect(part("other", "--from", f"{day}:13"), (1, "refused: 2 unknown\n"), "an entry that isn't there")
+    for wrong in ("1", f"{day}", f"{day}:", f"{day}:x", f"{day}:-1", f"{day}:+1", f"{day[1:]}:1", f"{day}1:1", ":", ""):
+        expect(part("other", "--to", wrong), (1, "refused: 5 field\n"), f"the end {wrong!r}")
+        expect(part("other", "--from", wrong), (1, "refused: 5 field\n"), f"the beginning {wrong!r}")
+    (room / "none").mkdir()
+    done = subprocess.run([PROGRAM, "replay", "--record", room / "nowhere", "--db", room / "unmade", "--book", BOOK], capture_output=True, timeout=LONG, check=False)
+    expect((done.stderr, (room / "unmade").exists()), (b"fault: 7 file\n", False), "replay of no folder")
+
+
+def marks(room):
+    """The register is marked each hour, by a clock that passes an hour in a second, and only if no session goes on."""
+    if not shutil.which("cc"):
+        raise NotTried("a C compiler: marks of each hour")
+    hours = {"LD_PRELOAD": str(compile_library(room, "fast_clock")), "CLOCK_RATE": "3600"}
+    (room / "record").mkdir()
+    with recording(room, "--patience", "86400", "--longest", "86400", "--admission", "86400", environment=hours) as service:
+        time.sleep(3.5)
+        idle = kinds_in(room).count(MARK)
+        with service.caller() as caller:
+            octets = session_of("receiving/one_octet").joined("in")
+            caller.sendall(octets[:60])
+            time.sleep(0.5)
+            begun = kinds_in(room).count(MARK)
+            time.sleep(2.5)
+            during = kinds_in(room).count(MARK)
+            caller.sendall(octets[60:])
+            caller.shutdown(socket.SHUT_WR)
+            rest_of(caller)
+        service.line()
+        time.sleep(0.5)
+        behind = kinds_in(room).count(MARK)
+        service.give("stop")
+        service.ends()
+    expect(idle, 3, "the marks of three hours")
+    expect((during, behind), (begun, begun + 1), "the marks during a session and behind it")
+    expect_same(room, 1, 0)
+
+
+def put(file, kind, content):
+    """Appends an entry to a day's file, as a station does."""
+    octets = file.read_bytes()
+    body = octets[:5] + bytes([kind]) + bytes(8) + struct.pack(">II", len(content), 2**32 - 1 - len(content)) + content
+    file.write_bytes(octets + body + hashlib.sha256(body + octets[-32:]).digest())
+
+
+def spelled(text):
+    return struct.pack(">I", len(text)) + text
+
+
+def hostile_record(room):
+    """What isn't to be seen in a record that somebody has written is shown by its escape."""
+    one_session(room)
+    octets = session_of("opening/wrong_password").joined("in")
+    put(file_of(room), SESSION, struct.pack(">QB", 5, 1) + spelled("A\x1b[2J\u202eB".encode()) + spelled(b"x\ny"))
+    put(file_of(room), 3, struct.pack(">QB", 5, 0) + spelled(b"") * 2 + octets[:-1] + b"?")
+    done = subprocess.run([PROGRAM, "explain", "--record", room / "record", "--session", "5"], capture_output=True, timeout=LONG, check=False)
+    expect(done.stdout.decode().splitlines()[0], "session 5: A\\u{1b}[2J\\u{202e}B x\\u{a}y", "the line of the session")
+
+
+CASES = [commands, rows, two_stations, book_read_again, killed_at_moments, killed_beside_partners, changed_octet, cut_record, backup, days, two_in_one_folder, without_syncing, other_database, full_disk, full_disk_of_the_database, commands_alone, killed_commands, listen_and_call, backups_recorded, parts, marks, hostile_record]
 
 
 def tried(case):

@@ -33,5 +33,5 @@ mod places;
 
 pub use codes::{EndCause, Marked, RecordSide};
 pub use fields::ContentFields;
-pub use marks::{BETWEEN_MARKS, left_to_mark};
+pub use marks::left_to_mark;
 pub use places::EntryPlace;
