@@ -12,15 +12,15 @@ the crates below are proved first unless they have been. A definition has no com
 `--check` asks that
 
 - each file that the table names is there, and has the functions, clauses and definitions that it names; a command proves one of them;
-- each numbered promise of docs/PROMISES.md, and each line there on strangers and partners, names a claim, and each id that PROMISES,
-  THEOREM and PROOF-MAP name is in the table; each claim P1, P2 and so on is named in one of them;
+- each numbered promise of docs/PROMISES.md, and each line there on strangers and partners, names a claim. Each id that PROMISES, THEOREM and
+  PROOF-MAP name is in the table; each claim P1, P2 and so on is named in one of them;
 - each indented block of docs/THEOREM.md is a whole definition or clause of the file that is named last before it;
 - docs/evidence/claims.md is what the table generates.
 
 The last line is `N passed, M failed`: of `--check` in claims, promises, ids and quotations, else in commands.
 
-Shows: each file, function, clause and definition that docs/claims.csv names exists, each promise has its claim, docs/THEOREM.md quotes the sources,
-and docs/evidence/claims.md is what the table generates
+Shows: each file, function, clause and definition that docs/claims.csv names exists, and each promise has its claim. docs/THEOREM.md quotes the
+sources, and docs/evidence/claims.md is what the table generates
 """
 
 import csv
@@ -44,7 +44,7 @@ PROOF_MAP = ROOT / "docs/PROOF-MAP.md"
 COLUMNS = ["id", "sentence", "premise", "crate", "file", "clause", "command"]
 GATE = ".ci/run"
 PROVES = "rt check --only "
-# An id: a promise, a call of the program, a definition, or a claim of a layer, each with its number; a promise may have points.
+# An id: a promise, a call of the program, a definition, or a claim of a layer, each with its number. A promise may have points.
 ID = re.compile(r"(?:P\d+(?:\.\d+)?|[CM]\d+|[a-z_]+\.\d+)")
 NAMED_ID = re.compile(r"\[(P\d+(?:\.\d+)?|[CM]\d+|[a-z_]+\.\d+)\]")
 CLAUSE = re.compile(r"\bensures\*?(?: (\w+))? \{")

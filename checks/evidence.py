@@ -4,16 +4,16 @@
     checks/evidence.py --write      writes the pages and the charts
     checks/evidence.py --check      compares them with what it would write
 
-The pages are: what each check shows (from the head of each script), which wrong bodies a promise names and what refuses each (from the edits), each
-statement about `run` with what shows it, each sentence of what an operator is promised, two ways through the code, the breaks that checks have
-noticed, the bounds, what a tool's wrong bodies found, and what was measured.
-What no script knows is in tables beside the pages, docs/evidence/*.csv and docs/measured/*.csv. A wrong body that isn't there, a check without a
-script and a table that no page shows fail.
+The pages have what each check shows, from the head of each script. They have which wrong bodies a promise names and what refuses each, from the
+edits. Then come each statement about `run` with what shows it, each sentence of what an operator is promised, and two ways through the code. The
+last are the breaks that checks have noticed, the bounds, what a tool's wrong bodies found, and what was measured. What no script knows is in tables
+beside the pages, docs/evidence/*.csv and docs/measured/*.csv. A wrong body that isn't there, a check without a script and a table that no page
+shows fail.
 
 In operations.csv `shown_by` has places with ` | ` between them. A place is a file, or a file with names of it: `FILE: NAME + NAME`. A name is a
-function of a check that something calls, a row or a line, a test, a function with a contract, or a clause of one (`FUNCTION.CLAUSE`). In another
-file it is a line. `nothing: WHY` stands where nothing shows a sentence. `--check` fails where a file or a name isn't there. The last line is
-`N passed, M failed`, in pages and in places of that table.
+function of a check that something calls, a row or a line, or a test. It may be a function with a contract, or a clause of one (`FUNCTION.CLAUSE`).
+In another file it is a line. `nothing: WHY` stands where nothing shows a sentence. `--check` fails where a file or a name isn't there. The last
+line is `N passed, M failed`, in pages and in places of that table.
 """
 
 import ast

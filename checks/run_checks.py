@@ -5,12 +5,12 @@
                                                            prints the names
     checks/run_checks.py --install                         lets apt-get install what some checks need besides the program, if it is missing
 
-Checks that measure time or memory run alone, one after another. All others run in parallel before them, as many as there are processors.
-With `--quick` the program is the checked one, and what only the gate builds is left out. The program is that of OFTP_STATION, or else
-crates/oftp_station/out/oftp_station. If a check fails, or doesn't end within its time limit, the whole run fails; the others run
-nevertheless, and what those printed last that failed is printed again at the end. The last lines say what wasn't tried, and what was
-missing; where CI is `true` that fails too, if apt-get has it. The very last line is `N passed, M failed`: the rows that passed, or the
-checks if the rows aren't among them, and the checks that failed.
+Checks that measure time or memory run alone, one after another. All others run in parallel before them, as many as there are processors. With
+`--quick` the program is the checked one, and what only the gate builds is left out. The program is that of OFTP_STATION, or else
+crates/oftp_station/out/oftp_station. If a check fails, or doesn't end within its time limit, the whole run fails. The others run nevertheless,
+and what those printed last that failed is printed again at the end. The last lines say what wasn't tried, and what was missing; where CI is
+`true` that fails too, if apt-get has it. The very last line is `N passed, M failed`: the rows that passed, or the checks if the rows aren't
+among them, and the checks that failed.
 """
 
 import argparse
@@ -35,8 +35,8 @@ ALONE = True
 
 
 class Check(NamedTuple):
-    """A check: its name, its command, what it tries, whether it runs alone, whether it needs a C compiler, its command with `--quick` if
-    that differs, and whether `--quick` leaves it out."""
+    """A check: its name, its command, what it tries, whether it runs alone, and whether it needs a C compiler. Also its command with `--quick`
+    if that differs, and whether `--quick` leaves it out."""
 
     name: str
     command: str
@@ -135,8 +135,8 @@ CHECKS = [
 ]
 
 
-# What some checks need besides the program, under the name by which they say that it is missing: the programs or files that are looked for, and
-# the packages of apt-get that have them. That of the standard's text is in Debian's section non-free.
+# What some checks need besides the program, under the name by which they say that it is missing. It is the programs or files that are looked
+# for, and the packages of apt-get that have them. That of the standard's text is in Debian's section non-free.
 WANTED = {
     "a C compiler": (["cc"], ["gcc", "libc6-dev"]),
     "systemd": (["systemd-analyze"], ["systemd"]),

@@ -1,6 +1,6 @@
 #!/bin/bash
-# A day at the supplier: a dispatch note is sent to the car maker, and a schedule is received, in two sessions, because the line breaks in the first.
-# It prints each command and its output; examples/a_day.stdout has the same. The octets of the car maker's side are files of examples/day;
+# A day at the supplier: a dispatch note is sent to the car maker, and a schedule is received. It comes in two sessions, because the line breaks in
+# the first. It prints each command and its output; examples/a_day.stdout has the same. The octets of the car maker's side are files of examples/day;
 # rows/day/a_day.row has these sessions in words.
 set -euo pipefail
 root=$(cd "$(dirname "$0")/.." && pwd)

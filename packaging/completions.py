@@ -13,7 +13,7 @@ from pathlib import Path
 import told
 
 FROM = "packaging/completions.py has made this of what the program prints by --help"
-# The function finds in the table what is typed: a command, the value of an option, an option, or a word at its place among the words.
+# The function finds in the table what is typed. It is a command, the value of an option, an option, or a word at its place among the words.
 BASH = r"""
 _oftp_station() {
     local now=${COMP_WORDS[COMP_CWORD]} command=${COMP_WORDS[1]} before=${COMP_WORDS[COMP_CWORD - 1]} place=1 at kind

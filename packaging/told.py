@@ -39,8 +39,8 @@ class Argument(NamedTuple):
 
 
 class Command(NamedTuple):
-    """A command: its word, which a program without commands doesn't have, its usage, what it does, its words and options, and further parts of its
-    help, each with its terms and what these are."""
+    """A command: its word, which a program without commands doesn't have, its usage, what it does, and its words and options. Also further parts
+    of its help, each with its terms and what these are."""
 
     word: str
     usage: str

@@ -3,16 +3,15 @@
 
     checks/faults/backups.py [--seconds N | --minutes N] [--seed N]       default: 20 seconds, and another seed each time
 
-Two others submit one file after another, of a size that makes SQLite checkpoint often. Each trial takes a backup to the same name, and
-kills the command, the station, or neither. Afterwards the name has the file from before or a whole backup: stock sqlite3 finds no error in
-it, its tables are those of a register, it has all that was answered before the backup began, and nothing that began after its end. The
-check goes on beyond its time until enough of each were killed. At the end the database has all that was answered, no temporary file is left
-beside the backup, and a station opens a copy of the last one. The seed is printed. After a failure all files are kept in a folder. The last
-line is `N passed, M failed`.
+Two others submit one file after another, of a size that makes SQLite checkpoint often. Each trial takes a backup to the same name, and kills the
+command, the station, or neither. Afterwards the name has the file from before or a whole backup. In that stock sqlite3 finds no error, and its tables
+are those of a register. It has all that was answered before the backup began, and nothing that began after its end. The check goes on beyond its time
+until enough of each were killed. At the end the database has all that was answered, and no temporary file is left beside the backup. A station opens
+a copy of the last one. The seed is printed. After a failure all files are kept in a folder. The last line is `N passed, M failed`.
 
-Shows: backups for 20 s (`--minutes N` for longer) of a station to which two others hand in files all the time, while either program is killed by
-SIGKILL at random moments. The file at the name is the backup from earlier or a whole new one. Stock sqlite3 finds no error in it; it has all that
-was answered before it began, and nothing that began after its end. No draft is left, and a station opens a copy
+Shows: backups for 20 s (`--minutes N` for longer) of a station to which two others hand in files all the time. Either program is killed by SIGKILL at
+random moments. The file at the name is the backup from earlier or a whole new one. Stock sqlite3 finds no error in it; it has all that was answered
+before it began, and nothing that began after its end. No draft is left, and a station opens a copy
 """
 
 import argparse
@@ -85,8 +84,8 @@ class Trials:
         self.count = self.done = self.commands_killed = self.stations_killed = 0
 
     def started(self):
-        """A station that is ready. Those who submit may lock the database in turn for the ten seconds that one waits for it, on a busy machine: then it
-        is started again, as a supervisor does."""
+        """A station that is ready. Those who submit may lock the database in turn for the ten seconds that one waits for it, on a busy machine. Then
+        it is started again, as a supervisor does."""
         until = time.monotonic() + LONG
         while True:
             station = Resident(self.room)

@@ -5,15 +5,15 @@
 
         ROW ..    these rows by their names (default: all that a station can play)
 
-The partner of a session is gone after a number of octets: it says no more and hears the rest, it closes the connection, or resets it. What
-it heard, the station's line and the tables have to be those of the model of a station (checks/lib/model.py). Then it holds the whole session
-with the same station again, which goes as in the model. If this leaves what the row has at this place, the rest of the row follows, and ends
-as the row says. Where several rows begin alike, what they share is cut once. In sessions of more than 20,000 octets N is 50 times as much. The
-last line is `N passed, M failed`.
+The partner of a session is gone after a number of octets. It says no more and hears the rest, it closes the connection, or resets it. What it
+heard, the station's line and the tables have to be those of the model of a station (checks/lib/model.py). Then it holds the whole session with the
+same station again, which goes as in the model. If this leaves what the row has at this place, the rest of the row follows, and ends as the row
+says. Where several rows begin alike, what they share is cut once. In sessions of more than 20,000 octets N is 50 times as much. The last line is `N
+passed, M failed`.
 
-Shows: the sessions of the rows, in lives of `run`, end after one octet after another: around the end of each frame and at each 251st (`--every 1`
-for each). The partner says no more, closes or resets. What it heard and what is left is the model's; then the same station hears the whole session,
-and ends as the row does where what is left allows it
+Shows: the sessions of the rows, in lives of `run`, end after one octet after another. These are around the end of each frame, and each 251st
+(`--every 1` for each). The partner says no more, closes or resets. What it heard and what is left is the model's. Then the same station hears the
+whole session, and ends as the row does if what is left allows it
 """
 
 import argparse
@@ -42,7 +42,8 @@ LONG, LESS = 20_000, 50
 
 
 class Case(NamedTuple):
-    """A cut: the row, the number of the act, the folders before the act and behind it, the number of octets, and how the partner is gone."""
+    """A cut: the row, the number of the act, and the folders before the act and behind it. Also the number of octets, and how the partner is
+    gone."""
 
     path: Path
     number: int

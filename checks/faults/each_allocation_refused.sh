@@ -1,16 +1,16 @@
 #!/bin/bash
-# Runs the program, and the tests of failed allocations, with each of their allocations refused in turn; and the test of the deframer's room with
-# every allocation after the reservation refused. No result may differ, except that an error may take its place. What the program wrote by then
-# is a beginning of the whole output; if the register was refused memory, ESID 08 follows it. A trace may lack lines, and has no others. It
-# needs a C compiler. The program is that of OFTP_STATION, or else the one that was last proved.
+# Runs the program, and the tests of failed allocations, with each of their allocations refused in turn. Runs the test of the deframer's room too,
+# with every allocation after the reservation refused. No result may differ, except that an error may take its place. What the program wrote by then
+# is a beginning of the whole output; if the register was refused memory, ESID 08 follows it. A trace may lack lines, and has no others. It needs a C
+# compiler. The program is that of OFTP_STATION, or else the one that was last proved.
 #
 #     checks/faults/each_allocation_refused.sh [built|program] [--allocations N|all]
 #
 # The tests are proved and built if need be. With the word `built` they are those that the last `rt ci` left, and with the word `program` they are left
 # out. With `--allocations` the rows below are played over a database too, and requests and reports, with N allocations of each refused, or all.
 #
-# Shows: where there is a C compiler: each allocation is refused in turn of a book that is read, of two sessions, of one with a trace and, in the
-# gate, of tests. With `--allocations all` those of four rows over a database too, with its opening, and of requests and reports
+# Shows: where there is a C compiler: each allocation is refused in turn of a book that is read and of two sessions. So it is of one with a trace and,
+# in the gate, of tests. With `--allocations all` those of four rows over a database too, with its opening, and of requests and reports
 set -euo pipefail
 how=
 allocations=
@@ -141,8 +141,8 @@ each_of_test() {
     each check_passed "$tests" "$2"
 }
 
-# Refuses every allocation from some number on, up to the number from which the test passes: what was refused before is just the
-# reservation, so that no allocation after it is needed.
+# Refuses every allocation from some number on, up to the number from which the test passes. What was refused before is just the reservation, so that
+# no allocation after it is needed.
 none_behind_reservation() {
     take_test "$1" "$2"
     export FAIL_ALLOC_ON=1

@@ -1,11 +1,11 @@
-/* Lets a call of the program to the C library fail, and records some of its calls. FAIL_CALL is one of socket, bind, connect, accept4,
-   open, read and rename, FAIL_NUMBER is its errno, and FAIL_TIMES how many times it fails; an open, a read of what was opened, or a rename fails
-   if its path, or that from which it renames, ends in FAIL_PATH, and an accept4 only at the port FAIL_PORT, if that is set, where 0 is a socket
-   without a port. If FAIL_FROM is set, no call fails before there is a file of that name. Each rename, and each fsync of a file or a folder, is a
-   line of the file CALLS. Behind the look number SWAP_LOOK at a path that ends in SWAP_PATH, what is there is removed, and in its place comes a
-   link to SWAP_TARGET, the file SWAP_FILE, nothing where SWAP_FILE is empty, or a pipe where both are missing. Behind a rename to a path that ends
-   in KILL_PATH the program is killed, and so it is behind the call number STOP_AT of those that open, write, sync, rename or remove a file that
-   has STOP_PATH in its path. It is loaded before the C library (glibc) by LD_PRELOAD. */
+/* Lets a call of the program to the C library fail, and records some of its calls. FAIL_CALL is one of socket, bind, connect, accept4, open, read
+   and rename, FAIL_NUMBER is its errno, and FAIL_TIMES how many times it fails. An open, a read of what was opened, or a rename fails if its path,
+   or that from which it renames, ends in FAIL_PATH. An accept4 fails only at the port FAIL_PORT, if that is set; 0 is a socket without a port. If
+   FAIL_FROM is set, no call fails before there is a file of that name. Each rename, and each fsync of a file or a folder, is a line of the file
+   CALLS. Behind the look number SWAP_LOOK at a path that ends in SWAP_PATH, what is there is removed. In its place comes a link to SWAP_TARGET, or
+   the file SWAP_FILE. It is nothing if SWAP_FILE is empty, or a pipe if both are missing. Behind a rename to a path that ends in KILL_PATH the
+   program is killed. So it is behind the call number STOP_AT of those that open, write, sync, rename or remove a file that has STOP_PATH in its
+   path. It is loaded before the C library (glibc) by LD_PRELOAD. */
 #define _GNU_SOURCE
 #include <dlfcn.h>
 #include <errno.h>

@@ -1,21 +1,21 @@
 #!/usr/bin/env python3
-"""Lets calls of the program for sockets, for a trace and for files of a folder fail, puts others' files between two of its calls, and checks
-what it does when it gives a file its name.
+"""Lets calls of the program for sockets, for a trace and for files of a folder fail. It puts others' files between two of its calls, and checks
+what the program does when it gives a file its name.
 
     checks/faults/edge_calls.py
 
-Out of memory is reported as such, wherever the machine has none, and any other error as before. A caller that is gone before it is
-accepted, or that can't be accepted for the moment, ends no service. A fetched file and a backup are synced before they get their names,
-and the names before the line is printed. A file that `offer` can't read or move for the moment waits for the next call, and the others don't; a
-link or a pipe that comes between its look and its open isn't followed, nor by `collect`; and one that is killed between the taking of a file and
-its submission takes no file of another folder for its own. One that is killed at any call of a refusal leaves no line without its file for good.
-The lock of a folder that goes away between a look and an open is tried again. It needs a C compiler. The last line is `N passed, M failed`.
+Out of memory is reported as such, wherever the machine has none, and any other error as before. A caller that is gone before it is accepted, or
+that can't be accepted for the moment, ends no service. A fetched file and a backup are synced before they get their names, and the names before
+the line is printed. A file that `offer` can't read or move for the moment waits for the next call, and the others don't. A link or a pipe that
+comes between its look and its open isn't followed, nor by `collect`. An `offer` that is killed between the taking of a file and its submission
+takes no file of another folder for its own. One that is killed at any call of a refusal leaves no line without its file for good. The lock of a
+folder that goes away between a look and an open is tried again. It needs a C compiler. The last line is `N passed, M failed`.
 
-Shows: where there is a C compiler: calls for sockets and a trace that fail, allocations that are refused while a trace is compared with the
-database, and which fault reports it; callers who can't be accepted for the moment, by `listen`, by `http` and at the sockets of `run`; each
-listener of `run` that fails for good, also within a session; the syncs and the name of a fetched file and of a backup, in their order; a file of
-`offer` whose move, open or reading fails for the moment; a refusal that is killed at each of its calls, and the next `offer`; a folder's lock that
-goes away or is exchanged behind a look; a link or a pipe that comes to the place of a file between two calls of `offer` and `collect`; an `offer`
+Shows: where there is a C compiler: calls for sockets and a trace that fail. Allocations that are refused while a trace is compared with the
+database, and which fault reports it. Callers who can't be accepted for the moment, by `listen`, by `http` and at the sockets of `run`. Each
+listener of `run` that fails for good, also within a session. The syncs and the name of a fetched file and of a backup, in their order. A file of
+`offer` whose move, open or reading fails for the moment. A refusal that is killed at each of its calls, and the next `offer`. A folder's lock that
+goes away or is exchanged behind a look. A link or a pipe that comes to the place of a file between two calls of `offer` and `collect`. An `offer`
 that is killed between the taking of a file and its submission, while another folder has one of its name and time
 """
 
@@ -40,8 +40,8 @@ from row_files import ROWS, Row
 from services import BOOK, CARMAKER, LONG, Resident, Service, Wrong, answer_to, expect, free_port, rest_of
 from shims import compile_library, stopping
 
-# More allocations than a session with a database makes; and how many are refused one after another, up to the last one before the answer's
-# file is opened. The last of them are those of the trace, and the others those of the database.
+# More allocations than a session with a database makes. Also how many are refused one after another, up to the last one before the answer's file
+# is opened. The last of them are those of the trace, and the others those of the database.
 MOST, SOME = 1 << 14, 8
 MEMORY, SOCKET, FILE, STORE = "fault: 4 memory\n", "fault: 8 socket\n", "fault: 7 file\n", "fault: 6 store 2\n"
 
@@ -339,8 +339,8 @@ def taken_file_that_cannot_be_moved(room, library):
 
 
 def refusal_that_is_killed(room, library):
-    """At each of its calls that leave something: a file in `refused` has its whole line, and a line without its file is gone once the next call
-    has handed the file in, or has refused it."""
+    """At each of its calls that leave something, a file in `refused` has its whole line. A line without its file is gone once the next call has
+    handed the file in, or has refused it."""
     for again in ((), IN_THREES):
         for number in range(1, 20):
             here = room / f"{len(again)}_{number}"
@@ -436,8 +436,8 @@ def mode_that_is_asked_once(room, library):
 
 
 def offer_that_is_killed_before_it_hands_in(room, library):
-    """Another folder's file of the same name and time is handed in meanwhile, and isn't taken for its own; nor is a file of the same content
-    lost, which the register has then under that name and time."""
+    """Another folder's file of the same name and time is handed in meanwhile, and isn't taken for its own. Nor is a file of the same content lost,
+    which the register has then under that name and time."""
     for content, is_beside in ((b"OTHER", False), (b"OTHER", True), (b"CONTENT", False), (b"CONTENT", True)):
         here = room / f"{content.decode()}_{is_beside}"
         here.mkdir()

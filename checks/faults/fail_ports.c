@@ -1,4 +1,4 @@
-/* Lets the reader and the writer of a session fail: reads of the file READ_FILE give READ_MOST octets in all, and writes to WRITE_FILE
+/* Lets the reader and the writer of a session fail. Reads of the file READ_FILE give READ_MOST octets in all, and writes to WRITE_FILE
    take WRITE_MOST; the next call fails. If PORT_PIECE is set, no call gives or takes more octets than that. If WRITE_NOTHING is set, the
    write that would fail takes no octet. It is loaded before the C library (glibc) by LD_PRELOAD. */
 #define _GNU_SOURCE

@@ -3,21 +3,21 @@
 
     checks/faults/folders.py [--seconds N | --minutes N] [--seed N]       20 seconds, and another seed each time, where none is given
 
-Each trial begins with a database of incoming files, some of them open, some answered, and a folder with files of others. It calls `collect`,
-with its release or without, until a call comes to an end; or it puts files into two folders, under the same names and moments of change, some
-of which were there before, and calls `offer` for either until a call for each comes to an end. Each call but the last is killed, or the station
-is. Behind each call the folders and the tables are looked at, by stock sqlite3. Of `collect`: no name in the folder has half a file or another's, and each file that is
-released is there. Of `offer`: each file is in one place, and the register has none twice. Some calls of `offer` are given a record length that
-no file has: each file in `refused` has its whole line then, and a line without its file is that of one in `taken`. What is refused is put into the
-folder again. Behind the last call each file that was to be collected is there once, and released once where that was asked for; each file that was
-offered is in the register once and is put away, and no line is left; and one more call does nothing but tell what it leaves. It goes on behind its
-time until enough of each were killed. The seed is printed, and at a failure all that is left is kept in a folder. The last line is `N passed, M failed`.
+Each trial begins with a database of incoming files, some of them open, some answered, and a folder with files of others. It calls `collect`, with its
+release or without, until a call comes to an end. Or it puts files into two folders, under the same names and moments of change, some of which were
+there before. Then it calls `offer` for either until a call for each comes to an end. Each call but the last is killed, or the station is. Behind each
+call the folders and the tables are looked at, by stock sqlite3. Of `collect`: no name in the folder has half a file or another's, and each file that
+is released is there. Of `offer`: each file is in one place, and the register has none twice. Some calls of `offer` are given a record length that no
+file has. Then each file in `refused` has its whole line, and a line without its file is that of one in `taken`. What is refused is put into the
+folder again. Behind the last call each file that was to be collected is there once, and released once if that was asked for. Each file that was
+offered is in the register once and is put away, and no line is left. One more call does nothing but tell what it leaves. It goes on behind its time
+until enough of each were killed. The seed is printed, and at a failure all that is left is kept in a folder. The last line is `N passed, M failed`.
 
-Shows: `collect`, and `offer` over two folders with files of the same names and times, killed by SIGKILL at random moments for 20 s (`--minutes N`
-for longer), alone and beside a station, which is killed too, again and again until a call comes to an end. After each call no file is half,
-another's or in two places, what is released is in the folder, and the register has no file twice. At the end each file that is whole and unanswered
-is in the folder once, and released once with `--release`; each that was offered is in the register once, and in `sent`; and another call does
-nothing
+Shows: `collect`, and `offer` over two folders with files of the same names and times. They are killed by SIGKILL at random moments for 20 s
+(`--minutes N` for longer), again and again until a call comes to an end. They are alone and beside a station, which is killed too. After each call no
+file is half, another's or in two places. What is released is in the folder, and the register has no file twice. At the end each file that is whole
+and unanswered is in the folder once, and released once with `--release`. Each that was offered is in the register once, and in `sent`. Another call
+does nothing
 """
 
 import argparse
@@ -301,7 +301,7 @@ def refused_in(folder):
 
 
 def has_wrong_lines(folder):
-    """Whether a refused file hasn't its whole line beside it, or a line is neither that of a refused file nor that of a taken one."""
+    """Whether a refused file hasn't its whole line beside it. Or a line is neither that of a refused file nor that of a taken one."""
     for path in refused_in(folder):
         if path.suffix == ".line":
             dataset, date, clock, code = path.stem.split("_")

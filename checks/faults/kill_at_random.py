@@ -3,19 +3,19 @@
 
     checks/faults/kill_at_random.py [--seconds N | --minutes N] [--seed N]       default: 30 seconds, and another seed each time
 
-Each trial runs one command over the database that earlier trials left: a session in which a file is received, through a pipe in pieces of
-random sizes; one in which a file is sent; one in which responses are received, or sent; `submit`; `release` or `refuse`. After a random
-time it is killed, unless it ended before. Then stock sqlite3 reads the tables, and the program lists them by `report`. They have to hold
-all changes that the octets and the lines answered, and at most the next one and what is in the same piece of the partner's octets: never less, and
-never half a change. The next trial goes on from there. The check goes on beyond its time until a trial of each kind was killed, and fails if another five minutes bring none. The seed
-is printed. After a failure all files are kept in a folder.
+Each trial runs one command over the database that earlier trials left. It is a session in which a file is received, through a pipe in pieces of
+random sizes, or in which a file is sent. It is a session in which responses are received, or sent; or it is `submit`, `release` or `refuse`. After a
+random time it is killed, unless it ended before. Then stock sqlite3 reads the tables, and the program lists them by `report`. They have to hold all
+changes that the octets and the lines answered. They hold at most the next one too, and what is in the same piece of the partner's octets. They never
+hold less, and never half a change. The next trial goes on from there. The check goes on beyond its time until a trial of each kind was killed, and
+fails if another five minutes bring none. The seed is printed. After a failure all files are kept in a folder.
 
 Over each of the five databases `listen` and `http` run from the first trial to the last. Some of the sessions that receive something go to
 that `listen`, and half of these are cut off. Between two trials a stranger calls, or a request asks for the database. The memory and
 descriptors of the services at the end are compared with those at the beginning (checks/lib/staying.py). The last line is `N passed, M
 failed`.
 
-Shows: the program killed at random moments for 30 s (`--minutes N` for longer), and sessions of services that stay cut off: what was answered is
+Shows: the program killed at random moments for 30 s (`--minutes N` for longer), and sessions of services that stay cut off. What was answered is
 there
 """
 
@@ -118,8 +118,8 @@ class FileIn:
         self.left = (file[0]["state"], len(bodies)) if file else None
 
     def ends(self, begin, opened, frames, end):
-        """The states one after another, each with the number of octets of the partner after which it is reached: before the file, once it has
-        begun, after each window, and whole."""
+        """The states one after another, each with the number of octets of the partner after which it is reached. They are before the file, once it
+        has begun, after each window, and whole."""
         states = [(0, self.left), (opened, ("open", begin))]
         for windows in range(1, len(frames) // CREDIT + 1):
             states.append((opened + sum(frames[: windows * CREDIT]), self.kept_at(begin, windows)))

@@ -1,7 +1,7 @@
-/* Writes down what the program does with names and files, so that it can be said what a loss of power would leave: in the file CALLS a line for each
-   file and folder that it makes, each rename, each removal, each sync and each write to its standard output, in their order. Behind each sync of a file
-   its content is copied into the folder KEPT, under the number that the line has. Behind a rename to a path that ends in KILL_PATH, and behind a sync of
-   a file there, the program is killed. It is loaded before the C library (glibc) by LD_PRELOAD. */
+/* Writes down what the program does with names and files, so that it can be said what a loss of power would leave. In the file CALLS there is a line
+   for each file and folder that it makes, each rename and each removal. So there is for each sync and each write to its standard output, in their
+   order. Behind each sync of a file its content is copied into the folder KEPT, under the number that the line has. Behind a rename to a path that
+   ends in KILL_PATH, and behind a sync of a file there, the program is killed. It is loaded before the C library (glibc) by LD_PRELOAD. */
 #define _GNU_SOURCE
 #include <dlfcn.h>
 #include <errno.h>

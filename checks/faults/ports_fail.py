@@ -3,15 +3,14 @@
 
     checks/faults/ports_fail.py [--every N]      at each Nth octet (default: 97), and before and after the end of each frame
 
-The sessions are those of some rows, in memory if a row begins with one, and over the database that the acts before them leave. Each time
-the line, the octets out and the tables have to be those of the model of a station (checks/lib/model.py): everything that the octets
-received or sent answer, and what the piece asked for whose answers were about to be written. Then the partner goes on. A file that it sent is offered
-again, continues from the Restart position that the station answers, and is fetched whole, or it is refused by SFNA 13 because it is whole
-already. Otherwise the session is held once more. Reads and writes of one octet change nothing. It needs a C compiler. The last line is `N
-passed, M failed`.
+The sessions are those of some rows, in memory if a row begins with one, and over the database that the acts before them leave. Each time the line,
+the octets out and the tables have to be those of the model of a station (checks/lib/model.py). They have everything that the octets received or sent
+answer, and what the piece asked for whose answers were about to be written. Then the partner goes on. A file that it sent is offered again, continues
+from the Restart position that the station answers, and is fetched whole. Or it is refused by SFNA 13 because it is whole already. Otherwise the
+session is held once more. Reads and writes of one octet change nothing. It needs a C compiler. The last line is `N passed, M failed`.
 
-Shows: where there is a C compiler: eight rows whose input ends, or whose reader or writer fails, at about the end of each frame and at each 97th
-octet (`--every 1` for each octet), and which then go on
+Shows: where there is a C compiler: eight rows whose input ends, or whose reader or writer fails, and which then go on. This is at about the end of
+each frame and at each 97th octet (`--every 1` for each octet)
 """
 
 import argparse

@@ -3,14 +3,14 @@
 
     checks/faults/power_losses.py [--without] [CASE ..]
 
-A loss may come before each sync of a command and behind its end. It takes back what wasn't synced: all of it, or contents alone, or these and one name
-(checks/lib/losses.py). In each of these worlds: what a line has told is there; no name has half a file; no response is issued of a file
-that isn't in the folder; and the next call goes on, so that each file is collected, released or handed in once, and none is lost. With `--without` each
-sync is left out in turn, and it is printed which of the cases fail then. It needs a C compiler. The last line is `N passed, M failed`.
+A loss may come before each sync of a command and behind its end. It takes back what wasn't synced: all of it, or contents alone, or these and one
+name (checks/lib/losses.py). In each of these worlds what a line has told is there, and no name has half a file. No response is issued of a file that
+isn't in the folder. The next call goes on, so that each file is collected, released or handed in once, and none is lost. With `--without` each sync
+is left out in turn, and it is printed which of the cases fail then. It needs a C compiler. The last line is `N passed, M failed`.
 
-Shows: where there is a C compiler: what a loss of power may leave before each sync of `init`, `submit`, `fetch`, `backup`, `collect` and `offer`,
-and what the next call makes of it, in some 200 worlds: names that weren't synced are taken back, all, none or one, and contents that weren't synced
-are gone, also those of other programs. What was told is there, no name has half a file, and each file is collected, released or handed in once.
+Shows: where there is a C compiler: what a loss of power may leave before each sync of `init`, `submit`, `fetch`, `backup`, `collect` and `offer`.
+What the next call makes of it, in some 200 worlds. Names that weren't synced are taken back, all, none or one. Contents that weren't synced are
+gone, also those of other programs. What was told is there, no name has half a file, and each file is collected, released or handed in once.
 `--without` leaves out one sync after another, and prints what is noticed
 """
 
@@ -87,7 +87,7 @@ def handed_in(room):
 
 
 class Case:
-    """Commands over what is there before; whether a world that a loss leaves is as it must be, also once the next call has gone on."""
+    """Commands over what is there before. It tells whether a world that a loss leaves is as it must be, also once the next call has gone on."""
 
     # The files before that nobody has synced; where the first command is killed.
     unsynced, killed = (), None
@@ -169,8 +169,8 @@ class Backup(Case):
 
 
 class Collect(Case):
-    """A file is collected, and released where that is asked for: by one call; by one behind a call that was killed; or where somebody has put it
-    back into the folder and hasn't synced it."""
+    """A file is collected, and released if that is asked for. It is collected by one call, or by one behind a call that was killed. Or somebody has
+    put it back into the folder and hasn't synced it."""
 
     def __init__(self, rest, killed=None, is_back=False):
         self.rest, self.killed, self.is_back = list(rest), killed, is_back
@@ -239,7 +239,7 @@ class Offer(Case):
 
 
 class Refuse(Case):
-    """A file is refused by `offer`: in one call; or it is handed in behind a call that was killed once it had written the line."""
+    """A file is refused by `offer` in one call. Or it is handed in behind a call that was killed once it had written the line."""
 
     def __init__(self, is_killed):
         self.killed = ".line" if is_killed else None

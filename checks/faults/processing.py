@@ -3,16 +3,16 @@
 
     checks/faults/processing.py [--seconds N] [--seed N]       10 seconds of random moments, and another seed each time, where none is given
 
-A trial begins with a database of files: two that the program of the check accepts, one that it refuses, one that it leaves, and one of another
-partner. A call is killed, and the next one comes to its end. A step is a command of the script itself: bash runs it, and kills it before its Nth
-one, for each N up to its end. Random moments also come within a command of the station or within the program. Several calls in a row are killed
-then, each alone or with all that it has started. Of the killed calls and the last one: no file with a response, and none of which a verdict is kept,
-comes to the program again; each comes whole. Behind the last one each file has the response that the program said, and what it leaves has none. The
-seed is printed, and at a failure all that is left is kept in a folder. The last line is `N passed, M failed`.
+A trial begins with a database of files. The program of the check accepts two of them, refuses one and leaves one; one more is of another partner. A
+call is killed, and the next one comes to its end. A step is a command of the script itself. bash runs it, and kills it before its Nth one, for each
+N up to its end. Random moments also come within a command of the station or within the program. Several calls in a row are killed then, each alone
+or with all that it has started. Of the killed calls and the last one: no file with a response comes to the program again. Nor does one of which a
+verdict is kept. Each comes whole. Behind the last one each file has the response that the program said, and what it leaves has none. The seed is
+printed, and at a failure all that is left is kept in a folder. The last line is `N passed, M failed`.
 
-Shows: the same script, killed before each of its commands, and at random moments for 10 s (`--seconds N`), alone and with all that it has started,
-several times in a row. The program gets no file that has a response, or of which it has said something that is kept, and each file whole. Behind a
-last call each file has the response that the program said, and what it leaves has none
+Shows: the same script, killed before each of its commands, and at random moments for 10 s (`--seconds N`). It is killed alone and with all that it
+has started, several times in a row. The program gets no file that has a response, or of which it has said something that is kept, and each file
+whole. Behind a last call each file has the response that the program said, and what it leaves has none
 """
 
 import argparse

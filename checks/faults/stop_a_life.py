@@ -3,17 +3,17 @@
 
     checks/faults/stop_a_life.py [--every N]      at each Nth call (default: 1)
 
-The life: a file is submitted; a partner's file of 2,500 octets comes in two sessions, since it breaks off in the first, and the submitted one
-goes out in the second; the file is released; and the station calls, its End-to-End Response goes out, and the partner's comes. The partner
-sends one command at a time, and between two of them something is looked up, mostly over HTTP. At the call on the database the station is
-killed before the call; killed after half of a write; or gets an error, then and at each later call. What is left has each change whose command
-told that it is done, or of whose answer an octet was read, and at most one change more, as in the model of a station (checks/lib/model.py).
-Another `run` opens it, shows the same, and lives the life to its end: what broke is done again, by a partner that knows only what it heard.
-Then both files and both responses are there, once. It needs a C compiler. The last line is `N passed, M failed`.
+In the life a file is submitted. A partner's file of 2,500 octets comes in two sessions, since it breaks off in the first. The submitted one goes
+out in the second. The file is released; and the station calls, its End-to-End Response goes out, and the partner's comes. The partner sends one
+command at a time, and between two of them something is looked up, mostly over HTTP. At the call on the database the station is killed before the
+call, or killed after half of a write. Or it gets an error, then and at each later call. What is left has each change whose command told that it is
+done, or of whose answer an octet was read. It has at most one change more, as in the model of a station (checks/lib/model.py). Another `run` opens
+it, shows the same, and lives the life to its end. What broke is done again, by a partner that knows only what it heard. Then both files and both
+responses are there, once. It needs a C compiler. The last line is `N passed, M failed`.
 
-Shows: where there is a C compiler: `run` is killed, torn and failed at each write and sync on its database within one life, of a submitted file
-that goes out, a partner's that comes in two sessions, its release, a call with both responses, and look-ups. What is left has each change that was
-answered or told as done, and at most one more; another `run` shows the same and lives the life to its end
+Shows: where there is a C compiler: `run` is killed, torn and failed at each write and sync on its database within one life. In it are a submitted
+file that goes out, a partner's that comes in two sessions, its release, a call with both responses, and look-ups. What is left has each change
+that was answered or told as done, and at most one more. Another `run` shows the same and lives the life to its end
 """
 
 import argparse
@@ -56,8 +56,8 @@ class Stopped(Exception):
 
 
 class Partner:
-    """A partner that knows what it has sent and heard: whether its file is answered, whether it has the station's, and whether its response to
-    that is."""
+    """A partner that knows what it has sent and heard. It knows whether its file is answered, whether it has the station's, and whether its
+    response to that is."""
 
     def __init__(self):
         self.is_answered = self.has_file = self.has_sent = False

@@ -9,15 +9,15 @@
         ROW ..             these of the rows below (default: all)
 
 The commands are those of the rows below, each over the database that the ones before it left. At each call that changes a file of the
-database the program is killed before the call; killed after half of a write; or gets an error, then and at each later call. Each time, the
-output has to be a beginning of the whole answer, except for a final ESID 08. The tables, read by stock sqlite3 and listed by the program,
-have to hold all that it answers, and at most the next change. Then the command runs again, and ends as usual. A session also goes on as the
-model of a station does (checks/lib/model.py): a file that was received in part continues from the Restart position that the station
-answers, and is fetched whole. It needs a C compiler. The last line is `N passed, M failed`.
+database the program is killed before the call, or killed after half of a write. Or it gets an error, then and at each later call. Each time,
+the output has to be a beginning of the whole answer, except for a final ESID 08. The tables, read by stock sqlite3 and listed by the
+program, have to hold all that it answers, and at most the next change. Then the command runs again, and ends as usual. A session also goes
+on as the model of a station does (checks/lib/model.py). A file that was received in part continues from the Restart position that the
+station answers, and is fetched whole. It needs a C compiler. The last line is `N passed, M failed`.
 
-Shows: where there is a C compiler: each command of the day and of seven more rows is killed, torn and failed at each write and sync on the
-database, and has 25 of its allocations refused; then a partner's file goes on and is fetched whole. It prints how many of how many calls and
-allocations were tried, and fails where a command that writes isn't stopped
+Shows: where there is a C compiler: each command of the day and of seven more rows is killed, torn and failed. That is at each write and sync
+on the database. Each has 25 of its allocations refused. Then a partner's file goes on and is fetched whole. It prints how many of how many
+calls and allocations were tried, and fails where a command that writes isn't stopped
 """
 
 import argparse
@@ -83,7 +83,7 @@ class Command:
             self.states = self.all_states()
 
     def all_states(self):
-        """The tables one after another, with the number of octets that are out by then: each change of a session is made before the frame
+        """The tables one after another, with the number of octets that are out by then. Each change of a session is made before the frame
         that answers it, as in the model of a station."""
         before = tables.read(self.base / "database")
         opened = before if before["about"] else {**model.Register().tables(), **OURS}

@@ -1,7 +1,7 @@
 /* Stops a program at a call on its database: the calls pwrite, fdatasync, fsync and ftruncate are counted from 1. At the one whose
-   number is in STOP_AT, if STOP_HOW is `kill`, the program is killed before the call; if it is `tear`, after half of what a pwrite
-   writes; and if it is `fail`, this call and each later one fail. It makes the file STOP_REACHED then. It is loaded before the C
-   library (glibc) by LD_PRELOAD. */
+   number is in STOP_AT, if STOP_HOW is `kill`, the program is killed before the call. If it is `tear`, it is killed after half of
+   what a pwrite writes. If it is `fail`, this call and each later one fail. It makes the file STOP_REACHED then. It is loaded
+   before the C library (glibc) by LD_PRELOAD. */
 #define _GNU_SOURCE
 #include <dlfcn.h>
 #include <errno.h>

@@ -3,29 +3,28 @@
 
     checks/faults/three_stations.py [--seconds N | --minutes N] [--seed N]       default: 30 seconds, and another seed each time
 
-A supplier and two car makers are the program, each over a database of its own; the fourth partner is in each book, and is this script. A round
-is a few commands of each operator (submit, release, refuse), some of which are killed, and then a session. Either it is of two stations, through
-this script, which breaks the connection and kills the programs (checks/lib/joined.py). Or the fourth partner calls a station, or is called by it.
-It sends what the step tables allow and what they don't (checks/lib/partner.py), in changed octets, too. It gives its files the names of others'
-files, says that they are another's, answers files that aren't for it, and says that it is another station. It ends where it likes, or the
-station is killed.
+A supplier and two car makers are the program, each over a database of its own. The fourth partner is in each book, and is this script. A round is a
+few commands of each operator (submit, release, refuse), some of which are killed, and then a session. Either it is of two stations, through this
+script, which breaks the connection and kills the programs (checks/lib/joined.py). Or the fourth partner calls a station, or is called by it. It sends
+what the step tables allow and what they don't (checks/lib/partner.py), in changed octets, too. It gives its files the names of others' files, says
+that they are another's, and answers files that aren't for it. It says that it is another station. It ends where it likes, or the station is killed.
 
-After each round stock sqlite3 reads all three databases, and each two of them have to keep what two stations promise (checks/lib/pairs.py), of
-the files that go from the code of the one to that of the other: a file that one has as handed over is whole and equal at the other, what it has
-as delivered or returned was answered so there, and what is whole there is one of its own. After a number of rounds each two have sessions that
-nothing breaks. Then all files between them are delivered or returned.
+After each round stock sqlite3 reads all three databases. Each two of them have to keep what two stations promise (checks/lib/pairs.py). That is of
+the files that go from the code of either to that of the other. A file that one has as handed over is whole and equal at the other. What it has as
+delivered or returned was answered so there, and what is whole there is one of its own. After a number of rounds each two have sessions that nothing
+breaks. Then all files between them are delivered or returned.
 
-Two lives run in parallel. In the second one a station begins a new database. From then on what is left of the promise is tested between it and
-the others (docs/PROMISES.md, P13). The check goes on beyond its time until programs and commands were killed, connections broken and transfers continued,
-and until a station has had a whole file from the fourth partner and one has handed a file over to it. It fails if another five minutes don't
+Two lives run in parallel. In the second one a station begins a new database. From then on what is left of the promise is tested between it and the
+others (docs/PROMISES.md, P13). The check goes on beyond its time until programs and commands were killed, connections broken and transfers continued.
+It goes on until a station has had a whole file from the fourth partner and one has handed a file over to it. It fails if another five minutes don't
 bring that. The seed is printed. It repeats the choices, but not how far a program is when it is killed. After a failure the history of the life is
 printed too, and its files are kept. The last line is `N passed, M failed`.
 
-Shows: three stations as processes for 30 s (`--minutes N` for longer), each of which exchanges files with both others and with a fourth partner
-that sends anything at all. That one gives its files the names of others' files, says that they are another's, answers files that aren't for it, and
-says that it is another station. Connections are cut, reset or silent, and programs and commands are killed. After each session each two stations
-have what they promise each other, of the files between their two codes; once nothing breaks any more, all of these are answered. In every other
-life a station begins a new database, and what is left of the promise is tested from then on
+Shows: three stations as processes for 30 s (`--minutes N` for longer). Each exchanges files with both others and with a fourth partner that sends
+anything at all. That one gives its files the names of others' files, says that they are another's, and answers files that aren't for it. It says that
+it is another station. Connections are cut, reset or silent, and programs and commands are killed. After each session each two stations have what they
+promise each other, of the files between their two codes. Once nothing breaks any more, all of these are answered. In every other life a station
+begins a new database, and what is left of the promise is tested from then on
 """
 
 import argparse

@@ -1,28 +1,27 @@
 #!/usr/bin/env python3
-"""Joins two stations that hold their databases, which call each other while their operators work, breaks their connections, kills them at
+"""Joins two stations that hold their databases, which call each other while their operators work. It breaks their connections, kills them at
 random moments, and tests what they promise each other.
 
     checks/faults/two_residents.py [--seconds N | --minutes N] [--seed N]       30 seconds, and another seed each time, where none is given
 
-Each station is `run` over a database of its own, and calls by its clock each second. All octets of a session pass through this script,
-which breaks connections and kills stations as checks/faults/two_services.py does, and kills stations between sessions, too; one that was
-killed is started again. Two operators work beside each station all the time: one submits, releases, refuses and has the partner called,
-the other fetches, reports and asks by HTTP. Some of their commands are killed, and some lose their station: these end with `fault: 3 office`,
-and what they asked is done or not done.
+Each station is `run` over a database of its own, and calls by its clock each second. All octets of a session pass through this script, which
+breaks connections and kills stations as checks/faults/two_services.py does. It kills stations between sessions, too; a station that was killed is
+started again. Two operators work beside each station all the time. One submits, releases, refuses and has the partner called, and another fetches,
+reports and asks by HTTP. Some of their commands are killed, and some lose their station: these end with `fault: 3 office`, and what they asked is
+done or not done.
 
-After each round both stations are stopped for a moment, and stock sqlite3 reads copies of both databases. What a command said is done is
-there, once, and so is each file whose end a station has answered, with its octets, and each end response that it has answered; and both
-hold what two stations promise (checks/lib/pairs.py). At the end nothing breaks any more: then all is delivered or returned.
+After each round both stations are stopped for a moment, and stock sqlite3 reads copies of both databases. What a command said is done is there,
+once. So is each file whose end a station has answered, with its octets, and each end response that it has answered. Both hold what two stations
+promise (checks/lib/pairs.py). At the end nothing breaks any more: then all is delivered or returned.
 
-Two pairs live at once. In the second one the supplier's station is never killed: what it holds at the end is compared with what it held at the
-beginning (checks/lib/staying.py), and behind ten minutes, too. It goes on behind its time until commands and stations were killed, commands
-lost their station, connections broke and transfers went on, and fails where five minutes more don't bring them. The seed is printed: it repeats
-what each chooses, and not when. At a failure what happened to the pair last is printed too, and what is left is kept. The last line is `N passed,
-M failed`.
+Two pairs live at once. In the second one the supplier's station is never killed. What it holds at the end is compared with what it held at the
+beginning (checks/lib/staying.py), and behind ten minutes, too. It goes on behind its time until commands and stations were killed, commands lost
+their station, connections broke and transfers went on. It fails if five minutes more don't bring them. The seed is printed: it repeats what each
+chooses, and not when. At a failure what happened to the pair last is printed too, and what is left is kept. The last line is `N passed, M failed`.
 
 Shows: two pairs of `run` for 30 s (`--minutes N` for longer), which call by their clocks and when they are asked. Connections are cut, reset or
 silent, and stations are killed by SIGKILL at any moment, also while they open. Two operators work at each station all the time; their commands are
-killed or lose their station. After each round what a command said is done is there, once, and so are what was accepted and each response that was
+killed or lose their station. After each round what a command said is done is there, once. So are what was accepted and each response that was
 answered, and both stations have what they promise each other. At the end all is answered, and a station that stayed has the memory and descriptors
 that it had
 """

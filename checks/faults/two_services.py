@@ -3,19 +3,19 @@
 
     checks/faults/two_services.py [--seconds N | --minutes N] [--seed N]       default: 30 seconds, and another seed each time
 
-Each station is the program over a database of its own. A round is a few commands of both operators (submit, release, refuse), some of which
-are killed, and then a session, in which one station calls the other. All octets of a session pass through this script. It may break the
-connection within a frame or after a number of octets, by an end, a reset or silence in one direction, and may kill either program by
-SIGKILL, after a time or at a place in the octets. After each round stock sqlite3 reads both databases, which have to keep what two stations
-promise (`promised`): a file that one has as handed over is whole and equal at the other, and what it has as delivered or returned was
-answered so there. After a number of rounds there are two sessions that nothing breaks. Then all files are delivered or returned.
+Each station is the program over a database of its own. A round is a few commands of both operators (submit, release, refuse), some of which are
+killed. Then comes a session, in which one station calls the other. All octets of a session pass through this script. It may break the connection
+within a frame or after a number of octets, by an end, a reset or silence in one direction. It may kill either program by SIGKILL, after a time or
+at a place in the octets. After each round stock sqlite3 reads both databases, which have to keep what two stations promise (`promised`). A file
+that one has as handed over is whole and equal at the other. What it has as delivered or returned was answered so there. After a number of rounds
+there are two sessions that nothing breaks. Then all files are delivered or returned.
 
-Four pairs of stations run in parallel. In every other pair the services of one station run from the first life to the last: its `listen`,
-which is never killed, and its `http`, which gets a request between two rounds; strangers call, too. Their memory and descriptors at the end
-are compared with those at the beginning (checks/lib/staying.py).
+Four pairs of stations run in parallel. In every other pair the services of one station run from the first life to the last. They are its
+`listen`, which is never killed, and its `http`, which gets a request between two rounds; strangers call, too. Their memory and descriptors at the
+end are compared with those at the beginning (checks/lib/staying.py).
 
-The check goes on beyond its time until programs and commands were killed, connections broken and transfers continued, and until all that may
-happen to a session has happened to one (checks/lib/passage.py). It fails if another five minutes don't bring that. The seed is printed. It
+The check goes on beyond its time until programs and commands were killed, connections broken and transfers continued. It goes on until all that
+may happen to a session has happened to one (checks/lib/passage.py). It fails if another five minutes don't bring that. The seed is printed. It
 repeats the choices, but not how far a program is when it is killed. After a failure the history of the pair is printed too, and its files are
 kept. The last line is `N passed, M failed`.
 
@@ -58,7 +58,7 @@ WANTED = ["commands killed", "programs killed", "connections broken", "transfers
 
 
 class Station(killed.Station):
-    """A station from its first day on: its database, its book, the partner's code, the rows of each submitted file, and its long-running
+    """A station from its first day on: its database, its book, and the partner's code. Also the rows of each submitted file, and its long-running
     services, if any."""
 
     def __init__(self, room, chance, name, book, partner, services=None):

@@ -5,16 +5,15 @@
     checks/faults/two_stations.py --stops [--every N]      the supplier is killed at each Nth of its calls on its database instead
     checks/faults/two_stations.py --residents ..           the same, where both stations are `run`, which is asked to call
 
-The car maker has a file of 2,500 octets for the supplier. One round is: a session that the car maker begins; the supplier's operator
-releases the file, if it is there; a session that the supplier begins. In the first round the connection breaks after a number of octets, in
-either direction, or one of the supplier's three programs is killed before it writes, syncs or truncates a file of its database (with `run`
-this is one program, from its opening on). The second round isn't broken. Then the file is delivered at the car maker and whole at the
-supplier, and there is one response for it at either side, whatever broke. `--stops` needs a C compiler. The last line is `N passed, M
-failed`.
+The car maker has a file of 2,500 octets for the supplier. In one round the car maker begins a session. Then the supplier's operator releases the
+file, if it is there, and the supplier begins a session. In the first round the connection breaks after a number of octets, in either direction. Or
+one of the supplier's three programs is killed before it writes, syncs or truncates a file of its database. With `run` these are one program, from
+its opening on. The second round isn't broken. Then the file is delivered at the car maker and whole at the supplier. There is one response for it
+at either side, whatever broke. `--stops` needs a C compiler. The last line is `N passed, M failed`.
 
-Shows: two programs whose connection breaks after one octet in 29 (`--every 1` for each), and, where there is a C compiler, of which one is killed
-at each call on its database (`--stops`): after a second round the file is delivered, whole and answered once. With `--residents` each is `run` and
-is asked to call
+Shows: two programs whose connection breaks after one octet in 29 (`--every 1` for each). Where there is a C compiler, one of them is killed at
+each call on its database (`--stops`). After a second round the file is delivered, whole and answered once. With `--residents` each is `run` and is
+asked to call
 """
 
 import argparse

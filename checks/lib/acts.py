@@ -108,7 +108,7 @@ def write_octets(sink, octets):
 
 
 def as_conversation(session, _room, database):
-    """The partner sends the next octets only once it has read each answer before, and after an ESID it waits until the program ends: the
+    """The partner sends the next octets only once it has read each answer before, and after an ESID it waits until the program ends. The
     program must not read further before it answers, nor after the end."""
     source, sink = os.pipe()
     answers, answer = os.pipe()

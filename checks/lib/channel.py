@@ -2,7 +2,7 @@
 
 A request is words: their number in four octets, and each word after its length in four octets. The first word is the kind in one octet, and the
 others are its fields. A number in a field has eight octets, a format, a report and a wish for a trace one. An answer is pieces, each with an
-octet for its outlet and its length in four, and then the octet 0, the kind of its end, and a number of eight octets.
+octet for its outlet and its length in four. Then come the octet 0, the kind of its end, and a number of eight octets.
 """
 
 import struct

@@ -1,4 +1,4 @@
-"""A network namespace of its own, in which another address is far away: each packet to it takes some milliseconds, and comes back to this machine as
+"""A network namespace of its own, in which another address is far away. Each packet to it takes some milliseconds, and comes back to this machine as
 one from there. So whoever connects to that address reaches a port of this machine, and each side sees the other at a distance.
 
 It wants to be the superuser and /dev/net/tun. No part of the kernel has to delay anything, so it goes where `tc netem` doesn't.

@@ -24,7 +24,7 @@ class Wrong(Exception):
 
 
 class Watched(model.Session):
-    """A session of the model that notes the register before each frame is sent, with the number of octets that are out by then: each change
+    """A session of the model that notes the register before each frame is sent, with the number of octets that are out by then. Each change
     is made before the frame that answers it."""
 
     def __init__(self, *given):
@@ -61,7 +61,8 @@ def session_of(act, register):
 
 
 def after_pieces(act, register):
-    """What is out and in the tables once so many pieces of a session's input were heard: before the first, after the first, and so on."""
+    """What is out and in the tables once so many pieces of a session's input were heard. It is that before the first, after the first, and
+    so on."""
     octets = act.joined("in")
     for heard in range(0, len(octets) + PIECE, PIECE):
         session = session_of(act, copy.deepcopy(register))
@@ -78,8 +79,8 @@ def compare(room, wanted):
 
 
 def go_on(act, room, left, file):
-    """The partner holds its session again over what is left. If it sent a file of these octets, it offers it again, continues from the
-    Restart position that the station answers, and the file is then fetched whole."""
+    """The partner holds its session again over what is left. If it sent a file of these octets, it offers it again, and continues from the
+    Restart position that the station answers. The file is then fetched whole."""
     register = register_of(left)
     octets = act.joined("in") if file is None else offer_again(act, room, register, file)
     hold(act, room, register, octets)

@@ -1,5 +1,5 @@
-"""A station whose programs are killed at random moments: its database and its book, and what is left of it by stock sqlite3 and by the
-program's own reports. Services may stay beside them."""
+"""A station whose programs are killed at random moments: its database and its book. What is left of it is told by stock sqlite3 and by
+the program's own reports. Services may stay beside them."""
 
 import os
 import random

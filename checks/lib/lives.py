@@ -1,4 +1,4 @@
-"""A row over a life of `run`: partners come to it, or it calls them, and operators ask it, with look-ups between two pieces of a session.
+"""A row over a life of `run`. Partners come to it, or it calls them, and operators ask it, with look-ups between two pieces of a session.
 
 What a look-up shows, and what a session leaves that is cut off, is that of the model of a station (checks/lib/model.py).
 """

@@ -1,9 +1,9 @@
 """What a loss of power leaves of names and files, at each moment of commands that wrote down what they did with them (log_syncs.c).
 
 A file keeps the octets of its last sync, and none where it had none. A name that was made, given or removed is there, given or gone for certain once
-each folder that it concerns was synced behind that; until then the loss may take it back. So several worlds are left: one in which it has taken back
-all that it may; one in which it has taken back no name, as a file system does that writes names before contents; and for each name that it may take
-back one in which that is all it has taken back. As on each file system with a journal, a rename is one step, and nothing is moved into a folder that
+each folder that it concerns was synced behind that. Until then the loss may take it back. So several worlds are left. In one it has taken back all
+that it may. In another it has taken back no name, as a file system does that writes names before contents. For each name that it may take back there
+is one in which that is all it has taken back. As on each file system with a journal, a rename is one step, and nothing is moved into a folder that
 isn't there.
 """
 
@@ -25,8 +25,8 @@ class Event(NamedTuple):
 
 
 class Left(NamedTuple):
-    """What a loss leaves: the folders, the files with their octets and the moment of their last change, what was told before, and in words which loss
-    it is."""
+    """What a loss leaves: the folders, and the files with their octets and the moment of their last change. Also what was told before, and in words
+    which loss it is."""
 
     folders: frozenset
     files: frozenset

@@ -1,4 +1,5 @@
-"""A model of a station by its step tables and RFC 5024: what a session sends and leaves, and what an operator's commands print and leave.
+"""A model of a station by its step tables and RFC 5024. It is what a session sends and leaves, and what an operator's commands print and
+leave.
 
 It was written independently of the station's code, for checks that compare the two. Its entries have the columns of the tables, and also
 the records and blocks of a file.
@@ -214,8 +215,8 @@ def local_form(file):
 
 
 def payloads(file, begin, room):
-    """The payloads of a file from a row on, each as full as possible, with the number of rows that are wholly sent after it (RFC 5024,
-    section 7)."""
+    """The payloads of a file from a row on, each as full as possible (RFC 5024, section 7). With each goes the number of rows that are
+    wholly sent after it."""
     is_stream = file["format"] in "UT"
     records = [b"".join(file["rows"][begin:])] if is_stream else file["rows"][begin:]
     made = []

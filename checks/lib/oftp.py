@@ -1,12 +1,13 @@
 """The commands of OFTP2 (RFC 5024, section 5), encoded and decoded independently of the station's code.
 
-A command is a kind and its fields: a dict of field name to text, in which names have no padding and numbers no leading zeros. Each kind is
-a list of fields in the order of their octets, so that a field's offset is the sum of the sizes before it.
+A command is a kind and its fields. These are a dict of field name to text, in which names have no padding and numbers no leading zeros.
+Each kind is a list of fields in the order of their octets. So a field's offset is the sum of the sizes before it.
 """
 
 # A field: its name, its form and its size. Forms: `const` (its octets in the place of a name), `name` (padded with spaces), `number`
-# (leading zeros), `letter`, `digits` (kept with their zeros), `reserved`, `text` (its length in three digits, then the octets of the
-# field `text`), `nothing` (two octets 00: a length of a hash or a signature), `payload` (whatever is left), `return` (0D).
+# (leading zeros), `letter`, and `digits` (kept with their zeros). Others are `reserved`, and `text` (its length in three digits, then
+# the octets of the field `text`). `nothing` is two octets 00: a length of a hash or a signature. The last are `payload` (whatever is
+# left), and `return` (0D).
 KINDS = {
     "SSRM": [("IODETTE FTP READY ", "const", 18), ("", "return", 1)],
     "SSID": [

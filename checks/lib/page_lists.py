@@ -1,7 +1,7 @@
 """Lists for the page like those of `/in`, `/out` and `/responses`, made by hand, and what the page has to show for any lists. They may have
 what `/status` and `/events` tell, too.
 
-What it has to show is computed here independently of the page's script, at a moment (`now`, in UTC) and in a time zone of ZONES.
+What it has to show is computed here independently of the page's script. It is at a moment (`now`, in UTC) and in a time zone of ZONES.
 """
 
 import itertools
@@ -179,7 +179,7 @@ def status_of(now, counters=(), files=(), going=None, codes=tuple(PARTNERS), nex
 
 
 def with_events(lists, now):
-    """The lists with events of their files, by which some are late that aren't by their stamps, and the other way round; with sessions, and with
+    """The lists with events of their files, by which some are late that aren't by their stamps, and the other way round. They have sessions, and
     what the station tells of itself."""
     found = []
     for no, file in enumerate(lists.incoming):
@@ -403,9 +403,9 @@ def zone_text(zone, moment):
 
 
 class Shown(NamedTuple):
-    """A row of a list: the number, the partner, the file's name and description, its stamp and what that says, its size in a few digits or the
-    file that a response answers, its exact size, the words for the state, a few more, the row's style, what to do if somebody must, and where there
-    are events when it changed last, and all its changes."""
+    """A row of a list: the number, the partner, the file's name and description, its stamp and what that says. Then come its size in a few digits
+    or the file that a response answers, and its exact size. Then come the words for the state, a few more, the row's style, and what to do if
+    somebody must. If there are events, the last are when it changed last, and all its changes."""
 
     no: str
     partner: str
@@ -545,7 +545,7 @@ TURNS = "\u061c\u200e\u200f\u202a\u202b\u202c\u202d\u202e\u2066\u2067\u2068\u206
 
 
 def plain(text):
-    """A partner's text as the page shows it: in one line, with a mark in place of each control character and of each long run of combining
+    """A partner's text as the page shows it. It is in one line, with a mark in place of each control character and of each long run of combining
     marks."""
     text = re.sub("\r\n?|[\n\u2028\u2029]", " ⏎ ", text).replace("\t", " ")
     text = "".join("\ufffd" if it in TURNS or unicodedata.category(it) == "Cc" else it for it in text)
@@ -612,7 +612,7 @@ BEGUN_BY = {
 
 
 def begun_in(state, changes):
-    """When a file came to its state, as its events tell it: for one that comes when it began to, and not when it was taken up again."""
+    """When a file came to its state, as its events tell it. For a file that comes it is when it began to, and not when it was taken up again."""
     found = None
     for it in changes:
         if state == "open" and it["event"] == "given up":
@@ -765,7 +765,8 @@ def due_or_sent(response):
 
 
 def response_for(file, responses):
-    """The response that says what became of a file: that by which the station came to its state, and for a refused file an EERP before a NERP."""
+    """The response that says what became of a file. It is that by which the station came to its state, and for a refused file an EERP before a
+    NERP."""
     kinds = {"refused": ["EERP", "NERP"], "returned": ["NERP"]}.get(file["state"])
     found = [it for kind in kinds for it in responses if it["kind"] == kind] if kinds else responses
     return found[0] if found else None

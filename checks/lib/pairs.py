@@ -102,8 +102,8 @@ def promised(sender, receiver, codes=None):
 
 
 def left_of_promise(sender, receiver, codes, is_sender_new):
-    """Why what is left of the promise doesn't hold, or None, where one of the two has begun a new database: the sender, and then what it has as
-    handed over and as answered is so, or the receiver, and then what is whole there is the sender's."""
+    """Why what is left of the promise doesn't hold, or None, if one of the two has begun a new database. If that is the sender, what it has as
+    handed over and as answered is so. If it is the receiver, what is whole there is the sender's."""
     there, files = by_identity(receiver, "in_file", codes), by_identity(sender, "out_file", codes)
     for identity, file in files.items() if is_sender_new else []:
         came = there.get(identity)

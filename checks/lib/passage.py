@@ -1,6 +1,6 @@
 """A connection of two stations whose octets all pass through a check, and what happens to it.
 
-It breaks within a frame or after a number of octets, by an end, a reset or silence in one direction, or a station is killed.
+It breaks within a frame or after a number of octets, by an end, a reset or silence in one direction. Or a station is killed.
 """
 
 import socket
@@ -70,7 +70,7 @@ class Side:
 
 
 class Said:
-    """The frames of a session in the order in which they were out, in words; the DATA of a file and the CDT between them are counted."""
+    """The frames of a session in the order in which they were out, in words. The DATA of a file and the CDT between them are counted."""
 
     def __init__(self):
         self.lines = []

@@ -130,8 +130,8 @@ class Proofs:
         return sum(name in self.below[it] for it in self.waiting)
 
     def begin(self):
-        """Begins the proofs for which there is room, those first on which most depends. Where fewer are ready than there is room for, the
-        first gets the rest: each process reads first all that its crate depends on, so more of them in one crate take longer in all."""
+        """Begins the proofs for which there is room, those first on which most depends. If fewer are ready than there is room for, the first
+        gets the rest. Each process reads first all that its crate depends on, so more of them in one crate take longer in all."""
         ready = sorted((it for it in self.waiting if self.below[it] <= self.proved), key=lambda it: (-self.above(it), it))
         free = self.most_jobs - sum(proof.jobs for proof in self.running)
         for later, name in zip(reversed(range(len(ready))), ready):

@@ -1,6 +1,7 @@
 """The rows of rows/ in their written form (rows/README.md).
 
-A row is read into its acts, each a session or something else that is done to the same database, and into the lines that say what is left.
+A row is read into its acts, and into the lines that say what is left. An act is a session or something else that is done to the same
+database.
 """
 
 import shlex

@@ -1,7 +1,7 @@
 """A model of a station's schedule, independent of the station's code: what is done next, after what was told.
 
 An event and an action are lists of words, as in rows/schedule (rows/README.md). A model is told events by `tell`. `next` returns the next
-action, or None where nothing is to be done before the next event, and `timeout` when the model wants to be told the time.
+action, or None if nothing is to be done before the next event. `timeout` says when the model wants to be told the time.
 """
 
 from dataclasses import dataclass
@@ -31,7 +31,7 @@ SILENT = ("orphaned", "stopping")
 
 @dataclass(frozen=True)
 class Partner:
-    """A partner who is called: its number, the wait of a guest before a call of it gives way, and the times of a session with it."""
+    """A partner who is called: its number, and the wait of a guest before a call of it gives way. Also the times of a session with it."""
 
     number: int
     pause: int
@@ -545,7 +545,8 @@ class Model:
         return self.state == "serving" and self.take_turns()
 
     def go_on(self, one):
-        """A session hears a piece; or a look-up is done, where there is none or its share is used up, and not within the rest after another."""
+        """A session hears a piece. Or a look-up is done, if there is none or its share is used up, and not within the rest after
+        another."""
         talk = one.talk
         is_heard = talk.there in ("here", "last") and talk.backlog <= self.limits["backlog"]
         if (not is_heard or talk.share == 0) and self.quiet <= self.now and self.look():

@@ -19,7 +19,7 @@ SECONDS = 120
 # What a partner and a step of a session are where a row doesn't say it.
 PARTNER = {"pause": 1_000, "patience": 300_000, "longest": 3_600_000}
 STEP = {"heard": 0, "backlog": 0}
-# The words of an event, by its first word or, where something is told of a connection, by the signal: a set, or int for a number.
+# The words of an event, by its first word or, if something is told of a connection, by the signal. They are a set, or int for a number.
 ARRIVALS = {"somebody", "nobody", "later", "never"}
 CAUSES = {"stopped", "door-failed", "office-failed"}
 INPUTS = {"awaited", "here", "last", "gone"}
@@ -33,8 +33,8 @@ SIGNALS = {
 
 
 class Step(NamedTuple):
-    """A line of a row, and what has to come of it: `how` is `>` where all that is ordered then is carried out, `+` where nothing is yet, and
-    `next` where one action is, without an event. The timeout is that of the row, `never`, or None where the row doesn't say it."""
+    """A line of a row, and what has to come of it. `how` is `>` if all that is ordered then is carried out, and `+` if nothing is yet. It is
+    `next` if one action is, without an event. The timeout is that of the row, `never`, or None where the row doesn't say it."""
 
     how: str
     event: list

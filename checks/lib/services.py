@@ -35,7 +35,7 @@ def expect(found, wanted, what):
 
 
 # These are below the ephemeral ports, so that no connection takes one before a service binds it. A script that runs in parallel begins at
-# another one, and takes none of the last ones that this script has taken: it holds a name for each of them.
+# another one, and takes none of the last ones that this script has taken. It holds a name for each of them.
 PORTS = itertools.count(20000 + os.getpid() * 101 % 10000)
 TAKEN = collections.deque(maxlen=200)
 

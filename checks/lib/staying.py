@@ -1,9 +1,9 @@
 """`run`, `listen` and `http` as services that run for as long as a check does, their callers, and their descriptors and memory.
 
 After each caller a service has exactly the descriptors that it had before the first one. Its memory goes up and down with the sizes of the
-databases that it opens, and the allocator keeps some of what is freed, which hides a leak for a while. So a service does the same small
-tasks over a new database before the first caller and after the last one, and its memory during and after them is compared: at the end it is
-at most `MORE` KiB above the value at the beginning. A station that keeps its database open has no new one for this. It caches pages of its
+databases that it opens. The allocator keeps some of what is freed, which hides a leak for a while. So a service does the same small tasks
+over a new database before the first caller and after the last one. Its memory during and after them is compared: at the end it is at most
+`MORE` KiB above the value at the beginning. A station that keeps its database open has no new one for this. It caches pages of its
 database, so it may have as much more as that has grown by, up to `PAGES` KiB.
 """
 
@@ -20,8 +20,8 @@ from services import CARMAKER, LONG, Resident, Service, Wrong, expect
 
 # A long-running service may have more callers than come.
 CALLERS = "1000000"
-# Code of the program that runs for the first time is loaded, and the allocator keeps some of the largest database that was opened, once:
-# some 2 MiB for one of 8 MB.
+# Code of the program that runs for the first time is loaded. The allocator keeps some of the largest database that was opened, once: some
+# 2 MiB for one of 8 MB.
 MORE = 4096
 # How much of its database a station that keeps it open caches: 2,000 pages.
 PAGES = 8000

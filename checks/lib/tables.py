@@ -1,6 +1,6 @@
 """The tables of a station's database, read by stock sqlite3.
 
-They are read from a copy, so that the files stay as the program left them. What is read has to be a register: it passes the integrity
+They are read from a copy, so that the files stay as the program left them. What is read has to be a register. It passes the integrity
 checks of sqlite3, and the rules on the columns of the tables beyond these (`unfit`).
 """
 
@@ -48,7 +48,7 @@ def read(database):
 
 
 def is_under_way(copy):
-    """Whether the program was stopped while it made the file: it writes the first octet last, so that sqlite3 doesn't take it for a
+    """Whether the program was stopped while it made the file. It writes the first octet last, so that sqlite3 doesn't take it for a
     database yet, and the program begins anew."""
     octets = copy.read_bytes() if copy.stat().st_size <= PAGE else b"S"
     return octets[:1] in (b"", b"\0")

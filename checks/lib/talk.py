@@ -1,5 +1,5 @@
-"""A session with a station over a socket, whose octets come in pieces: what the station must have said by now, and what it may hold where it
-is cut off.
+"""A session with a station over a socket, whose octets come in pieces. It says what the station must have said by now, and what it may hold if
+it is cut off.
 
 The model of the station (checks/lib/model.py) hears each piece as it is sent. Whatever a command changes is done before the first octet of its
 answer goes out, and a command without an answer changes nothing. So once all answers were read, the register is the model's.
@@ -92,8 +92,8 @@ class Talk(model.Hearing):
         self.connection.close()
 
     def may_be_left(self):
-        """The registers that the station may hold after a cut: that of the last change of which an octet of the answer was read, and each
-        later one."""
+        """The registers that the station may hold after a cut. They are that of the last change of which an octet of the answer was read, and
+        each later one."""
         first = max(number for number, (before, _) in enumerate(self.registers) if before < len(self.got))
         return [register for _, register in self.registers[first:]]
 
@@ -109,8 +109,8 @@ def whose(talk):
 
 
 def lines_of_a_cut(talk):
-    """The lines of a session whose connection broke. A caller who has read no more than the greeting may not have been let in, and a call of
-    which nothing was read may not have been seen as made."""
+    """The lines of a session whose connection broke. A caller who has read no more than the greeting may not have been let in. A call of which
+    nothing was read may not have been seen as made."""
     names, ends = [whose(talk)], CUT_ENDS
     if talk.session.called and not talk.got:
         ends = [*CUT_ENDS, UNMADE]

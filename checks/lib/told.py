@@ -1,7 +1,7 @@
 """The events that a station writes: how a line is read, and which events the model's changes are.
 
 The model (checks/lib/model.py) makes the changes of a session. Here is told which event each of them is, in the order in which they are
-made, and what the line of each has; this was written from the table of events, independently of the station's code.
+made, and what the line of each has. This was written from the table of events, independently of the station's code.
 """
 
 import contextlib

@@ -1,4 +1,5 @@
-"""What documents show of a day: the indented blocks below a heading, what is typed in them and printed, and a folder in which it is typed."""
+"""What documents show of a day: the indented blocks below a heading, and what is typed in them and printed. Also a folder in which it is
+typed."""
 
 import os
 import re

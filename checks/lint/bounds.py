@@ -3,8 +3,8 @@
 
     checks/lint/bounds.py
 
-A line of BOUNDS names a document, a pattern that finds the sentence there, and for each number in it where the code has it, or where the table of
-crates in docs/PERFORMANCE.md does. A sentence that isn't found fails too. The last line is `N passed, M failed`.
+A line of BOUNDS names a document, and a pattern that finds the sentence there. For each number in it, it names where the code has it, or where
+the table of crates in docs/PERFORMANCE.md does. A sentence that isn't found fails too. The last line is `N passed, M failed`.
 
 Shows: each bound, default and number of things that the documents state is the one that the code has
 """
@@ -88,8 +88,8 @@ TAKE = clauses("oftp_vfile/src/taking.rt", "pub fn take(")
 
 
 def verified():
-    """The minutes that `rt ci` takes for a crate: what docs/measured/gate.csv has for the crate and for all below it, without what those edits
-    took that must-fail/ doesn't have any more."""
+    """The minutes that `rt ci` takes for a crate: what docs/measured/gate.csv has for the crate and for all below it. What those edits took is
+    left out that must-fail/ doesn't have any more."""
     with (ROOT / "docs/measured/gate.csv").open(encoding="utf-8", newline="") as file:
         rows = list(csv.DictReader(file))
     has_edits = {it.parent.name for it in (ROOT / "crates").glob("*/must-fail")}

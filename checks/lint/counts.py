@@ -3,8 +3,8 @@
 
     checks/lint/counts.py
 
-It counts rows, command lines, texts of books, files of rows/listing, rows of schedules, worked examples, tests and wrong bodies, so that a lost
-one is noticed. A smaller number fails, because something was lost. A greater one fails too, until it is written down. The last line is `N passed, M
+It counts rows, command lines, texts of books, files of rows/listing, rows of schedules, worked examples, tests and wrong bodies. So a lost one is
+noticed. A smaller number fails, because something was lost. A greater one fails too, until it is written down. The last line is `N passed, M
 failed`.
 
 Shows: no row, line, listing, text of a book, test or wrong body is lost

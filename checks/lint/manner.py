@@ -3,12 +3,12 @@
 
     checks/lint/manner.py
 
-No body of a function in src/ has more than 40 lines, and no line of a clause, a definition or a proof more than 200 characters. Each file
-begins with the line that says what it has: `//!` in src/, `--` in specs/ and proofs/, except answers and lists of modules. README.md is
-within the length that docs/CONTRIBUTING.md gives it, and docs/PROMISES.md has its first promise in its first 15 lines. It prints each
-violation, and `N passed, M failed`, in files.
+No body of a function in src/ has more than 40 lines. No line of a clause, a definition or a proof has more than 200 characters. Each file begins
+with the line that says what it has: `//!` in src/, `--` in specs/ and proofs/, except answers and lists of modules. README.md is within the length
+that docs/CONTRIBUTING.md gives it, and docs/PROMISES.md has its first promise in its first 15 lines. It prints each violation, and `N passed, M
+failed`, in files.
 
-Shows: no body of a function is longer than 40 lines, no line of a clause or a proof is longer than 200 characters, and each file says what it has.
+Shows: no body of a function is longer than 40 lines, and no line of a clause or a proof is longer than 200 characters. Each file says what it has.
 README is as short as it has to be, and PROMISES begins with a promise
 """
 

@@ -7,7 +7,7 @@
 - Each path below crates/, checks/, rows/, examples/ and docs/ exists, also if `crates/` is left out before a crate's folder. So does each
   source or script that is named without its folder. Words in capitals are placeholders in a path, and `*` is anything.
 - Each word `oftp_..` is a crate, the program, or a metric that it tells.
-- In a table with a column `File` and a column `Function`, the file of each line has that function, or each of several with commas between
+- In a table with a column `File` and a column `Function`, the file of each line has that function. With commas between several, it has each of
   them. Names that are followed by a file, in brackets or after a comma, occur in it.
 - Each name in code type with an underscore, `::` or a capital letter occurs in a file that isn't a document.
 - `CLAUSE of FUNCTION` is a clause of a function with that name, and `clause CLAUSE` one of any function.
@@ -16,7 +16,7 @@
 
 It prints each name that leads nowhere, and `N passed, M failed`, in names.
 
-Shows: each link, file, crate, function, clause, definition, wrong body and case that the documents name exists, and what refuses a wrong body is
+Shows: each link, file, crate, function, clause, definition, wrong body and case that the documents name exists. What refuses a wrong body is
 what its edit says
 """
 

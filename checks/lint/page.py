@@ -8,8 +8,8 @@ The copy is crates/oftp_page/src/page.rt. The page's policy allows only the scri
 become markup. Nothing in the page is loaded from elsewhere. It knows each state that the listing names (oftp_listing/specs/Names.antt), and
 has the words of oftp_wire/specs/Reasons.antt for the reasons there. Each state in which a file may be late has a bound, which the page tells.
 
-Shows: the page lets nothing run but its own script, has nothing from elsewhere, and knows every state of the listing and the station's words for
-reasons; the program's copy is the same
+Shows: the page lets nothing run but its own script, and has nothing from elsewhere. It knows every state of the listing and the station's words
+for reasons; the program's copy is the same
 """
 
 import base64

@@ -13,7 +13,7 @@ Without it nothing is compared, and the first line is `NOT TRIED without the tex
 
 The last line is `N passed, M failed`.
 
-Shows: the tables of oftp_codec have the fields of RFC 5024's tables, at their places and with their lengths and formats, and the reasons have its
+Shows: the tables of oftp_codec have the fields of RFC 5024's tables, at their places and with their lengths and formats. The reasons have its
 numbers and words. It wants the standard's text (Debian's doc-rfc-informational, section non-free)
 """
 

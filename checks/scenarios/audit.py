@@ -4,8 +4,8 @@
     checks/scenarios/audit.py
 
 A database lives through sessions, operators' commands and answers, and is copied after each. Each copy is sound, and has lost nothing of those
-before it. Then stock sqlite3 makes one loss after another in a copy of the last one, and the audit has to print just the lines that are
-written beside it, with status 1. No database that is audited changes. The last line is `N passed, M failed`.
+before it. Then stock sqlite3 makes one loss after another in a copy of the last one. The audit has to print just the lines that are written
+beside it, with status 1. No database that is audited changes. The last line is `N passed, M failed`.
 """
 
 import hashlib

@@ -6,8 +6,8 @@
 debootstrap makes the Debian from the network, and systemd-nspawn boots it, with a network of its own. The partner is a second station there. The
 cases go on from each other. The last line is `N passed, M failed`.
 
-Shows: the units of the package under a systemd that runs: the station is started, reads its book again, is started again if it is killed, and ends by
-`stop` as its unit stops it; who stops it by hand has it stopped. A call, a backup, and the processing of what came at a change of the database are
+Shows: the units of the package under a systemd that runs. The station is started, reads its book again, is started again if it is killed, and ends by
+`stop` as its unit stops it. Who stops it by hand has it stopped. A call, a backup, and the processing of what came at a change of the database are
 units that end well. A newer package starts the services again that ran, and removing it stops them. Tried where debootstrap and systemd-nspawn can
 """
 

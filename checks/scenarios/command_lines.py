@@ -8,8 +8,8 @@ afterwards have to be as written, and nothing else may be printed, made or chang
 each is left out, given twice, and has one beside it that no command takes. With `--beside` each command that can ask a station which keeps
 the database open is run while one does: no result may differ. The last line is `N passed, M failed`.
 
-Shows: the command lines, and once more where a station keeps the database open: which words are read how, each bad line with its text, each error
-of a book or a file, an output that fails or that nobody reads. Nothing that a line doesn't name is printed, made or changed
+Shows: the command lines, and once more with a station that keeps the database open. Which words are read how, each bad line with its text, and
+each error of a book or a file. Also an output that fails or that nobody reads. Nothing that a line doesn't name is printed, made or changed
 """
 
 import subprocess

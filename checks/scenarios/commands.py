@@ -1,6 +1,6 @@
 #!/usr/bin/env python3
-"""Tries what depends on the moment, on a partner or on a station that runs, of commands: `submit` and `resend` without a date, `call --fail`,
-the pauses of the clock, `stop` and `reload`.
+"""Tries what depends on the moment, on a partner or on a station that runs, of commands. They are `submit` and `resend` without a date, `call
+--fail`, the pauses of the clock, `stop` and `reload`.
 
     checks/scenarios/commands.py [WORD ..]       all cases, or those whose names have one of these words
 
@@ -39,7 +39,7 @@ def session_of(name):
 
 # How many times of a second are taken, and in how many seconds it is tried to submit a file at one of them.
 TAKEN, TRIES = 1_000, 6
-# Sessions in which the station calls, each with the line of its end: two that end by 00, one of either side, and one that doesn't.
+# Sessions in which the station calls, each with the line of its end. Two end by 00, one of either side, and one doesn't.
 BY_PARTNER = session_of("calling/initiator_alone")
 BY_STATION = session_of("calling/nothing_on_either_side")
 SENT_AWAY = session_of("calling/another_answers")
@@ -87,7 +87,7 @@ def moments_of(rows):
 
 
 def submissions_of_now(room):
-    """Files without a date and time get those of the moment in UTC, each its own, and a date or a time that is given stays."""
+    """Files without a date and time get those of the moment in UTC, each its own. A date or a time that is given stays."""
     file = room / "file"
     file.write_bytes(b"A")
     begin = datetime.datetime.now(datetime.timezone.utc).replace(microsecond=0)
@@ -118,7 +118,7 @@ def submissions_of_one_moment(room):
 
 
 def submission_with_the_next_counter(room):
-    """A time of the moment that another file of the name has is the next free one: so are all of a second that is over."""
+    """A time of the moment that another file of the name has is the next free one. So are all of a second that is over."""
     file = room / "file"
     file.write_bytes(b"A")
     # With the date alone the time is that of the moment. Each try has the same second often enough to meet the one before.
@@ -187,7 +187,7 @@ def waits_of(post, count):
 
 
 def pauses_of_the_clock(room):
-    """After each call that ends otherwise than by 00 the clock waits twice as long, and calls at its next turn once a session ended by 00."""
+    """After each call that ends otherwise than by 00 the clock waits twice as long. It calls at its next turn once a session ended by 00."""
     file = room / "file"
     file.write_bytes(b"A")
     with socket.create_server(("127.0.0.1", 0)) as post:
@@ -375,7 +375,7 @@ def killed_about_a_stop(room):
 
 
 def reads_its_book_again(room):
-    """A partner who isn't in the book is let in once the book has him and was read again; a faulty book is told, and the old one stays."""
+    """A partner who isn't in the book is let in once the book has him and was read again. A faulty book is told, and the old one stays."""
     whole = BOOK.read_text()
     book = room / "book"
     book.write_text(whole.replace(CARMAKER, "O0188CARMAKER"))

@@ -3,8 +3,8 @@
 
     checks/scenarios/database_held.py
 
-The holder is a session of the program that waits for its partner, or this script, which takes the locks of SQLite as the program does. A
-second command waits for the database. If it is released within ten seconds, the command is carried out. Otherwise the command ends with
+The holder is a session of the program that waits for its partner. Or it is this script, which takes the locks of SQLite as the program does.
+A second command waits for the database. If it is released within ten seconds, the command is carried out. Otherwise the command ends with
 `fault: 6 store 1`, and the holder's session goes on undisturbed. Meanwhile stock sqlite3 finds the database locked. A command that waits for
 who writes or reads its pipe holds no database. All cases run in parallel, so it takes some twelve seconds. The last line is `N passed, M
 failed`.

@@ -3,26 +3,25 @@
 
     checks/scenarios/documents.py [--verify]
 
-The commands of docs/COMMANDS.md are those of the program, and its line for each names the options in its `--help`. CHANGELOG.md has the
-program's version. The reasons of docs/COMMANDS.md are those of oftp_wire. Its table of the partner book has the keys that a book needs, and
-its table of reports the columns that are printed. Its keys of the JSON objects are those of rows/listing, which `listing.py` compares with
-the program. README.md and the table of docs/ARCHITECTURE.md name all crates, and its picture has each above those that it uses. The blocks
-below README's heading "A day .." and below "The first day" of the tutorial are typed as they are, each in a folder of its own, with
-free ports: what follows a `$` prints the lines below it. So are the second partner and the second plant of docs/howto, after the
-first day. Without stunnel the first day ends before it, and these are left out. README's two lines for an installation make and name a package,
-and the lines for one by hand are typed in a folder that takes the place of /usr/local and /etc. So are the change of the year of
-docs/howto/days.md, with two stations between which something is open at first, and the restore. Each folder that a unit needs is made there, what
-reads a service's database is given as its user, and the book for a service leads to the tunnel. Each speed of README.md stands in
-docs/PERFORMANCE.md. If `rt` is installed, the documents name its logic. With `--verify`, what docs/PROOF-MAP.md shows of `rt ci` is typed too, at
-the top of the repository, and ends as shown. That is a proof of a small crate: 21 seconds, or 3 where it has passed before. The last line is
-`N passed, M failed`.
+The commands of docs/COMMANDS.md are those of the program, and its line for each names the options in its `--help`. CHANGELOG.md has the program's
+version. The reasons of docs/COMMANDS.md are those of oftp_wire. Its table of the partner book has the keys that a book needs, and its table of
+reports the columns that are printed. Its keys of the JSON objects are those of rows/listing, which `listing.py` compares with the program.
+README.md and the table of docs/ARCHITECTURE.md name all crates, and its picture has each above those that it uses. The blocks below README's
+heading "A day .." and below "The first day" of the tutorial are typed as they are. Each is typed in a folder of its own, with free ports: what
+follows a `$` prints the lines below it. So are the second partner and the second plant of docs/howto, after the first day. Without stunnel the
+first day ends before it, and these are left out. README's two lines for an installation make and name a package. The lines for one by hand are
+typed in a folder that takes the place of /usr/local and /etc. So are the change of the year of docs/howto/days.md, with two stations between which
+something is open at first, and the restore. Each folder that a unit needs is made there, and what reads a service's database is given as its user.
+The book for a service leads to the tunnel. Each speed of README.md stands in docs/PERFORMANCE.md. If `rt` is installed, the documents name its
+logic. With `--verify`, what docs/PROOF-MAP.md shows of `rt ci` is typed too, at the top of the repository, and ends as shown. That is a proof of a
+small crate: 21 seconds, or 3 where it has passed before. The last line is `N passed, M failed`.
 
-Shows: the commands and options of docs/COMMANDS.md are those of the program, its reasons those of oftp_wire, its keys of a partner book those that
-a book needs, and its columns and keys of lists those that are printed. README's day and the first day of the tutorial, through TLS too where
-stunnel is installed, go as they are shown, and then so do the second partner and the second plant of docs/howto; so do README's package,
-an installation by hand, the trial of a restore, and the change of the year, between two stations that still owe each other something at first;
+Shows: the commands and options of docs/COMMANDS.md are those of the program, and its reasons those of oftp_wire. Its keys of a partner book are
+those that a book needs, and its columns and keys of lists those that are printed. README's day and the first day of the tutorial, through TLS too
+if stunnel is installed, go as they are shown. Then so do the second partner and the second plant of docs/howto. So do README's package, an
+installation by hand, and the trial of a restore. So does the change of the year, between two stations that still owe each other something at first.
 examples/two_stations.sh prints what README shows of it. CHANGELOG.md has the program's version. docs/howto makes each folder that a unit needs, and
-gives what reads a service's database as its user; the book of examples/service leads to the tunnel. With `--verify`, as in the gate, what
+gives what reads a service's database as its user. The book of examples/service leads to the tunnel. With `--verify`, as in the gate, what
 docs/PROOF-MAP.md shows of `rt ci` ends as shown. Each speed of README.md stands in docs/PERFORMANCE.md, and the picture of docs/ARCHITECTURE.md has
 each crate above those that it uses. The documents name the crates that there are and the toolchain's logic
 """
@@ -435,8 +434,8 @@ def speeds_are_measured():
 
 
 def verification_ends_as_shown():
-    """What docs/PROOF-MAP.md shows of `rt ci` ends as shown, typed at the top of the repository by a reader, so CI isn't set: where it is, `rt`
-    takes no names. How many passed may differ."""
+    """What docs/PROOF-MAP.md shows of `rt ci` ends as shown, typed at the top of the repository by a reader. So CI isn't set: if it is, `rt` takes
+    no names. How many passed may differ."""
     if not shutil.which("rt"):
         print("NOT TRIED without rt: how a claim is proved again")
         return

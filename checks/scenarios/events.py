@@ -4,15 +4,15 @@
     checks/scenarios/events.py [WORD ..]       all cases, or those whose names have one of these words
     checks/scenarios/events.py --seed N        the lives of this seed
 
-Each row of rows/ in which partners call is lived over one `run`, and so are lives of random sessions, with mistakes and breaks, and orders between
-them: the file of events has exactly what the model's changes give (checks/lib/told.py), with the keys in their order. Two stations call each
-other: what left one came to the other. The station is killed at any moment: each line that is there is whole, the lines are a beginning of those
+Each row of rows/ in which partners call is lived over one `run`. So are lives of random sessions, with mistakes and breaks, and orders between
+them. The file of events has exactly what the model's changes give (checks/lib/told.py), with the keys in their order. Two stations call each
+other: what left one came to the other. The station is killed at any moment. Each line that is there is whole, the lines are a beginning of those
 of the unbroken life, and the database has what they tell. Each line is one write, behind the write of the answer. A full device stops nothing, and
 a file that is cut goes on from its beginning. Two commands append at once. The last line is `N passed, M failed`.
 
-Shows: the events of `run`, `listen`, `call` and the commands that have the database, against those of the model's changes, in the rows of sessions
-and in random lives; each line, which is one write behind that of the answer; a kill, a full device, a file that is cut, a pipe; that no line has a
-password
+Shows: the events of `run`, `listen`, `call` and the commands that have the database. They are compared with those of the model's changes, in the
+rows of sessions and in random lives. Each line, which is one write behind that of the answer; a kill, a full device, a file that is cut, a pipe.
+That no line has a password
 """
 
 import contextlib
@@ -128,7 +128,7 @@ def without_place(events):
 
 
 def may_be_later(event, key):
-    """Whether a line may have this key if the next session is over before it is written: the file that was incomplete may be whole by then."""
+    """Whether a line may have this key if the next session is over before it is written. The file that was incomplete may be whole by then."""
     return key in ("format", "rows") and event.get("way") == "in" and event["event"] in ("broken off", "given up", "refused end")
 
 

@@ -6,9 +6,9 @@
 One of two stations records. Each sends the other a file; one is released, the other refused. What `evidence` writes of each is compared with the files
 that were sent, with the record, and with what `show` and `report` tell. `verify.sh` is run by sh, with sha256sum. The last line is `N passed, M failed`.
 
-Shows: `evidence` of a file that came and of one that went, with its content, its sessions, its response and the record up to its last session;
-`verify.sh` plays that, and a changed octet is told; a number that no file has, a record without a session of the file, a folder that is there, and a
-record that is cut off or was changed
+Shows: `evidence` of a file that came and of one that went, with its content, its sessions and its response. It has the record up to its last session;
+`verify.sh` plays that, and a changed octet is told. A number that no file has, and a record without a session of the file. A folder that is there,
+and a record that is cut off or was changed
 """
 
 import contextlib
@@ -54,8 +54,8 @@ def stop(station):
 
 
 def exchanged(room):
-    """The folder of a station with its book, its database and its record: of a file that came and was released, and one that went and was refused. The
-    second is what it sent, and the first what it got."""
+    """The folder of a station with its book, its database and its record. They are of a file that came and was released, and one that went and was
+    refused. The second is what it sent, and the first what it got."""
     homes = [room / name for name in ("supplier", "carmaker")]
     ports = [free_port(), free_port()]
     for home, port in zip(homes, reversed(ports)):
@@ -182,7 +182,8 @@ def changed(room):
 
 
 def refused(room):
-    """A number that no file has, a record without a session of the file, a folder that is there or can't be made, and a record that isn't there."""
+    """A number that no file has, and a record without a session of the file. Also a folder that is there or can't be made, and a record that isn't
+    there."""
     home, _ = exchanged(room)
     to = room / "to"
     for way in ("in", "out"):
@@ -215,7 +216,7 @@ def broken(room):
 
 
 def days(room):
-    """Of the days of a record those are copied that end with the file's last session, and what a later run of the station records isn't looked for."""
+    """Of the days of a record those are copied that end with the file's last session. What a later run of the station records isn't looked for."""
     home, contents = exchanged(room)
     (day,) = (home / "record").iterdir()
     day.rename(day.with_stem("20200101"))

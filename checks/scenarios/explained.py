@@ -7,7 +7,7 @@ Both directions of a session are files, made by the scripts' own table of the co
 the file says: the number of each command, the field, and the section of RFC 5024. A session that breaks nothing prints nothing and has status 0.
 Each rule that the sources have is in a file. The last line is `N passed, M failed`.
 
-Shows: each rule of `explain` has a session that breaks it, found at its command, field and section, and one that breaks none; the standard's own
+Shows: each rule of `explain` has a session that breaks it, found at its command, field and section, and one that breaks none. The standard's own
 example breaks none
 """
 

@@ -3,14 +3,14 @@
 
     checks/scenarios/far_partners.py
 
-On this machine alone a connection is made at once, so nothing shows what a station does while one is being made. It tries: partners who are
-called by the clock while the session of another lasts, none of whom is connected before his turn; two stations whose clocks have them call each
-other, each with a file for the other; and look-ups beside a session with a partner who answers after a while. It wants a network namespace of its
-own (checks/lib/far.py). The last line is `N passed, M failed`.
+On this machine alone a connection is made at once, so nothing shows what a station does while one is being made. It tries partners who are called
+by the clock while the session of another lasts, none of whom is connected before his turn. It tries two stations whose clocks have them call each
+other, each with a file for the other. It tries look-ups beside a session with a partner who answers after a while. It wants a network namespace of
+its own (checks/lib/far.py). The last line is `N passed, M failed`.
 
 Shows: where a network namespace can be made: `run` with partners at a distance of a tenth of a second. Those whom the clock has it call are
-connected one after another, each once and each with his SSID at once, while the session of the first lasts for seconds; two whose clocks meet have
-each other's file; reports beside a session with a far partner
+connected one after another, each once and each with his SSID at once. That is while the session of the first lasts for seconds. Two whose clocks
+meet have each other's file. Reports are asked for beside a session with a far partner
 """
 
 import contextlib

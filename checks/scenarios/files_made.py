@@ -7,8 +7,8 @@ The program is stopped while it writes a file, and killed there. What only the s
 superuser, and otherwise reported as not tried. In addition, content longer than that of any file that is kept is submitted, in each format.
 The last line is `N passed, M failed`.
 
-Shows: the modes of all that the program makes, under several umasks; what a replaced file keeps; who owns a backup; drafts while they are written
-and after a kill, and those of another user; content that is too long, in each format
+Shows: the modes of all that the program makes, under several umasks, what a replaced file keeps, and who owns a backup. Drafts while they are
+written and after a kill, and those of another user; content that is too long, in each format
 """
 
 import fcntl
@@ -117,7 +117,7 @@ def replaced_as_it_was(room):
 
 
 def replaced_with_its_owner(room):
-    """The superuser keeps a file's owner and group; another user keeps its group, if he is a member, and otherwise gives the new group no
+    """The superuser keeps a file's owner and group. Another user keeps its group, if he is a member, and otherwise gives the new group no
     more permissions than everyone has."""
     if os.geteuid() != 0:
         raise NotTried("the superuser: files of other users")
@@ -151,8 +151,8 @@ def replaced_with_its_owner(room):
 
 
 def copied_as_the_database_is(room):
-    """A backup is readable by its user alone if the database is, and otherwise has the permissions of the database, whatever it replaces
-    and whatever the umask."""
+    """A backup is readable by its user alone if the database is. Otherwise it has the permissions of the database, whatever it replaces and
+    whatever the umask."""
     receive(room)
     for mask in MASKS:
         for mode in (0o600, 0o640, 0o660):

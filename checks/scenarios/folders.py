@@ -7,12 +7,12 @@ Each case has a database of its own, and all run at once, so it takes some thirt
 where the superuser runs this, who may write any. Only then are a subfolder and a file tried that are another user's. The last line is
 `N passed, M failed`.
 
-Shows: `collect` and `offer`: four of each at once, alone and beside a station; two folders for one partner at once, twelve times 30 files of the
-same names and times, alone, beside a station and with the same contents; two stations that collect into one folder; subfolders that are links,
-pipes or another user's; a folder that a reader locks, and a lock that is a link, a pipe, open to others or another user's; a call that is killed
-while its request waits for a session's end, and the next call; 10,000 files of others, and a name that is no text; a folder over which another
-command goes; a folder that can't be written, and a file that can't be read; files of an old database in `sent`, and of others in `refused`; for the
-superuser, another user's file in a sticky folder
+Shows: `collect` and `offer`: four of each at once, alone and beside a station. Two folders for one partner at once, twelve times 30 files of the
+same names and times. They are alone, beside a station and with the same contents. Two stations that collect into one folder; subfolders that are
+links, pipes or another user's. A folder that a reader locks, and a lock that is a link, a pipe, open to others or another user's. A call that is
+killed while its request waits for a session's end, and the next call. 10,000 files of others, and a name that is no text; a folder over which
+another command goes. A folder that can't be written, and a file that can't be read. Files of an old database in `sent`, and of others in `refused`;
+for the superuser, another user's file in a sticky folder
 """
 
 import fcntl
@@ -151,8 +151,8 @@ def several_beside_a_station(room):
 
 
 def two_folders(room, is_equal):
-    """Two that offer at once from two folders, for one partner, files of the same names and times: each file is handed in, also where both have
-    the same content."""
+    """Two that offer at once from two folders, for one partner, files of the same names and times. Each file is handed in, also if both have the
+    same content."""
     wanted = []
     for number in range(ROUNDS):
         folders = []
@@ -194,8 +194,8 @@ def two_folders_of_equal_files(room):
 
 
 def two_stations_that_collect(room):
-    """Two stations whose files have the same names, since they are one partner's with the same number, name and time, and collect into one
-    folder: the second one writes over nothing, and releases nothing."""
+    """Two stations whose files have the same names, since they are one partner's with the same number, name and time. They collect into one folder.
+    The second one writes over nothing, and releases nothing."""
     (room / "in").mkdir()
     kept = {}
     for number, destination in enumerate((OURS, ANOTHER)):
@@ -349,7 +349,7 @@ def killed_while_it_waits(database, command, *rest):
 
 
 def request_of_a_killed_offer(room):
-    """A file that a killed call has asked to be handed in, and that the station hands in behind the look-up of the next one, is put away."""
+    """A file that a killed call has asked to be handed in is put away. The station hands it in behind the look-up of the next one."""
     folder, octets = outgoing(room, 1)
     with Resident(room) as service:
         with partner_in(service):

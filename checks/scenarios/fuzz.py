@@ -5,35 +5,35 @@
 
         default: 20 seconds, another seed each time, and a process for each processor; --steps prints how often each step was made
 
-A life is a database, or a register in memory, and what is done to it: sessions in both roles with three partners, whose commands follow
-what the model of the station sends, with mistakes of every kind; and submissions, releases, refusals and fetches between them. The octets
-of a session are then changed here and there. Each time the octets out, the lines, the exit status and the tables have to be the model's.
-A life has a seed of its own. If something differs, the seed is printed, with all that was done in words, and `--seed N --sessions 1` plays
-that life again. The check goes on beyond its time until each step of the step tables was made, and until each thing was done that can be
-done beside a session or to it, unless `--sessions` gives their number. It fails if another five minutes leave one out.
+A life is a database, or a register in memory, and what is done to it. There are sessions in both roles with three partners, whose commands follow
+what the model of the station sends, with mistakes of every kind. Submissions, releases, refusals and fetches come between them. The octets of a
+session are then changed here and there. Each time the octets out, the lines, the exit status and the tables have to be the model's. A life has a seed
+of its own. If something differs, the seed is printed, with all that was done in words, and `--seed N --sessions 1` plays that life again. The check
+goes on beyond its time until each step of the step tables was made. Each thing that can be done beside a session or to it must have been done too,
+unless `--sessions` gives their number. It fails if another five minutes leave one out.
 
 There are three kinds of lives. In the first one the octets are given to `feed` in a file, or through a pipe in pieces of random sizes.
 
-In the second one the book is that of services that run from life to life: partners call that `listen` over a socket, and that `http` gets a
-request between two acts.
+In the second one the book is that of services that run from life to life. Partners call that `listen` over a socket, and that `http` gets a request
+between two acts.
 
-The third one is lived by one `run`, from its first act to its last. Partners call it, and it is asked to call them, and to read another book. The octets come in pieces.
-Between two pieces reports, fetches and requests have to show what the model has at that moment: once the station has said all that it has
-to, and also before, where it may be any of several. Orders (submissions, releases and refusals) have to wait for the session's end, and to be
-done then, in their order, unless the command is gone. An order beside a caller who isn't let in yet is done at once. Some sessions are cut
-off, by a close or by a reset: what is left has to be what the model had after the last change of which an octet of the answer was read, or
-after a later one. At the end the station is killed, or ended by SIGTERM, some within a session. A life in which one of several registers was
-left may go on otherwise when it is played again.
+The third one is lived by one `run`, from its first act to its last. Partners call it, and it is asked to call them, and to read another book. The
+octets come in pieces. Between two pieces reports, fetches and requests have to show what the model has at that moment. They do so once the station
+has said all that it has to, and also before, when it may be any of several. Orders (submissions, releases and refusals) have to wait for the
+session's end, and to be done then, in their order, unless the command is gone. An order beside a caller who isn't let in yet is done at once. Some
+sessions are cut off, by a close or by a reset. What is left has to be what the model had after the last change of which an octet of the answer was
+read. Or it is what the model had after a later one. At the end the station is killed, or ended by SIGTERM, some within a session. A life in which one
+of several registers was left may go on otherwise when it is played again.
 
 The memory and descriptors of services and stations at the end are compared with those at the beginning (checks/lib/staying.py). The last
 line is `N passed, M failed`, which counts sessions.
 
-Shows: random sessions in both roles with three partners, right, wrong, changed, cut and in pieces, and an operator's commands between them, for 20
-s (`--minutes N` for more): by `feed`, over sockets to services that stay, and in lives that one `run` lives from its first act to its last. Octets,
-lines, exit statuses and tables are those of a model that was written apart from the station's code (`checks/lib/model.py`). In the lives of `run`
-there are look-ups between two pieces of a session, by the commands and by HTTP, which show what the model has at that moment; orders within a
-session, which are done behind it in their order, or not at all if their command is gone; calls; and sessions that are closed, reset or end with a
-kill, after which the database has what the model had after the last answered change, or after a later one that was asked for
+Shows: random sessions in both roles with three partners, right, wrong, changed, cut and in pieces. An operator's commands come between them, for 20 s
+(`--minutes N` for more). The sessions are by `feed`, over sockets to services that stay, and in lives that one `run` lives from its first act to its
+last. Octets, lines, exit statuses and tables are those of a model that was written apart from the station's code (`checks/lib/model.py`). In the
+lives of `run` there are look-ups between two pieces of a session, by the commands and by HTTP. They show what the model has at that moment. Orders
+within a session are done behind it in their order, or not at all if their command is gone. There are calls; and sessions that are closed, reset or
+end with a kill. After these the database has what the model had after the last answered change, or after a later one that was asked for
 """
 
 import argparse
@@ -69,8 +69,8 @@ from talk import Talk, line_of, lines_of_a_cut, told_by_call
 STATIONS = [STATION] * 30 + ["O0013"]
 PARTNERS = {"O0177CARMAKER": "CARPW", "O0099OTHER": "", "A-(B&C)/D.9": "12345678"}
 SIZES = [0, 1, 2, 62, 63, 64, 65, 125, 126, 127, 250, 1023, 1024, 1025, 2047, 2048, 2049, 2500, 2500, 3000, 4096, 5000]
-# What has to occur: each step of the step tables, these answers and turns, these changes of a file's state, and what is done beside a session
-# or to it. If some of it hasn't when the time is up, sessions follow for at most this many seconds more.
+# What has to occur: each step of the step tables, these answers and turns, and these changes of a file's state. Also what is done beside a session or
+# to it. If some of it hasn't when the time is up, sessions follow for at most this many seconds more.
 LONGEST = 300
 # One call of `Played.play` uses fewer seeds than this.
 SEEDS = 10**7
@@ -96,8 +96,8 @@ class Differs(Exception):
 
 
 class Order(NamedTuple):
-    """An operator's command that changes something: its words, the octets of its file where it has one, and what it does to a register of
-    the model, which returns a number or refuses."""
+    """An operator's command that changes something: its words, and the octets of its file if it has one. Also what it does to a register of the
+    model, which returns a number or refuses."""
 
     act: str
     words: list
@@ -128,8 +128,8 @@ def draw_book(chance, is_whole=False):
 
 
 class Staying:
-    """The long-running services, each pair with a book, in the folder of a process for its lives. A seed determines the book. Beside them, the
-    ports of the stations that live there, one after another, and of each its callers, and by how many KiB its memory grew."""
+    """The long-running services, each pair with a book, in the folder of a process for its lives. A seed determines the book. Beside them are the
+    ports of the stations that live there, one after another. Of each there are its callers, and by how many KiB its memory grew."""
 
     def __init__(self, room, stack):
         self.room = room
@@ -556,8 +556,8 @@ class ResidentLife(Life):
                 self.chance.choice([self.stop_within, self.stop_within, self.look_up_at_once])(talk)
 
     def look_up_at_once(self, talk):
-        """A look-up while the station may not have heard all: it shows what the model had after the last change of which an answer was read, or
-        after a later one."""
+        """A look-up while the station may not have heard all. It shows what the model had after the last change of which an answer was read, or after
+        a later one."""
         talk.read_what_is_there()
         if not talk.session.end:
             self.told.append(f"    where {len(talk.got)} of {len(talk.wanted())} octets of answers were read:")

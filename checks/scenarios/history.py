@@ -4,11 +4,11 @@
     checks/scenarios/history.py [WORD ..]      all cases, or those whose names have one of these words
 
 Two stations send each other a file, release one and refuse the other. What `history` prints of each file is compared with what Python reads of the
-same events: the lines, the local time, and the state, which is the one in the reports. A file that is cut, foreign lines, lines of a later version,
-lines that are no UTF-8 and one that never ends stop nothing, and are counted. The last line is `N passed, M failed`.
+same events. It has the lines, the local time, and the state, which is the one in the reports. A file that is cut, foreign lines, lines of a later
+version, lines that are no UTF-8 and one that never ends stop nothing. They are counted. The last line is `N passed, M failed`.
 
-Shows: `history` of the files of two stations each way, with the local time, and what their states prove; `--json`; events that are damaged, foreign
-or of a later version; a number that no event has, and events that can't be read
+Shows: `history` of the files of two stations each way, with the local time, and what their states prove, and `--json`. Events that are damaged,
+foreign or of a later version; a number that no event has, and events that can't be read
 """
 
 import contextlib
@@ -148,7 +148,7 @@ def written(path, *lines):
 
 
 def damaged(room):
-    """A cut line at the end and within, garbage, octets that are no UTF-8, JSON that is no event, and a line that is too long."""
+    """A cut line at the end and within, garbage, and octets that are no UTF-8. Also JSON that is no event, and a line that is too long."""
     first, last = event("submitted"), event("sent")
     foreign = [b"garbage\n", b"\n", b"\xff\xfe\n", b'{"at":"2026', b"\n", b"[1]\n", b'{"at":1,"event":"sent","way":"out","no":1}\n', b"x" * 70000 + b"\n"]
     count = 7

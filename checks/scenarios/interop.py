@@ -6,7 +6,7 @@
 The script finds its partner by a code, passwords and an address, and has a command do what the partner's operator would do. The last line is `N passed,
 M failed`.
 
-Shows: examples/interop/play_a_day between two of ours: each step passes and no session has anything that RFC 5024 doesn't allow; without a partner
+Shows: examples/interop/play_a_day between two of ours: each step passes and no session has anything that RFC 5024 doesn't allow. Without a partner
 each step fails or isn't tried, and the report says so
 """
 

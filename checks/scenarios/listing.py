@@ -3,12 +3,12 @@
 
     checks/scenarios/listing.py [NAME ..]        files of rows/listing and cases below by their names; all if none is named
 
-A file of rows/listing has sessions and commands that fill a database, requests, and the expected replies (rows/README.md). The requests go
-to one process of `http` that runs all the time. In addition, each reply with content has to be the JSON text of what stock sqlite3 reads of
-the database, octet for octet, and each report is read by Python's `csv` and compared with the same. The last line is `N passed, M failed`;
-before it come the time and the memory of a listing of 10,000 files. The time has no bound.
+A file of rows/listing has sessions and commands that fill a database, requests, and the expected replies (rows/README.md). The requests go to one
+process of `http` that runs all the time. In addition, each reply with content has to be the JSON text of what stock sqlite3 reads of the database,
+octet for octet. Each report is read by Python's `csv` and compared with the same. The last line is `N passed, M failed`; before it come the time
+and the memory of a listing of 10,000 files. The time has no bound.
 
-Shows: files of requests and reports: each route with every state and response, octet for octet; heads that are cut, in pieces, long and crowded;
+Shows: files of requests and reports: each route with every state and response, octet for octet. Heads that are cut, in pieces, long and crowded;
 rows of the database that stand for no entry; texts of any characters, read back. It prints what a list of 10,000 files takes, and bounds its memory
 by four times its body, in addition to what the opening takes
 """

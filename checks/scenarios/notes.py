@@ -3,12 +3,11 @@
 
     checks/scenarios/notes.py [CASE ..]
 
-Each case is a command line that fails, is refused or ends a session. It is given three times: without `--notes`, where standard error has the
-`fault:` line alone or nothing; with `--notes`, where one note more is there; and with standard error on a pseudo-terminal, where the same note
-is there. The files beside it are the same each time. The note has to be the one that is written here, with its path, line, address, number or
-process, and has to have the form of one row of the table, under the line that the command prints. Each row has to be met by some case, but for
-those of UNMET, which say why. No note has a password of the book. `check --explain` prints all that a faulty book has, and the same line as `check`.
-The last line is `N passed, M failed`.
+Each case is a command line that fails, is refused or ends a session. It is given three times. Without `--notes`, standard error has the `fault:`
+line alone or nothing. With `--notes`, one note more is there. With standard error on a pseudo-terminal, the same note is there. The files beside it
+are the same each time. The note has to be the one that is written here, with its path, line, address, number or process. It has to have the form of
+one row of the table, under the line that the command prints. Each row has to be met by some case, but for those of UNMET, which say why. No note has
+a password of the book. `check --explain` prints all that a faulty book has, and the same line as `check`. The last line is `N passed, M failed`.
 """
 
 import os

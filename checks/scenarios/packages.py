@@ -3,15 +3,16 @@
 
     checks/scenarios/packages.py [--here] [WORD ..]       all cases, or those whose names have one of these words; with `--here` without that folder
 
-What the package has is compared with the tree and with what the program prints: its files and their modes, its units, a page for each command, each
-option in its page and in the completions. Without man the pages aren't printed, and without lintian it isn't asked. The folder is a Debian of its
-own, which debootstrap makes from the network. There the package is installed, the first day of the tutorial is typed as the station's user, and
-it is installed again, removed and purged: the data stay, unless whoever is asked says otherwise. The last line is `N passed, M failed`.
+What the package has is compared with the tree and with what the program prints. It has its files and their modes, its units, a page for each
+command, and each option in its page and in the completions. Without man the pages aren't printed, and without lintian it isn't asked. The folder is
+a Debian of its own, which debootstrap makes from the network. There the package is installed, and the first day of the tutorial is typed as the
+station's user. Then it is installed again, removed and purged: the data stay, unless whoever is asked says otherwise. The last line is `N passed, M
+failed`.
 
-Shows: the package of packaging/: the same octets twice; its files, modes, fields and units; a page for each command with its options, printed
-without a warning; completions of each command and option in bash; that without `--unproved` it is built from the program alone that was proved from
-these sources; what lintian says, where it is installed. Where debootstrap makes a Debian in a folder, it is installed there, the first day is typed
-as its user, zsh completes, and it is installed again, removed and purged: the data stay, unless the question of the purge is answered by yes. Its
+Shows: the package of packaging/: the same octets twice, its files, modes, fields and units. A page for each command with its options, printed
+without a warning, and completions of each command and option in bash. Without `--unproved` it is built from the program alone that was proved from
+these sources. What lintian says, if it is installed. Where debootstrap makes a Debian in a folder, it is installed there, the first day is typed as
+its user, and zsh completes. Then it is installed again, removed and purged: the data stay, unless the question of the purge is answered by yes. Its
 units are started by booted.py
 """
 
@@ -47,7 +48,7 @@ OPTION = re.compile(r"--[a-z][a-z-]*")
 # What the folder needs beside a least Debian: what makes the user and the folders, and a shell whose completions are tried.
 WANTED = ["systemd-standalone-sysusers", "systemd-standalone-tmpfiles", "zsh"]
 QUESTION = "INPUT high oftp-station/remove_data"
-# What has zsh say in a file that its prompt is there, complete a line by the tabulator, and write there what the line is then.
+# What has zsh say in a file that its prompt is there, and complete a line by the tabulator. It writes there what the line is then.
 ZSH = """autoload -U compinit; compinit -u
 zle-line-init() { print ready >> /completed }
 show() { zle complete-word; print -r -- "$BUFFER" >> /completed }

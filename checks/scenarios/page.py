@@ -11,14 +11,15 @@ lists, and `run` also the page. The browser resolves no address but this machine
 docs/howto/page.md is `--screenshot docs/page.png`, and nothing compares it. Without a browser nothing is tried. The last line is
 `N passed, M failed`; before it comes the time for 10,000 files.
 
-Shows: where there is a browser: the page without a file, with 30 in every state, with 10,000 and with hostile texts, with events and without, at
-1,280, 1,024, 400 and 320 pixels, light and dark, over made lists and over those of `http` and `run`. Its rows, words and sentences, and what is to be done: each state with a
-bound just before and just after it, a file that was seen closing for ten minutes, stamps that tell no age, files whose name was used again, and
-files that were refused as duplicates, with and without their response, also after a restore; that it says that there is nothing to do only where
-it has looked at all. With events the last change and the history of each file, sessions, and the last contact with each partner. Stamps by a browser in Berlin and in Mexico City, sizes, sorting by each column, the filter, details, and the command to copy. That all fits the window,
-that a file takes one line, and that texts, borders and the mark of the keyboard have the contrast that WCAG 2.1 wants; that nothing of a text runs,
-and that nobody else is asked; the keyboard, how it renews itself under somebody who types, sorts and scrolls, and what it says where it can't. It
-prints what 10,000 files take to draw, to filter and to sort, and bounds it
+Shows: where there is a browser: the page without a file, with 30 in every state, with 10,000 and with hostile texts. It is shown with events and
+without, at 1,280, 1,024, 400 and 320 pixels, and light and dark. It is over made lists and over those of `http` and `run`. Its rows, words and
+sentences, and what is to be done. Each state with a bound just before and just after it, and a file that was seen closing for ten minutes. Stamps
+that tell no age, and files whose name was used again. Files that were refused as duplicates, with and without their response, also after a restore.
+That it says that there is nothing to do only if it has looked at all. With events the last change and the history of each file, sessions, and the
+last contact with each partner. Stamps by a browser in Berlin and in Mexico City, sizes, sorting by each column, the filter, details, and the command
+to copy. That all fits the window, and that a file takes one line. That texts, borders and the mark of the keyboard have the contrast that WCAG 2.1
+wants. That nothing of a text runs, and that nobody else is asked. The keyboard, how it renews itself under somebody who types, sorts and scrolls,
+and what it says if it can't. It prints what 10,000 files take to draw, to filter and to sort, and bounds it
 """
 
 import argparse
@@ -153,8 +154,8 @@ READ_ROWS = """
     text("td.size, td.file"), part("td.size [title]")?.title ?? null, text(".words"), text(".detail"), body.className.split(" ")[0], text(".duty"),
     text("td.changed"), part("td.changed [title]")?.title ?? null];
 })"""
-# How far any visible element extends beyond the window, cells with more than their width, parts with more than their height, which lies over
-# others then, and names and partners that are cut off.
+# How far any visible element extends beyond the window, and cells with more than their width. Also parts with more than their height, which lies
+# over others then, and names and partners that are cut off.
 READ_OVERFLOW = """
 (() => {
   const root = document.scrollingElement;
@@ -247,8 +248,8 @@ def tiles_of(tab):
 
 
 def expect_shown(tab, lists, now, zone="UTC", is_cut=False):
-    """Each list is shown as the model says, all of it or as far as it is drawn; so is the summary, and all of it fits the window, and can be
-    told from what surrounds it. Only a name that no protocol allows may be cut off."""
+    """Each list is shown as the model says, all of it or as far as it is drawn, and so is the summary. All of it fits the window, and can be told
+    from what surrounds it. Only a name that no protocol allows may be cut off."""
     found = page_lists.items(lists, now, zone)
     wanted = page_lists.shown(lists, now, zone)
     for view in lists.views:
@@ -335,8 +336,8 @@ def every_state(browser, picture):
 
 
 def one_line_a_file(browser, _picture):
-    """In a wide window a file about which nobody has to do anything takes one line, unless its partner has a very long code, and only the others
-    have a sentence."""
+    """In a wide window a file about which nobody has to do anything takes one line, unless its partner has a very long code. Only the others have a
+    sentence."""
     now = utc_now()
     with Server(page_lists.in_every_state(30, now)) as server, opened(browser, server, WIDE[0]) as tab:
         for view in ("in", "out"):
@@ -363,7 +364,7 @@ def sizes(browser, _picture):
 
 
 def late_by_age(browser, picture):
-    """In each state that has a bound a file is late from that age on, and not before; the page tells the bound, and how old the oldest is."""
+    """In each state that has a bound a file is late from that age on, and not before. The page tells the bound, and how old the oldest is."""
     now = utc_now()
     rules = {
         "open": lambda lists, age: lists.came("open", age=age, now=now),
@@ -397,7 +398,7 @@ def late_by_age(browser, picture):
 
 
 def of_unknown_age(browser, picture):
-    """A file whose stamp is no date, or is ahead of every clock, isn't late; the page says that its age wasn't looked at, and which file it is."""
+    """A file whose stamp is no date, or is ahead of every clock, isn't late. The page says that its age wasn't looked at, and which file it is."""
     now = utc_now()
     lists = Lists()
     for date, time_of_day in (("20240230", "0600000001"), ("20241301", "0600000001"), ("20240115", "2400000001"), ("20240115", "0660600001")):
@@ -418,7 +419,7 @@ def of_unknown_age(browser, picture):
 
 
 def never_nothing_to_do(browser, _picture):
-    """Without events the page never says that there is nothing to do: it hasn't looked at whether partners are reached, and says so, whatever the
+    """Without events the page never says that there is nothing to do. It hasn't looked at whether partners are reached, and says so, whatever the
     files are."""
     now = utc_now()
     done = Lists()
@@ -519,7 +520,7 @@ def pressed_copy(tab):
 
 
 def details(browser, picture):
-    """A click on a row, or its button, opens all that is known of a file, and closes it again; to mark a text in it doesn't."""
+    """A click on a row, or its button, opens all that is known of a file, and closes it again. To mark a text in it doesn't."""
     now = utc_now()
     lists = page_lists.in_every_state(30, now)
     gone = page_lists.items(lists, now)
@@ -759,7 +760,7 @@ def filter_is_kept(browser, _picture):
 
 
 def filtered_by_day(browser, _picture):
-    """From a day to a day finds the files with such a stamp, as it is shown; a file without a date is of no day."""
+    """From a day to a day finds the files with such a stamp, as it is shown. A file without a date is of no day."""
     lists = Lists()
     for date in ("20260714", "20260715", "20260715", "20260716", "20260230"):
         lists.came(date=date, time="2330000001")
@@ -794,7 +795,7 @@ def set_value(tab, control, value):
 
 
 def renews_itself(browser, _picture):
-    """The page renews itself: rows that say the same stay, what is open stays open, and the row and the field in use keep their place."""
+    """The page renews itself. Rows that say the same stay, what is open stays open, and the row and the field in use keep their place."""
     now = utc_now()
     with Server(page_lists.in_every_state(60, now)) as server, opened(browser, server, WIDE[0]) as tab:
         tab.value('document.querySelectorAll(".open")[4].click()')
@@ -822,8 +823,8 @@ def renews_itself(browser, _picture):
 
 
 def keeps_what_is_in_use(browser, _picture):
-    """While somebody types, sorts and scrolls, the page renews itself under it: half a date, a text, its order and its place are as before, also
-    where the row with the keyboard changes or moves, and where others go."""
+    """While somebody types, sorts and scrolls, the page renews itself under it. Half a date, a text, its order and its place are as before. So they
+    are if the row with the keyboard changes or moves, and if others go."""
     now = utc_now()
     with Server(page_lists.in_every_state(60, now)) as server, opened(browser, server, WIDE[0]) as tab:
         choose(tab, "out")
@@ -902,7 +903,7 @@ def says_when_it_cannot(browser, picture):
 
 
 def by_keyboard(browser, _picture):
-    """Everything can be done by keyboard, with a mark that can be seen; each control has a name, and a table has its role at any width."""
+    """Everything can be done by keyboard, with a mark that can be seen. Each control has a name, and a table has its role at any width."""
     now = utc_now()
     bare = page_lists.in_every_state(30, now)
     for shown in (bare, page_lists.with_events(page_lists.in_every_state(30, now), now)):
@@ -1121,8 +1122,8 @@ def closing_for_long(browser, _picture):
 
 
 def with_events(browser, picture):
-    """30 files each way in all states, sessions and partners, as the events and the status tell them: each row, in a light and in a dark scheme, and
-    all that is known of a file, with its history."""
+    """30 files each way in all states, sessions and partners, as the events and the status tell them. Each row is shown, in a light and in a dark
+    scheme, and all that is known of a file, with its history."""
     now = utc_now()
     lists = page_lists.with_events(page_lists.in_every_state(30, now), now)
     found = page_lists.items(lists, now)
@@ -1182,7 +1183,7 @@ def late_by_events(browser, _picture):
 
 
 def nothing_to_do_where_looked(browser, picture):
-    """"Nothing to do" is said only where events and the status were looked at, and neither a file, nor a response, nor a partner needs anybody. A
+    """"Nothing to do" is said only if events and the status were looked at. Then neither a file, nor a response, nor a partner needs anybody. A
     partner who isn't reached, or with whom the last session failed, is to do until a session ends in order."""
     now = utc_now()
     minute = timedelta(minutes=1)
@@ -1224,7 +1225,7 @@ def nothing_to_do_where_looked(browser, picture):
 
 
 def events_come_and_go(browser, _picture):
-    """Events that are there from a later start on are shown once they are, and no more once they are gone: then the page shows no list of them."""
+    """Events that are there from a later start on are shown once they are, and no more once they are gone. Then the page shows no list of them."""
     now = utc_now()
     told = page_lists.with_events(page_lists.in_every_state(8, now), now)
     bare = Lists(told.incoming, told.outgoing, told.issued, told.received)
@@ -1247,7 +1248,7 @@ def events_come_and_go(browser, _picture):
 
 
 def sorted_by_change(browser, _picture):
-    """Where there are events the lists are sorted by the last change, too, and the filter by days finds a file by the days of its changes."""
+    """If there are events the lists are sorted by the last change, too. The filter by days finds a file by the days of its changes."""
     now = utc_now()
     lists = page_lists.with_events(page_lists.in_every_state(30, now), now)
     found = page_lists.items(lists, now)

@@ -3,21 +3,21 @@
 
     checks/scenarios/play_rows.py [ROW ..]        rows by their names; all if none is named
 
-A row is a text file: sessions, as the frames of both sides in the order in which a partner sees them, operator's commands, and what is left
-in the database (rows/README.md). Each row is played over a database in three ways: each session's octets come from a file in one piece;
-from a pipe that gives one octet at each read; and as a conversation, in which the partner waits for each answer before it goes on. What is
-left has to be a register, the same in each way, and the one in the row. A row of only one session is played in each way over a register in
+A row is a text file (rows/README.md). It has sessions, as the frames of both sides in the order in which a partner sees them. It has operator's
+commands, and what is left in the database. Each row is played over a database in three ways. Each session's octets come from a file in one piece;
+or from a pipe that gives one octet at each read. Or they come as a conversation, in which the partner waits for each answer before it goes on. What
+is left has to be a register, the same in each way, and the one in the row. A row of only one session is played in each way over a register in
 memory too.
 
-Each row that has no error of the book or the database is also lived by one `run`, which the operator's commands ask between the sessions,
-three times: the octets come in pieces of one octet, of 7 and of 100. Behind each piece, once its answers are there, something is looked up
-over HTTP or through the socket for commands, and shows what the model of a station has at that moment (checks/lib/model.py). The last line
-is `N passed, M failed`.
+Each row that has no error of the book or the database is also lived by one `run`, three times. The operator's commands ask it between the sessions,
+and the octets come in pieces of one octet, of 7 and of 100. Behind each piece, once its answers are there, something is looked up over HTTP or
+through the socket for commands. It shows what the model of a station has at that moment (checks/lib/model.py). The last line is `N passed, M
+failed`.
 
-Shows: the rows, each in one piece, octet by octet and as a conversation, against the script's own table of the commands: over a database, and those
-of one session in memory too. Stock sqlite3 reads what is left. Those without an error of the book or the database are lived by one `run` too, in
-pieces of one octet, of 7 and of 100, with the operator's commands between the sessions. A look-up behind each piece (behind each seventh of more
-than 300) shows what the model has
+Shows: the rows, each in one piece, octet by octet and as a conversation, against the script's own table of the commands. They are over a database,
+and those of one session in memory too. Stock sqlite3 reads what is left. Those without an error of the book or the database are lived by one `run`
+too. They are in pieces of one octet, of 7 and of 100, with the operator's commands between the sessions. A look-up behind each piece (behind each
+seventh of more than 300) shows what the model has
 """
 
 import os

@@ -6,10 +6,10 @@
 Each case has a database, a folder and a program of its own, and all run at once, so it takes some fifteen seconds. The last line is
 `N passed, M failed`.
 
-Shows: `oftp-process`: a file by each exit status of the program that gets it, alone and beside a station, with files of another partner and
-answered ones; the text of a refusal, cut, without controls and in UTF-8; names and codes with slashes; a file that the program moves or changes; a
-station that isn't reached once the program has said something; a verdict on a file that an operator has answered before or meanwhile, and what is
-no verdict; two at once; a program that outlives the script; bad words, and a book, a partner or a program that isn't there
+Shows: `oftp-process`: a file by each exit status of the program that gets it, alone and beside a station. It comes with files of another partner
+and answered ones. The text of a refusal, cut, without controls and in UTF-8; names and codes with slashes. A file that the program moves or
+changes; a station that isn't reached once the program has said something. A verdict on a file that an operator has answered before or meanwhile,
+and what is no verdict. Two at once; a program that outlives the script; bad words, and a book, a partner or a program that isn't there
 """
 
 import subprocess
@@ -136,7 +136,8 @@ def station_that_is_not_reached(room):
 
 
 def verdict_on_an_answered_file(room):
-    """What a kill has left of a file that an operator has answered is removed: what was collected, what the program got, and the verdict on it."""
+    """What a kill has left of a file that an operator has answered is removed. It is what was collected, what the program got, and the verdict
+    on it."""
     site = Site(room, [GOOD])
     name = f"0000001_GOOD.1_20240131_0800000001_{CARMAKER}"
     left = [site.folder / folder / name for folder in ("collected", "taken", "verdicts")]

@@ -5,13 +5,13 @@
 
 The last line is `N passed, M failed`.
 
-Shows: what a station recorded, played over a new database, gives the tables that the station has, read by stock sqlite3: after sessions with a
-partner who calls and who is called, with files both ways, after operators' commands and after a book that was read again, and after SIGKILL between
-any two octets of sessions and within commands, with a start again each time. It goes on from a backup. A record that is cut off, or in which an
-octet was changed, is told, and so is a database that isn't the station's. A station goes on behind the last whole entry. One that can't write its
-record ends with `fault: 7 file`. What commands without a station, `listen` and `call` record gives their tables, too, also after a kill of commands.
-The register is marked each hour if no session goes on, and as a copy of the database is made. A part of a record is played from an entry, up to an
-entry. `explain` shows what isn't to be seen in a changed record by its escape
+Shows: what a station recorded, played over a new database, gives the tables that the station has, read by stock sqlite3. That is after sessions
+with a partner who calls and who is called, with files both ways. It is after operators' commands and after a book that was read again. It is after
+SIGKILL between any two octets of sessions and within commands, with a start again each time. It goes on from a backup. A record that is cut off, or
+in which an octet was changed, is told, and so is a database that isn't the station's. A station goes on behind the last whole entry. One that can't
+write its record ends with `fault: 7 file`. What `listen`, `call` and commands without a station record gives their tables, too, also after kills of
+commands. The register is marked each hour if no session goes on, and before a backup. A part of a record is played from an entry, and up to one.
+`explain` shows what isn't to be seen in a changed record by its escape
 """
 
 import contextlib
@@ -157,7 +157,7 @@ def two_stations(room):
 
 
 def book_read_again(room):
-    """A session by a book that the station has read again is played by that one, and what isn't done of a resend isn't done again."""
+    """A session by a book that the station has read again is played by that one. What isn't done of a resend isn't done again."""
     first, book, file = room / "first", room / "book", room / "file"
     first.write_text(BOOK.read_text().replace(CARMAKER, "O0188CARMAKER"))
     shutil.copyfile(first, book)

@@ -5,9 +5,9 @@
 
 The last line is `N passed, M failed`.
 
-Shows: what tcpdump captured of a day between two stations, with files of each format both ways, transfers that break and go on, and responses, gives
-a record that `replay` plays to the same octets and to the same reports; by a book of which the product's octets aren't, `replay` tells the first
-entry that differs; segments that come twice, late or in part give the same record; what a capture lacks is told, and what is none is refused
+Shows: what tcpdump captured of a day between two stations gives a record. It has files of each format both ways, transfers that break and go on, and
+responses. `replay` plays the record to the same octets and to the same reports. By a book of which the product's octets aren't, `replay` tells the
+first entry that differs. Segments that come twice, late or in part give the same record. What a capture lacks is told, and what is none is refused
 """
 
 import contextlib

@@ -8,15 +8,15 @@ Each case has a port and a database of its own, and all run at once, so it takes
 Shows: `run` as a process. Its lines; the order of its faults. Each command asks it, 40 at once and with 64 MiB, also one that comes while it opens
 its database. A fetch is answered by octets, and no file is made. A stale socket, its mode, a file in its place, a long path, a link. Two stations
 over one database, one that waits for it, and four that begin at once. Requests of commands that are none, cut, dripping or never taken; 100 silent
-commands and callers. 90 who ask by HTTP, of whom 64 are kept; a reply that is longer than the buffers, and isn't read; the hosts that may be named,
-also at other addresses. At each of its three sockets: what is meant for another one, zeros, anything at all, halves and resets, 20 who drip, 80 who
-are silent. Callers who aren't let in, one who begins the longest of frames, 140 with a partner behind them, and one who is let in after the long
-session of another. A partner who falls silent, one whose pauses are long together, one who takes no octet of his file, partners who don't close.
-Look-ups between two halves of a frame, also of an outgoing file; what changes something, copies or calls waits for the end of a session, longer
-than ten seconds. A backup, what is done while its command copies, and one that copies too long or is gone. Calls of a partner who is there, leaves,
-is silent, isn't there, doesn't answer, or calls itself at the same moment; two stations and three in a circle whose calls meet, by commands and by
-their clocks. Calls by the clock, of several partners and for a file that isn't confirmed; a trace. SIGKILL before each command is heard, within a
-call, and among 8 who submit and 8 who fetch, release and refuse; SIGTERM within a session. Answers that end at each octet or are none
+commands and callers. 90 who ask by HTTP, of whom 64 are kept, and a reply that is longer than the buffers, and isn't read. The hosts that may be
+named, also at other addresses. At each of its three sockets: what is meant for another one, zeros, anything at all, halves and resets. There are 20
+who drip, and 80 who are silent. Callers who aren't let in, one who begins the longest of frames, and 140 with a partner behind them. One who is let
+in after the long session of another. A partner who falls silent, one whose pauses are long together, one who takes no octet of his file, partners who
+don't close. Look-ups between two halves of a frame, also of an outgoing file. What changes something, copies or calls waits for the end of a session,
+longer than ten seconds. A backup, what is done while its command copies, and one that copies too long or is gone. Calls of a partner who is there,
+leaves, is silent, isn't there, doesn't answer, or calls itself at the same moment. Two stations and three in a circle whose calls meet, by commands
+and by their clocks. Calls by the clock, of several partners and for a file that isn't confirmed; a trace. SIGKILL before each command is heard,
+within a call, and among 8 who submit and 8 who fetch, release and refuse; SIGTERM within a session. Answers that end at each octet or are none
 """
 
 import contextlib
@@ -51,8 +51,8 @@ from services import BOOK, CARMAKER, LONG, NotTried, Resident, Service, Wrong, a
 
 # What may be added to any time on a machine with other work.
 SOON = 25
-# The seconds of a patience or an admission, where what is done within it takes no time: a machine with other work has stopped all of this
-# for nine seconds.
+# The seconds of a patience or an admission, if what is done within it takes no time. A machine with other work has stopped all of this for nine
+# seconds.
 PATIENT = 12
 READY = b"1"
 # The KiB that may be made before a partner reads: 2 MiB, 32 DATA of 16,384 octets, and room to copy both.
@@ -237,8 +237,8 @@ def long_name(room):
 
 
 def second_station_takes_over(room):
-    """A station that waits for the database of another one has it once that one is killed, with its socket, under another name of the database
-    too."""
+    """A station that waits for the database of another one has it once that one is killed, with its socket. So it does under another name of the
+    database too."""
     link = room / "link"
     with Resident(room) as first:
         link.symlink_to(first.database)
@@ -679,7 +679,7 @@ def who_waits_at_the_last_job(room):
 
 
 def who_comes_at_the_last_job(room):
-    """Of five commands that come at once to a station of one job each is done or told that the station ends, also one that was never accepted."""
+    """Of five commands that come at once to a station of one job each is done or told that the station ends. So is one that was never accepted."""
     file = room / "file"
     file.write_bytes(b"A")
     for number in range(8):
@@ -697,8 +697,7 @@ def who_comes_at_the_last_job(room):
 
 
 def callers_in_their_order(room):
-    """Callers who are let in during a session are served in the order in which they were, and one who isn't keeps none of those behind him
-    waiting."""
+    """Callers who are let in during a session are served in the order in which they were. One who isn't keeps none of those behind him waiting."""
     octets = ONE_OCTET.joined("in")
     names = [b"ASN.%04d" % number for number in range(1, 9)]
     with Resident(room, "--admission", "600") as service, contextlib.ExitStack() as stack, service.caller() as first:
@@ -782,8 +781,8 @@ def false_octets_at_each_socket(room):
 
 
 def slow_callers_at_each_socket(room):
-    """Callers who drip what is right, an octet at a time, delay nobody, at each of the three sockets; and each is heard in the end, a request
-    where it comes within its ten seconds."""
+    """Callers who drip what is right, an octet at a time, delay nobody, at each of the three sockets. Each is heard in the end, a request if it comes
+    within its ten seconds."""
     port = free_port()
     with Resident(room, "--http-port", str(port), "--admission", "600") as service, contextlib.ExitStack() as stack:
         begin = time.monotonic()
@@ -811,8 +810,8 @@ def drip(callers, at, end):
 
 
 def silent_callers_at_each_socket(room):
-    """Eighty callers who say nothing at each of the three sockets, more than there are places for commands and for requests: whoever comes
-    behind them is served, a request once the others' ten seconds are over."""
+    """Eighty callers who say nothing at each of the three sockets, more than there are places for commands and for requests. Whoever comes behind
+    them is served, a request once the others' ten seconds are over."""
     port = free_port()
     with Resident(room, "--http-port", str(port), "--admission", "600") as service, contextlib.ExitStack() as stack:
         for connect in callers_of(service, port).values():
@@ -822,7 +821,7 @@ def silent_callers_at_each_socket(room):
 
 
 def partner_who_reads_nothing(room):
-    """A partner who is let in, asks for the file that waits for it and takes nothing of it has the patience, and the station goes on."""
+    """A partner who is let in, asks for the file that waits for it and takes nothing of it has the patience. The station goes on."""
     port = free_port()
     book, file = room / "book", room / "file"
     book.write_text(one_file.BOOK.format(buffer=16384, credit=99))
@@ -1094,7 +1093,7 @@ def partner_who_does_not_answer(room):
         within(begin, PATIENT, "the call")
 
 
-# Codes in their order, and those who call the one behind them, the last one the first: two are each other's partner, three stand in a circle.
+# Codes in their order, and those who call the one behind them, the last one the first. Two are each other's partner, three stand in a circle.
 CIRCLE = ["O0001LEAST", "O0002MIDDLE", "O0003GREATEST"]
 ENDS = [(0, b"end: own 00\n", b""), (0, b"end: partner 00\n", b"")]
 
@@ -1396,7 +1395,7 @@ def clock_of_several_partners(room):
 
 
 def clock_of_who_only_calls(room):
-    """By its clock the station never calls a partner from whom it only receives, though a response is due to him, and calls him once his mode is
+    """By its clock the station never calls a partner from whom it only receives, though a response is due to him. It calls him once his mode is
     another one."""
     with socket.create_server(("127.0.0.1", 0)) as partner:
         book = book_with(room, f"127.0.0.1:{partner.getsockname()[1]}")
@@ -1503,7 +1502,7 @@ def slow_requests(room):
 
 
 def host_of_all_addresses(room):
-    """Where all addresses are bound, a request may name the one that it came to, also one of IPv4 that came to a socket of IPv6."""
+    """If all addresses are bound, a request may name the one that it came to. So may one of IPv4 that came to a socket of IPv6."""
     own = port_of_ipv6("the hosts that a request to any address may name")
     expect_hosts(room, "::", own, "127.0.0.1", "127.0.0.1:80", "[::ffff:127.0.0.1]", "localhost", called="127.0.0.1")
 
@@ -1804,8 +1803,8 @@ def false_station(room, answer):
 
 
 def answers_that_are_cut(room):
-    """A command whose station is gone within its answer, at any octet, or answers what is none, says that it is gone: no line but a report's
-    is printed, and no file is made."""
+    """A command whose station is gone within its answer, at any octet, or answers what is none, says that it is gone. No line but a report's is
+    printed, and no file is made."""
     (room / "file").write_bytes(b"A")
     with_files(room, 1)
     whole = READY + struct.pack(">BI", CONTENT, 2) + b"AB" + ended(1)
@@ -1821,7 +1820,7 @@ def answers_that_are_cut(room):
 
 
 def killed_while_files_are_answered(room):
-    """Of files that are fetched, released and refused while the station is killed, each response that a command confirmed is there, once, and none that
+    """Files are fetched, released and refused while the station is killed. Each response that a command confirmed is there, once, and none that
     nobody asked for; what was fetched is whole."""
     files = 60
     with_files(room, files)
@@ -1888,7 +1887,7 @@ def submitted_until_a_kill(room, tried):
 
 def killed_while_files_are_submitted(room):
     """What was answered before a kill is there, and each command was answered or says that it isn't known. A command that begins after the kill does
-    without a station, so on a busy machine a kill may cut none off: then the next station is killed."""
+    without a station, so on a busy machine a kill may cut none off. Then the next station is killed."""
     answered, failed = [], []
     for tried in range(20):
         more_answered, more_failed = submitted_until_a_kill(room, tried)

@@ -13,9 +13,9 @@ same, and to want to be told the time at the same moment. A list where they diff
 Without the program nothing is tried, and it says so. The check goes on beyond its time until each action was ordered, with each reason that it
 may have. The last line is `N passed, M failed`, in rows, and lists of events.
 
-Shows: the rows of rows/schedule, and random lists of events for 10 s (`--seconds N` for more), over the program of crates/oftp_test_schedule and
-over a model that was written apart from the schedule's code (`checks/lib/schedule_model.py`): each action, and each moment at which it wants to be
-told the time
+Shows: the rows of rows/schedule, and random lists of events for 10 s (`--seconds N` for more). They are over the program of
+crates/oftp_test_schedule and over a model that was written apart from the schedule's code (`checks/lib/schedule_model.py`). Compared are each
+action, and each moment at which it wants to be told the time
 """
 
 import argparse

@@ -1,11 +1,10 @@
 #!/bin/bash
-# Checks the units of examples/service by systemd-analyze, if that is installed: systemd reads them, each service's exposure is below 3, and the name
+# Checks the units of examples/service by systemd-analyze, if that is installed. systemd reads them, each service's exposure is below 3, and the name
 # of a unit for a partner gives back the partner's code. The options that are shown for the station's unit are options of `run`, and the unit of a
-# call has `--fail`. The last line is `N passed, M failed`.
-# They are started by booted.py.
+# call has `--fail`. The last line is `N passed, M failed`. They are started by booted.py.
 #
-# Shows: the units of examples/service as systemd reads them, where it is installed, the exposure of each service, which is below 3, the options that
-# are shown for the station's unit, `--fail` in that of a call, and the names of units for codes that have to be escaped
+# Shows: the units of examples/service as systemd reads them, where it is installed, and the exposure of each service, which is below 3. The options
+# that are shown for the station's unit, and `--fail` in that of a call. The names of units for codes that have to be escaped
 set -euo pipefail
 root=$(cd "$(dirname "$0")/../.." && pwd)
 service=$root/examples/service
@@ -69,7 +68,8 @@ fails_with_its_session() {
     grep -q '^ExecStart=.* call .* --fail\( \|$\)' "$service/oftp-call@.service"
 }
 
-# The command that the comment of a unit for partners gives for a code names an instance of it, whose %I is that code, and the service passes %I on.
+# The command that the comment of a unit for partners gives for a code names an instance of it. The %I of that is the code, and the service passes %I
+# on.
 leads_to_partner() {
     local name=$1 kind=$2 code=$3 command unit
     command=$(grep -o "\"$name@[^\"]*\.$kind\"" "$service/$name@.$kind" | head -n 1) || return

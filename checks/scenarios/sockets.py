@@ -6,8 +6,8 @@
 Some of the callers are slow, silent, gone, or send on after the end. Each case has a port and a database of its own, and all run in
 parallel, so it takes some twenty seconds. The last line is `N passed, M failed`.
 
-Shows: `listen`, `call` and `http` as processes: callers who are slow, silent, gone or reset; 1 MiB after the station's ESID; 200 connections; heads
-in pieces; a port in use; no descriptor for a caller, for the database of a partner or of a request; requests that open no database; SIGTERM within
+Shows: `listen`, `call` and `http` as processes: callers who are slow, silent, gone or reset. 1 MiB after the station's ESID; 200 connections; heads
+in pieces. A port in use; no descriptor for a caller, for the database of a partner or of a request; requests that open no database. SIGTERM within
 a session; a service that is suspended again and again; an operator while the services run
 """
 
@@ -107,8 +107,8 @@ def sessions_one_after_another(room):
 
 
 def rows_over_loopback(room):
-    """Two callers at once, which send all that two rows have and then nothing more: each reads what its row has, and the tables are those
-    of both."""
+    """Two callers at once, which send all that two rows have and then nothing more. Each reads what its row has, and the tables are those of
+    both."""
     rows = [row_of("receiving/empty_file"), row_of("listening/repeated_end_response")]
     with Service(room, "listen", "--sessions", "2") as service:
         callers = [service.caller() for _ in rows]
@@ -359,7 +359,7 @@ def no_descriptor_for_the_database(room):
 
 
 def no_descriptor_at_all(room):
-    """Where no descriptor is left to a service, a partner who is let in waits for one, ten seconds at most, and the service goes on."""
+    """If no descriptor is left to a service, a partner who is let in waits for one, ten seconds at most. The service goes on."""
     steps, end = steps_of("receiving/one_octet")
     with Service(room, "listen", "--sessions", "2") as service:
         before = resource.prlimit(service.program.pid, resource.RLIMIT_NOFILE)
@@ -521,7 +521,7 @@ def calls(room):
 
 
 def row_over_loopback(room):
-    """The station calls a partner that sends all of a row at once: it sends what the row has, and the tables are those of the row."""
+    """The station calls a partner that sends all of a row at once. It sends what the row has, and the tables are those of the row."""
     row = row_of("sending/three_octets_out")
     *before, session = row.acts
     for act in before:
@@ -660,8 +660,8 @@ def listing_of_a_held_database(room):
 
 
 def requests_that_ask_no_database(room):
-    """Octets that aren't a request, a target without a route and another method on a list are answered while another process locks the
-    database, and so without it."""
+    """Octets that aren't a request, a target without a route and another method on a list are answered while another process locks the database. So
+    they are answered without it."""
     with Service(room, "http", "--requests", "11") as service:
         expect_reply(ask(service, b"GET /out/1 HTTP/1.1\r\n\r\n"), b"404", None)
         with held(service.database):

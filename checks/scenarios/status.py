@@ -211,7 +211,7 @@ def only_where_they_are(room):
 
 
 def events_over_http(room):
-    """GET /events tells the whole last lines of the file, up to 1 MiB, within a session too; where there is no file it is an unknown target."""
+    """GET /events tells the whole last lines of the file, up to 1 MiB, within a session too. If there is no file it is an unknown target."""
     port, path = free_port(), room / "events"
     line = b'{"made": "up"}\n\n'
     contents = [b"", line, b"cut", line + b"cut", line * 65_536, b"x\n" + line * 65_536, b"x" + line * 65_536, line * 65_536 + b"cut", b"x" * 2 * MOST]

@@ -3,8 +3,8 @@
 
     checks/scenarios/stock_sqlite.py
 
-The tables below are those of a station's database; the SQL that makes them is generated from these lines, and not taken from the station's
-code. What a viewer adds is removed by the commands of docs/howto/troubleshooting.md. The last line is `N passed, M failed`.
+The tables below are those of a station's database. The SQL that makes them is generated from these lines, and not taken from the station's code.
+What a viewer adds is removed by the commands of docs/howto/troubleshooting.md. The last line is `N passed, M failed`.
 
 Shows: stock sqlite3 finds the tables, with the columns and keys that the script has of its own, and no error in them. Another program's database,
 of each kind, is refused and left as it was. So is one of schema 1 by each command that only opens it, until it is migrated. A view, an index and

@@ -3,14 +3,14 @@
 
     checks/scenarios/strangers.py [WORD ..]       all cases, or those whose names have one of these words
 
-They delay no partner for longer than the time that a caller has to be admitted, and no operator at all: no database is opened for them. A
-partner that was admitted has a time limit, too. Each case has a port and a database of its own, and all run in parallel, so it takes some
-thirty seconds. Each wait has a limit, so that it takes little longer with a station that sends, ends or prints nothing. The last line is
-`N passed, M failed`.
+They delay no partner for longer than the time that a caller has to be admitted. They delay no operator at all: no database is opened for them. A
+partner that was admitted has a time limit, too. Each case has a port and a database of its own, and all run in parallel, so it takes some thirty
+seconds. Each wait has a limit, so that it takes little longer with a station that sends, ends or prints nothing. The last line is `N passed, M
+failed`.
 
-Shows: `listen` with callers who aren't let in: 1,000 who say nothing, a hundred at a time and one each hundredth of a second, a hundred with a
-wrong password, ones who drip. A partner with a password is served within one admission, no database is opened, and what the rows have is answered
-however it is cut. A caller who says nothing where no admission is given, a session and a call that take too long
+Shows: `listen` with callers who aren't let in: 1,000 who say nothing, a hundred at a time and one each hundredth of a second. A hundred with a
+wrong password, and ones who drip. A partner with a password is served within one admission, no database is opened, and what the rows have is
+answered however it is cut. A caller who says nothing where no admission is given, a session and a call that take too long
 """
 
 import collections
@@ -34,7 +34,7 @@ from services import BOOK, CARMAKER, Service, Wrong, expect
 # How many callers are silent in all, and how many of them at once.
 STRANGERS = 1000
 AT_ONCE = 100
-# The seconds that they have to be admitted, the longer time that some cases need, however loaded the machine is, and what they have where
+# The seconds that they have to be admitted, and the longer time that some cases need, however loaded the machine is. Also what they have if
 # nothing is said.
 ADMISSION = 2
 LONG_ADMISSION = 12

@@ -3,9 +3,9 @@
 
     checks/scenarios/traces.py
 
-A partner that this script plays sends commands of each kind over sockets to `listen --trace`: good ones, and ones of which each field is
-spoiled, cut off or followed by other octets. Each line must name the command, the field, its place, what it has and what it may have. `show`
-must tell the same of the octets in a file. DATA are one line between two answers, a character that can't be seen is an escape, times are those of
+A partner that this script plays sends commands of each kind over sockets to `listen --trace`. They are good ones, and ones of which each field is
+spoiled, cut off or followed by other octets. Each line must name the command, the field, its place, what it has and what it may have. `show` must
+tell the same of the octets in a file. DATA are one line between two answers, and a character that can't be seen is an escape. Times are those of
 UTC with six digits of the second, a file that is there is written on, and no password is told. The last line is `N passed, M failed`.
 """
 
@@ -29,8 +29,8 @@ from services import BOOK, LONG, Service, Wrong, expect, rest_of
 # What a partner's SSID has, and must never be told.
 PASSWORD = "SECRETPW"
 TEXT = 'no "room"\\'.encode()
-# Characters that no terminal shows: separators, format characters, controls, a space that isn't U+0020, one of a private use, and two marks
-# that programs may leave out.
+# Characters that no terminal shows: separators, format characters, controls, and a space that isn't U+0020. Also one of a private use, and two
+# marks that programs may leave out.
 UNSEEN = "\u2028\u2029\u200b\u200d\u202e\u2066\ufeff\u00ad\u00a0\u3000\x1b\x00\x7f\x85\ue000\U000e0041\u034f\ufe0f"
 SEEN = "Größe 7 漢字 é😀"
 # How many octets of a field are told.
@@ -40,7 +40,7 @@ TIME = r"20\d\d-\d\d-\d\dT\d\d:\d\d:\d\d\.\d{6}Z"
 
 
 class Field(NamedTuple):
-    """A field of the standard: its name, its size, its form, what a good one has here, and what a spoiled one has, if it can be spoiled."""
+    """A field of the standard: its name, its size, its form, and what a good one has here. Also what a spoiled one has, if it can be spoiled."""
 
     name: str
     size: int
@@ -416,7 +416,7 @@ def data_of(count, size=10):
 
 
 def summed(room):
-    """DATA are one line up to the next command of their own side; of one and of many, at the end too, and before a fault."""
+    """DATA are one line up to the next command of their own side. So it is of one and of many, at the end too, and before a fault."""
     given = room / "given"
     parts = [data_of(3), frame(b"C  "), data_of(1), frame(b"R"), data_of(2), frame(b"Q")]
     given.write_bytes(b"".join(parts))

@@ -6,10 +6,10 @@
 The file is used as it is, with other ports and folders. Where root runs this, stunnel becomes its own user, as the file says. All cases run in
 parallel. Without stunnel nothing is tried. The last line is `N passed, M failed`.
 
-Shows: where stunnel is installed: examples/service/stunnel.conf round two stations. A file goes through both. Callers without a certificate, with
-another one of the partner's name and authority, with one that is out of date, through TLS 1.1 or without TLS get no octet of the station, and it
-prints no line of them. Who shows another certificate than the partner's isn't called. Only the port for TLS is open to other machines, and stunnel
-has given root up
+Shows: where stunnel is installed: examples/service/stunnel.conf round two stations. A file goes through both. Some callers get no octet of the
+station, and it prints no line of them. They have no certificate, another one of the partner's name and authority, one that is out of date, TLS
+1.1, or no TLS. Who shows another certificate than the partner's isn't called. Only the port for TLS is open to other machines, and stunnel has
+given root up
 """
 
 import os

@@ -4,12 +4,12 @@
     checks/scenarios/waiting.py [WORD ..]      all cases, or those whose names have one of these words
 
 A partner begins a session, and half of a file. A command beside it says on a terminal after a second with whom the session is, and how much of
-which file came, and takes it back once the session is over. So does a call, by a station and without one, with the share of the file of its own
-session, and `offer` with the place of the file that it hands in. Where standard error is no terminal, they say nothing, with `--notes` neither. The
-last line is `N passed, M failed`.
+which file came. It takes that back once the session is over. So does a call, by a station and without one, with the share of the file of its own
+session. So does `offer` with the place of the file that it hands in. Where standard error is no terminal, they say nothing, with `--notes` neither.
+The last line is `N passed, M failed`.
 
-Shows: on a terminal a command that waits for more than a second says for which session, with the file and its share where the station writes
-events; `call` and `offer` say how far they came; what they said is taken back; nowhere else they say anything, and no sooner
+Shows: on a terminal a command that waits for more than a second says for which session. It has the file and its share if the station writes events.
+`call` and `offer` say how far they came, and what they said is taken back. Nowhere else they say anything, and no sooner
 """
 
 import contextlib
@@ -65,7 +65,7 @@ def said_on(terminal, until):
 
 
 def during_a_session(room, *options):
-    """What a command says on a terminal in two seconds of a session, and from then on up to its end, and the share that has come."""
+    """What a command says on a terminal in two seconds of a session, and from then on up to its end. Also the share that has come."""
     file = room / "file"
     file.write_bytes(b"x")
     first, then, share = spoken()
@@ -120,7 +120,8 @@ def no_terminal(room):
 
 
 def called(post, words, stderr):
-    """The call of a partner who goes on two seconds after the first half of its file, with one octet and then with the rest; the half's share."""
+    """The call of a partner who goes on two seconds after the first half of its file, with one octet and then with the rest. Also the half's
+    share."""
     first, then, share = spoken()
     command = subprocess.Popen(words, stdout=subprocess.PIPE, stderr=stderr)
     with post.accept()[0] as partner:

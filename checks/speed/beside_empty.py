@@ -3,15 +3,15 @@
 
     checks/speed/beside_empty.py [--assert] [--whole]
 
-The large register has 100 MiB in two files, with `--whole` 1 GiB. Both stations do the same by turns, and the least time of each is
-compared. Over the large register a file of 10 KB submitted through the station, `/in/NO` and the greeting of a caller may take at most
-twice as long by the clock. A session in which 8 MiB are received or sent, in large windows, may take 1.2 times the processor time, which
-other work on the machine affects less. Each line has both times, and the milliseconds that are wanted on an idle machine, if any. With
-`--assert` it fails if something takes longer than it may. The last line is `N passed, M failed`.
+The large register has 100 MiB in two files, with `--whole` 1 GiB. Both stations do the same by turns, and the least time of each is compared. Over
+the large register some acts may take at most twice as long by the clock. They are a file of 10 KB submitted through the station, `/in/NO` and the
+greeting of a caller. A session in which 8 MiB are received or sent, in large windows, may take 1.2 times the processor time. Other work on the
+machine affects that less. Each line has both times, and the milliseconds that are wanted on an idle machine, if any. With `--assert` it fails if
+something takes longer than it may. The last line is `N passed, M failed`.
 
-Shows: two stations that keep their databases open, over an empty register and over one of 100 MiB (`--whole` for 1 GiB), at the same work in turn.
-It fails where a file of 10 KB submitted, `/in/NO` or the greeting takes more than twice as long on the clock over the large one, or where a session
-in which 8 MiB come or go takes more than 1.2 times the processor time. It prints the milliseconds that are wanted on an idle machine
+Shows: two stations that keep their databases open, over an empty register and over one of 100 MiB (`--whole` for 1 GiB). Both do the same work in
+turn. It fails if a submission of 10 KB, `/in/NO` or the greeting takes more than twice as long on the clock over the large one. A session in which
+8 MiB come or go may take no more than 1.2 times the processor time. It prints the milliseconds that are wanted on an idle machine
 """
 
 import argparse
@@ -45,8 +45,8 @@ ROUNDS = 4
 
 
 class Pace(NamedTuple):
-    """An act that should take as long over a large register as over an empty one: its name, its function, how often it is done, how many
-    times as long it may take, and the milliseconds that are wanted, if any. `do` gets a station and how often it was done before, and
+    """An act that should take as long over a large register as over an empty one. It has its name, its function, and how often it is done. Also
+    how many times as long it may take, and the milliseconds that are wanted, if any. `do` gets a station and how often it was done before, and
     returns the elapsed seconds. If it is judged by processor time, that is the station's. `first`, if any, is done before it, and isn't
     measured."""
 
@@ -177,7 +177,7 @@ def shown(first, second):
 
 def held_to(pace, empty, full):
     """Whether an act takes no longer over the full register than it may. It prints what it took. Other work on the machine can only make a time
-    longer, so an act that took too long is done again, and the least of all its times counts."""
+    longer. So an act that took too long is done again, and the least of all its times counts."""
     turns, is_well = [], False
     while not is_well and len(turns) < ROUNDS * pace.often:
         turns += [(taken_for(pace, empty, at), taken_for(pace, full, at)) for at in range(len(turns), len(turns) + pace.often)]

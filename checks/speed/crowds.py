@@ -1,23 +1,23 @@
 #!/usr/bin/env python3
-"""Measures a station that holds its database beside a crowd: as many connections at each door as it has places, who send nothing, drip, wait
-or take nothing.
+"""Measures a station that holds its database beside a crowd. There are as many connections at each door as it has places, who send nothing, drip,
+wait or take nothing.
 
     checks/speed/crowds.py [--assert]
 
-Each act is done over an idle station and beside each crowd, and its least time counts. Each line has both times and the bound, which is the
-milliseconds that are wanted or three times what the idle station takes, whichever is more. With `--assert` it fails if something takes longer.
-A crowd is also ten partners who are called at once, none of whom answers. Beside a session at full speed a report and `/in/NO` take at most 300
-ms. Answers of 128 MiB that nobody reads take less than that, since the next waits for room once 64 MiB are held, and all come whole in the end.
-Who comes to a door without a place is served once there is one: the 129th caller is greeted after five seconds and within six, since the oldest
-stranger leaves for him; a partner who has answered the greeting leaves for nobody. A session of 8 MiB beside six clients that ask without end, for
-an entry or for a list of 3 MB, takes at most four times as long as alone. The last line is `N passed, M failed`.
+Each act is done over an idle station and beside each crowd, and its least time counts. Each line has both times and the bound. This is the
+milliseconds that are wanted or three times what the idle station takes, whichever is more. With `--assert` it fails if something takes longer. A
+crowd is also ten partners who are called at once, none of whom answers. Beside a session at full speed a report and `/in/NO` take at most 300 ms.
+Answers of 128 MiB that nobody reads take less than that, since the next waits for room once 64 MiB are held. All come whole in the end. Who comes
+to a door without a place is served once there is one. The 129th caller is greeted after five seconds and within six, since the oldest stranger
+leaves for him. A partner who has answered the greeting leaves for nobody. A session of 8 MiB beside six clients that ask without end takes at most
+four times as long as alone. They ask for an entry or for a list of 3 MB. The last line is `N passed, M failed`.
 
-Shows: a station beside as many strangers, commands and clients over HTTP as it has places, who send nothing, drip, wait or take nothing, and beside
-ten calls of partners who don't answer. It fails where a greeting, a report or `/in/NO` takes more than 50 ms, an answer after the session before
-more than 100 ms, or three times what the idle station takes if that is more; where a report or `/in/NO` takes more than 300 ms beside a session at
-full speed; where its memory passes 128 MiB, also beside answers of 128 MiB that nobody reads; where the place of another one at a full door isn't
-what COMMANDS.md says; or where a session of 8 MiB beside six clients that ask for an entry, or for a list of 3 MB, without end takes more than four
-times as long as alone
+Shows: a station beside as many strangers, commands and clients over HTTP as it has places, who send nothing, drip, wait or take nothing. It is also
+beside ten calls of partners who don't answer. It fails if a greeting, a report or `/in/NO` takes more than 50 ms, or an answer after the session
+before more than 100 ms. Three times what the idle station takes counts if that is more. It fails if a report or `/in/NO` takes more than 300 ms
+beside a session at full speed. It fails if its memory passes 128 MiB, also beside answers of 128 MiB that nobody reads. It fails if the place of
+another one at a full door isn't what COMMANDS.md says. It fails if a session of 8 MiB beside six clients that ask without end takes more than four
+times as long as alone. They ask for an entry, or for a list of 3 MB
 """
 
 import argparse
@@ -348,7 +348,8 @@ def time_of_session(service, octets):
 
 
 def at_full_speed(room):
-    """What a report and `/in/NO` take beside sessions of 8 MiB at full speed, in milliseconds: the middle one of five, the least of some rounds."""
+    """What a report and `/in/NO` take beside sessions of 8 MiB at full speed, in milliseconds. It is the middle one of five, the least of some
+    rounds."""
     (room / "book").write_text(one_file.BOOK.format(buffer=16384, credit=99))
     http = free_port()
     with Resident(room, "--http-port", str(http), book=room / "book") as service:

@@ -5,14 +5,15 @@
                                                               N runs (default: 3). What is wanted is printed beside the bound
 
 Files are received and sent by `feed` in one session, at large and at small windows, over a database on this disk. A plain C program over
-libsqlite3 (`plain_store.c`) does the same with its own database: one statement for each row, one transaction for each window, with the same
-journal mode and synchronous=FULL. Without a C compiler or sqlite3.h, Python's sqlite3 does it. Then come the memory for a file of 64 MiB,
-and the opening of 100 MiB, and a report and a session over 10,000 files, compared with Python's sqlite3, which reads the same, and with a
-quarter of each. Each bound is a ratio of processor times, so that it holds on any machine, loaded or idle. It takes the program as it was
-last built; the last line is `N passed, M failed`.
+libsqlite3 (`plain_store.c`) does the same with its own database. It has one statement for each row and one transaction for each window, with the
+same journal mode and synchronous=FULL. Without a C compiler or sqlite3.h, Python's sqlite3 does it. Then come the memory for a file of 64 MiB, the
+opening of 100 MiB, and a report and a session over 10,000 files. They are compared with Python's sqlite3, which reads the same, and with a quarter
+of each. Each bound is a ratio of processor times, so that it holds on any machine, loaded or idle. It takes the program as it was last built; the
+last line is `N passed, M failed`.
 
-Shows: what a register in a database costs, compared with plain C over libsqlite3 that does the same, and with a quarter of as much. It fails where
-one takes more times the processor time of the other than its bound says: two and a half times what was measured of the checked program
+Shows: what a register in a database costs, compared with plain C over libsqlite3 that does the same, and with a quarter of as much. It fails if
+either takes more times the processor time of the other than its bound says. The bound is two and a half times what was measured of the checked
+program
 """
 
 import argparse
@@ -34,9 +35,9 @@ from one_file import BOOK, FILE, MEBI, frame_of
 from program import PROGRAM, ROOT
 from row_files import in_subrecords
 
-# Each case: its name, the octets of the file, the buffer, the credit, the octets of a DATA (as many as the buffer allows if there is no
-# number), and how many times the processor time of stock sqlite3 it should take, and may take: two and a half times what the checked
-# program took, which is slower than the proved one.
+# Each case: its name, the octets of the file, the buffer, the credit, and the octets of a DATA. These are as many as the buffer allows if there is
+# no number. Then come how many times the processor time of stock sqlite3 it should take, and may take. It may take two and a half times what the
+# checked program took, which is slower than the proved one.
 RECEIVED = [
     ("a file comes in, large windows", 8 * MEBI, 16384, 99, None, 1.5, 18),
     ("a file comes in, small windows", MEBI, 128, 2, None, 1.3, 7),
@@ -49,8 +50,7 @@ SENT = [
 # The same for what reads the register.
 OPENED = (8, 60)
 REPORTED = (2, 25)
-# How many times the time of a quarter an act may take that grows with the register: one that grew as its square would take sixteen times as
-# much.
+# How many times the time of a quarter an act may take that grows with the register. One that grew as its square would take sixteen times as much.
 MOST_GROWTH = 8
 
 

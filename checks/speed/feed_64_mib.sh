@@ -1,6 +1,6 @@
 #!/bin/bash
 # Gives `feed` 64 MiB of frames: the opening of a session and then one End-to-End Response again and again. It prints the time and the memory that
-# the program took, and fails if the memory exceeds the bound: a session's memory doesn't grow with the session. The program is that of OFTP_STATION,
+# the program took. It fails if the memory exceeds the bound: a session's memory doesn't grow with the session. The program is that of OFTP_STATION,
 # or else the one that was last proved.
 #
 # Shows: 64 MiB of frames within 8 MiB of memory

@@ -3,21 +3,21 @@
 
     checks/speed/growth.py [--assert] [--large] [--whole] [--only size|count]
 
-Stock sqlite3 fills registers of 10 and 100 MiB in two files, and of 1,000 and 10,000 received and sent files; `--large` and `--whole` add one of
-1 GiB and one of 100,000 files. Over each, `run` does what operators and partners ask for, each act several times, and a line has the average: the
-processor seconds of the station, and those of the command that asked it. An act with the same result however large the register is may take
-at most MOST times what it takes over the smallest one; a list may take MOST times the ratio of its numbers of entries. A session with files may
-also take WALK for each answered response, because it looks once for the responses that are due, past all of them: once for all its files,
-whether it receives or sends them. A line says what this look took over a larger register.
-With `--whole` a line also has what the same act takes as a program of its own, with its opening, how much memory that has, and what plain C
-over libsqlite3 (`plain_store.c`, `plain_register.c`) takes for it over the same database without opening it. With `--assert` it fails if
-one takes longer. The last line is `N passed, M failed`.
+Stock sqlite3 fills registers of 10 and 100 MiB in two files, and of 1,000 and 10,000 received and sent files. `--large` and `--whole` add one of 1
+GiB and one of 100,000 files. Over each, `run` does what operators and partners ask for, each act several times. A line has the average of the
+processor seconds of the station, and of those of the command that asked it. An act with the same result however large the register is may take at
+most MOST times what it takes over the smallest one. A list may take MOST times the ratio of its numbers of entries. A session with files may also
+take WALK for each answered response. It looks for the responses that are due once for all its files, past all of them, whether it receives or sends
+files. A line says what this look took over a larger register. With `--whole` a line also has what the same act takes as a program of its own, with
+its opening. It has how much memory that has. It also has what plain C over libsqlite3 (`plain_store.c`, `plain_register.c`) takes for it over the
+same database without opening it. With `--assert` it fails if one takes longer. The last line is `N passed, M failed`.
 
-Shows: a station that keeps its database open (`run`), over registers of 10 and 100 MiB and of 1,000 and 10,000 files: what each command, request
-and session takes of the processor (`--large` for 1 GiB and 100,000 too; `--whole` for these, and also with its opening, its memory, and compared
-with plain C). It fails where one takes three times as long over the larger register, or where the time of a list grows more than three times as
-much as the number of its entries. A session may take 50 ms more for 100,000 answered responses, however many files it has: its one look for a
-response that is due passes them, and a line says what that takes. With a program that read each row of a file to count its octets, the lists failed
+Shows: a station that keeps its database open (`run`), over registers of 10 and 100 MiB and of 1,000 and 10,000 files. It shows what each command,
+request and session takes of the processor. `--large` is for 1 GiB and 100,000 too. `--whole` is for these, and also with its opening, its memory,
+and compared with plain C. It fails if one takes three times as long over the larger register. It fails if the time of a list grows more than three
+times as much as the number of its entries. A session may take 50 ms more for 100,000 answered responses, however many files it has. Its one look
+for a response that is due passes them, and a line says what that takes. With a program that read each row of a file to count its octets, the lists
+failed
 """
 
 import argparse
@@ -53,7 +53,7 @@ STEP = 64
 
 
 class Register(NamedTuple):
-    """A database: its name, its file, how many files were received and sent before those that are added for the acts, how many of the
+    """A database: its name, its file, and how many files were received and sent before those that are added for the acts. Also how many of the
     received ones are answered, and how many times the smallest it is."""
 
     name: str
@@ -65,10 +65,10 @@ class Register(NamedTuple):
 
 
 class Act(NamedTuple):
-    """An act: its name, its function, how often it is done, whether its result has all entries, in how many parts one act is done, and
-    whether it looks once in all its parts for the responses that are due, past all answered ones. `do` gets a station and how often it was
-    done before: a `Held` one, for which it returns the processor seconds of the command, or an `Alone` one, for which it returns what a
-    program of its own took. `plain` has the arguments for plain C."""
+    """An act: its name, its function, how often it is done, and whether its result has all entries. Also in how many parts one act is done. The
+    last is whether it looks once in all its parts for the responses that are due, past all answered ones. `do` gets a station and how often it was
+    done before. For a `Held` one it returns the processor seconds of the command. For an `Alone` one it returns what a program of its own took.
+    `plain` has the arguments for plain C."""
 
     name: str
     do: Callable

@@ -3,16 +3,16 @@
 
     checks/speed/library_alone.py [--assert] [--runs N] [--proved | --library PROGRAM] [--rows N]
 
-`library_store.rattle` uses only the library, with the statements of the station's store: it contains no crate of the station. It is built
-as the checked station is, so OFTP_STATION names that one; with `--proved` as the proved one. `--library` names a built one. Plain C over libsqlite3 does the same
-twice: with the octets of the session (`plain_store.c`), and the statements alone (`plain_register.c`). All times are processor times
-without the opening, except those of the opening itself; each is the least of N runs (default: 3), which take turns. The station is `run`,
-which keeps its database open. Files of short records have `--rows` of them (default: 20,000). With `--assert` it fails if the ratio of the
-station's time to the library's exceeds its bound. The last line is `N passed, M failed`.
+`library_store.rattle` uses only the library, with the statements of the station's store: it contains no crate of the station. It is built as the
+checked station is, so OFTP_STATION names that one; with `--proved` as the proved one. `--library` names a built one. Plain C over libsqlite3 does the
+same twice: with the octets of the session (`plain_store.c`), and the statements alone (`plain_register.c`). All times are processor times without the
+opening, except those of the opening itself. Each is the least of N runs (default: 3), which take turns. The station is `run`, which keeps its
+database open. Files of short records have `--rows` of them (default: 20,000). With `--assert` it fails if the ratio of the station's time to the
+library's exceeds its bound. The last line is `N passed, M failed`.
 
-Shows: by hand, since it builds a program: the station, the toolchain's library alone (`library_store.rattle`, which has the statements of the store
-and no crate of ours) and plain C at the same files, each without its opening, and the opening itself. With `--assert` it fails where the station
-takes more times as long as the library than its bound says
+Shows: by hand, since it builds a program: the station, the toolchain's library alone and plain C at the same files. Each is without its opening, and
+the opening itself is shown too. The library is `library_store.rattle`, which has the statements of the store and no crate of ours. With `--assert` it
+fails where the station takes more times as long as the library than its bound says
 """
 
 import argparse
@@ -38,8 +38,8 @@ STEP = 64
 
 
 class Case(NamedTuple):
-    """A file: what happens to it, its number of rows and their length in octets, its format, the buffer and the credit of its session, how
-    many times plain C's time it should take, and how many times the library's time it may take."""
+    """A file: what happens to it, its number of rows and their length in octets, and its format. Also the buffer and the credit of its session. Then
+    come how many times plain C's time it should take, and how many times the library's time it may take."""
 
     name: str
     way: str

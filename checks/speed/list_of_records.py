@@ -3,14 +3,15 @@
 
     checks/speed/list_of_records.py
 
-Two registers have a received file and a waiting one, of some 200,000 octets each: one in V, in records of one octet, and the other in U. Over each,
-`run` lists its files several times. The first time it reads each record, and afterwards it knows the numbers of octets. So each later list
-may take MOST times the processor time that it takes beside blocks. A line has both times. Another says what each opening took. The last line is `N passed, M failed`.
+Two registers have a received file and a waiting one, of some 200,000 octets each. The files are in V in one register, in records of one octet, and in
+U in the other. Over each, `run` lists its files several times. The first time it reads each record, and afterwards it knows the numbers of octets. So
+each later list may take MOST times the processor time that it takes beside blocks. A line has both times. Another says what each opening took. The
+last line is `N passed, M failed`.
 
-Shows: two stations that keep their databases open, each with a received and a waiting file of some 200,000 octets: over the one in V, in records of
-one octet, and over the other in U. Each list is asked for five times. It fails where one takes more than three times the processor time that it
-takes beside blocks, and 5 ms, but for the first that reads the records. With a program that counted the octets of such a file for each list, all
-failed
+Shows: two stations that keep their databases open, each with a received and a waiting file of some 200,000 octets. One is over files in V, in records
+of one octet, and the second over files in U. Each list is asked for five times. It fails if one takes more than three times the processor time that
+it takes beside blocks, and 5 ms. The first that reads the records is excepted. With a program that counted the octets of such a file for each list,
+all failed
 """
 
 import sqlite3

@@ -1,5 +1,5 @@
-/* What operators, requests and the rows of files need of a register, as plain C over libsqlite3: one statement for each row and each
-   change, one transaction for each window, one query for each list.
+/* What operators, requests and the rows of files need of a register, as plain C over libsqlite3. There is one statement for each row
+   and each change, one transaction for each window, and one query for each list.
 
        plain_register open DATABASE                         opens it, and reads each row once
        plain_register check DATABASE                        opens it, and checks it by integrity_check and foreign_key_check
@@ -11,8 +11,9 @@
        plain_register show DATABASE in|out NO               prints a file with rows and octets, an incoming one also with its response
        plain_register list DATABASE in|out|issued|received  prints all entries, files also with their rows and octets
 
-   It prints two numbers at the end: the processor time in nanoseconds up to the end of the opening, which reads the schema, and in all.
-   The journal mode is that of the database, a write-ahead log, with synchronous=FULL, and the log isn't checkpointed at the end. */
+   It prints two numbers at the end. They are the processor time in nanoseconds up to the end of the opening, which reads the schema,
+   and in all. The journal mode is that of the database, a write-ahead log, with synchronous=FULL, and the log isn't checkpointed at the
+   end. */
 #include <sqlite3.h>
 #include <stdio.h>
 #include <stdlib.h>

@@ -1,5 +1,5 @@
-/* What the station does to its database when a file is received or sent, as plain C over libsqlite3: one statement for each row and
-   each change, one transaction for each window. It takes the octets of the partner's side as they are, and checks nothing.
+/* What the station does to its database when a file is received or sent, as plain C over libsqlite3. There is one statement for each row
+   and each change, and one transaction for each window. It takes the octets of the partner's side as they are, and checks nothing.
 
        plain_store receive DATABASE IN OUT CREDIT      the file in the session of IN is received
        plain_store send DATABASE IN OUT CREDIT BUFFER  the first outgoing file that waits is sent; the frames of IN are only counted

@@ -3,15 +3,15 @@
 
     checks/speed/receive_speed.py [--assert]
 
-With `--assert` it fails if the largest file needs more than one and a half times its size in memory, or costs twice as much per octet as
-one of a sixteenth, or takes more than BOUNDS times as long as a plain copy of the same octets, or if a file that turns out to be an octet longer
-doesn't end the session. What the program takes for a session without a file is subtracted before times are compared.
+With `--assert` it fails if the largest file needs more than one and a half times its size in memory. It fails if an octet of it costs twice as much
+as one of a sixteenth. It fails if it takes more than BOUNDS times as long as a plain copy of the same octets. It fails if a file that turns out to be
+an octet longer doesn't end the session. What the program takes for a session without a file is subtracted before times are compared.
 
 It takes the program of OFTP_STATION, or else the one that was last proved. The last line is then `N passed, M failed`.
 
 Shows: what a file in memory takes, and that one which passes the limit ends its session. It fails if a file takes more than one and a half times its
-size in memory, if an octet of it costs twice what an octet of a sixteenth of it does, or if it takes more than 50 times as long as a plain copy of the
-session's octets (125 times in small windows). The start of the program isn't counted
+size in memory. It fails if an octet of it costs twice what an octet of a sixteenth of it does. It fails if it takes more than 50 times as long as a
+plain copy of the session's octets (125 times in small windows). The start of the program isn't counted
 """
 
 import os
@@ -31,7 +31,7 @@ from program import PROGRAM
 PART = MOST // 16
 CASES = [(size, buffer, credit) for buffer, credit in ((16384, 99), (128, 1)) for size in (MOST, PART)]
 # For each buffer how many times as long as a plain copy the largest file may take. The proved program takes 3 and 8 times as long
-# (docs/PERFORMANCE.md), the checked one 13 and 33 times, and one that is 30 times slower than the proved one 100 and 250 times.
+# (docs/PERFORMANCE.md), and the checked one 13 and 33 times. One that is 30 times slower than the proved one takes 100 and 250 times.
 BOUNDS = {16384: 50, 128: 125}
 # How many octets a plain copy reads and writes at once.
 PIECE = 65_536

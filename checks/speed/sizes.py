@@ -8,9 +8,9 @@ A file goes from one station to the other: it is submitted and sent at the car m
 out of each are the input of the other, and what is fetched has to be what was submitted. A file with one more octet or record is refused,
 submitted or offered. The reported memory of a program is at least that of this script. The last line is `N passed, M failed`.
 
-Shows: a file of 67,108,864 octets goes from one station to another; an octet or a record more is refused, submitted or offered; 1,000 partners and
-one more; texts of 999 octets; the greatest buffer and credit (`--whole` for each format, 1,000,000 records and 10,000 files). It prints what each
-takes
+Shows: a file of 67,108,864 octets goes from one station to another, and an octet or a record more is refused, submitted or offered. 1,000 partners
+and one more; texts of 999 octets. The greatest buffer and credit (`--whole` for each format, 1,000,000 records and 10,000 files). It prints what
+each takes
 """
 
 import argparse
@@ -256,7 +256,7 @@ def texts(room):
 
 
 def partners(room):
-    """A book of 1,000 partners, the last of which calls; one of 1,001 is refused, and so is one of more than 16 MiB, or without an end."""
+    """A book of 1,000 partners, the last of which calls. One of 1,001 is refused, and so is one of more than 16 MiB, or without an end."""
     station = Station(room, SUPPLIER, CAR_MAKER)
     usual = station.book.read_text()
     station_part, partner = usual.split("[[partner]]")

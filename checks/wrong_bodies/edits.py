@@ -17,8 +17,8 @@ class Unfit(Exception):
 
 
 class Edit:
-    """A wrong body: `lines` has each line that it changes, by file and number from 0, `refused_by` the words that it names, and `tried_on` the
-    functions that it is tried on if it changes none."""
+    """A wrong body: `lines` has each line that it changes, by file and number from 0, and `refused_by` the words that it names. `tried_on` has
+    the functions that it is tried on if it changes none."""
 
     def __init__(self, path):
         self.path = path
@@ -112,8 +112,8 @@ def plain(name, parameters=()):
 
 
 def owner_of(kind, head):
-    """The type of an impl, or the trait, and the name that rattle gives its methods: for an impl of a trait the type and then the trait; a
-    parameter is `Any`."""
+    """The type of an impl, or the trait, and the name that rattle gives its methods. For an impl of a trait it is the type and then the trait;
+    a parameter is `Any`."""
     head = re.sub(r"\bwhere\b.*", "", head, flags=re.S).strip()
     if kind == "trait":
         return (re.match(r"\w+", head).group(),) * 2

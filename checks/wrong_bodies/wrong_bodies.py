@@ -16,11 +16,11 @@
     checks/wrong_bodies/wrong_bodies.py --of-the-day
         tries some of one crate, another each day, whatever the ledger says
 
-Many edits are tried in one check, over a copy of the crate and the proofs that its out/ kept: no two edits of a round change the same
-function. rattle checks a function against the contracts of those that it calls, so its output distinguishes a function that fails by itself
+Many edits are tried in one check, over a copy of the crate and the proofs that its out/ kept. No two edits of a round change the same
+function. rattle checks a function against the contracts of those that it calls. So its output distinguishes a function that fails by itself
 from one that only calls such a function. An edit is refused if a function that it changes fails by itself. An edit that a round doesn't
 decide is tried in a later one, and in the end alone. An edit that changes no function, but a definition or a constant, is tried alone, over
-the whole crate, or if it has a line `tried on: PATH, ..` over these functions.
+the whole crate. If it has a line `tried on: PATH, ..`, it is tried over these functions.
 
 A line `refused by: WORD, ..` of an edit names what has to refuse it. It is compared with the goals that rattle reports as not proved in
 that function: `returns-in-Err-clause-took` stands for the clause `took`. The words are
@@ -31,18 +31,18 @@ that function: `returns-in-Err-clause-took` stands for the clause `took`. The wo
     loop                   an invariant of a loop, which carries clauses through it
     safety                 any other demand: an overflow, an index, what a called function requires, a measure
 
-For an edit that changes no function a word is `PATH.WORD`, as `packing::put_from.count`, for any function that fails by itself, or the name
-of a lemma or a theorem that does. Each word has to be among what refused the edit; others may be there too. An edit fails as NOT REFUSED if
-the crate is proved with it; as BAD EDIT if it can't be applied or doesn't compile; if nothing refuses it except that a proof names what it
-removed; and if it names no refusal, or another.
+For an edit that changes no function a word is `PATH.WORD`, as `packing::put_from.count`, for any function that fails by itself. Or it is the
+name of a lemma or a theorem that does. Each word has to be among what refused the edit; others may be there too. An edit fails as NOT REFUSED
+if the crate is proved with it, and as BAD EDIT if it can't be applied or doesn't compile. It also fails if nothing refuses it except that a
+proof names what it removed, and if it names no refusal, or another.
 
-The ledger, checks/wrong_bodies/ledger.txt, has a line for each crate with edits: the sum of its src/, specs/, proofs/ and edits when all
-were refused, their number, and the day. A crate that has changed since, in more than its comments and where its imported names stand, has
+The ledger, checks/wrong_bodies/ledger.txt, has a line for each crate with edits. It has the sum of its src/, specs/, proofs/ and edits when
+all were refused, their number, and the day. A crate that has changed since, in more than its comments and where its imported names stand, has
 to be tried again. The sum doesn't cover the crates below: a contract there can change what refuses an edit, and so can another toolchain.
 That is why the trial of the day tries each crate again in turn. It takes some minutes: a crate whose edits take longer is tried in parts,
 another each time. The last line is `N passed, M failed`.
 
-Shows: every wrong body fits the text that it changes and names its refusal, and all those of a crate were refused at the sources that it has now
+Shows: every wrong body fits the text that it changes and names its refusal. All those of a crate were refused at the sources that it has now
 """
 
 import datetime
@@ -66,7 +66,7 @@ LEDGER = ROOT / "checks" / "wrong_bodies" / "ledger.txt"
 PARTS = ("src", "specs", "proofs")
 # What a line of comment begins with, by the suffix of a file.
 COMMENTS = {".rt": "//", ".antt": "--"}
-# After this many processor seconds the trial of the day begins no other check, and so many edits at most are in one of its checks.
+# After this many processor seconds the trial of the day begins no other check. So many edits at most are in one of its checks.
 DAY, PART = 300, 12
 # What a proof reports if an edit removed a name that it cites, and what then depends on that proof.
 TAKEN_AWAY = re.compile(r"has no field|is not in scope|has no `|was not admitted|that depend on `")
@@ -154,7 +154,7 @@ class Room:
 
 
 class Failures:
-    """The report of a check: `goals` has for each function the goals that aren't proved, `taken` those that fail for a name that an edit
+    """The report of a check. `goals` has for each function the goals that aren't proved, and `taken` those that fail for a name that an edit
     removed."""
 
     def __init__(self, said, room):
@@ -246,7 +246,7 @@ def words_of_all(failures):
 
 
 def verdict(edit, turned, failures):
-    """What refuses an edit in a check that was decided, in words, none if nothing does; and whether that is only for a name that it
+    """What refuses an edit in a check that was decided, in words, none if nothing does. Also whether that is only for a name that it
     removed."""
     if not turned:
         return words_of_all(failures), False
@@ -307,8 +307,8 @@ def try_alone(edit, room):
 
 
 def try_rounds(left, room, most):
-    """Tries the edits of these rounds, and begins no other check after `most` processor seconds: what refuses each edit that was tried, or
-    why it fails, and how many checks that took."""
+    """Tries the edits of these rounds, and begins no other check after `most` processor seconds. It returns what refuses each edit that was
+    tried, or why it fails, and how many checks that took."""
     found, checks, end = {}, 0, processor() + most
     while left and processor() < end:
         tried = left.pop(0)
@@ -349,14 +349,14 @@ def record(edit, words):
 
 
 def of_the_day(rounds):
-    """The rounds of the crate of the day in parts, each of which comes first in turn: a round of a large crate takes half an hour."""
+    """The rounds of the crate of the day in parts, each of which comes first in turn. A round of a large crate takes half an hour."""
     parts = [it[at : at + PART] for it in rounds for at in range(0, len(it), PART)]
     at = today().toordinal() // len(crates_with_edits()) % len(parts)
     return parts[at:] + parts[:at]
 
 
 def try_crate(crate, jobs, is_recording=False, named=(), is_of_the_day=False):
-    """Tries the edits of a crate, those that are named or all or, of the day, as many as there is time for, and returns how many were tried
+    """Tries the edits of a crate, those that are named or all or, of the day, as many as there is time for. It returns how many were tried
     and how many fail. It also prints their cost."""
     edits, lost = read_all([crate])
     edits = [it for it in edits if not named or it.name in named]
@@ -393,7 +393,8 @@ def read_all(crates):
 
 
 def names_of(crate):
-    """Each name that the texts of a crate and of those below it have, with the words that name no clause and the clause of `Display`."""
+    """Each name that the texts of a crate and of those below it have. With them are the words that name no clause and the clause of
+    `Display`."""
     parts = [ROOT / "crates" / it / part for it in (*below(crate), crate) for part in PARTS]
     texts = [it.read_text(encoding="utf-8") for part in parts for it in part.rglob("*") if it.is_file()]
     return set(re.findall(r"[\w'-]+", "\n".join(texts))) | {"ensures", "invariant", "loop", "safety", "writes"}
@@ -419,7 +420,8 @@ def lemmas_of(crate):
 
 
 def pathless_words(edits):
-    """How many edits turn definitions alone and name a refusal that is neither a clause with its path nor a lemma, each of which it reports."""
+    """How many edits turn definitions alone and name a refusal that is neither a clause with its path nor a lemma. It reports each of
+    them."""
     found = 0
     for edit in (it for it in edits if all(str(file).startswith("specs/") for file, _ in it.lines)):
         lost = [it for it in edit.refused_by if "." not in it and it not in lemmas_of(edit.crate)]
@@ -430,8 +432,8 @@ def pathless_words(edits):
 
 
 def fit():
-    """Reports edits that can't be applied, those that name what isn't there or without the path that a definition wants, and those that name
-    no refusal, without which none passes."""
+    """Reports edits that can't be applied, and those that name what isn't there or without the path that a definition wants. It reports those
+    that name no refusal, without which none passes."""
     edits, lost = read_all([])
     unnamed = [it for it in edits if not it.refused_by]
     for crate in sorted({it.crate for it in unnamed}):
@@ -524,7 +526,7 @@ def held_to_ledger():
 
 
 def try_stale(jobs):
-    """Tries the edits of each crate that differs from the ledger, as many crates at once as there are jobs, and writes those into it of which
+    """Tries the edits of each crate that differs from the ledger, as many crates at once as there are jobs. It writes those into it of which
     all were refused."""
     crates = stale()
     with ThreadPoolExecutor(jobs) as pool:
@@ -542,7 +544,7 @@ def crate_of_the_day():
 
 
 def try_and_write(named, jobs, is_recording):
-    """Tries the edits that are named, by crate or one by one, or all, and writes each crate of which all were tried and refused into the
+    """Tries the edits that are named, by crate or one by one, or all. It writes each crate of which all were tried and refused into the
     ledger."""
     tried = []
     for crate in dict.fromkeys(it.partition("/")[0] for it in named or crates_with_edits()):

@@ -12,7 +12,7 @@ use std::io::{self, ErrorKind, Write};
 use std::mem;
 
 /// Writes a whole incoming file to a file, by whoever carries out the request. What isn't a regular file, such as a pipe, is opened and written
-/// once the backend is let go, which closes its database, since its reader may take long.
+/// once the backend is let go, which closes its database. Its reader may take long.
 ///
 /// # Errors
 /// Those of the backend; [`Fault::File`] if the file can't be written; [`Fault::MEMORY`]. The file is as it was then.

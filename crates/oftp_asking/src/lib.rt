@@ -1,4 +1,4 @@
-//! What commands do that is the same over any database: they ask the station that has it open over its socket, read the content that they
+//! What commands do that is the same over any database. They ask the station that has it open over its socket, read the content that they
 //! submit, and write the file that they fetch.
 #![tactic(auto)]
 

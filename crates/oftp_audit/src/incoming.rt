@@ -51,8 +51,7 @@ fn issued_kept(older: &IssuedResponse, newer: &IssuedResponse) -> [Option<Loss>;
     ]
 }
 
-/// What is lost of a response that this station issued, where the response to the same file in the newer register is the second, if there is
-/// one.
+/// What is lost of a response that this station issued. The second is the response to the same file in the newer register, if there is one.
 pub fn lost_of_issued(older: &IssuedResponse, newer: Option<&IssuedResponse>) -> [Option<Loss>; 4]
     ensures { result ≡ lost_of_issued older.now (option_map (λ y. y.now) newer.entry) }
 {

@@ -3,8 +3,8 @@
 ghost use Rattle.oftp_audit.specs.Evidence.{EvidenceStays};
 ghost use Rattle.oftp_audit.specs.Passing.{AuditIsExact, ChangesPass, SoundnessIsExact};
 
-/// Evidence only grows. Whatever changes a register accepts, one after another, each whole incoming file, each outgoing file and each
-/// response, issued or received, is in the register after them, unaltered. The function does nothing; its contract is the theorem.
+/// Evidence only grows. A register may accept any changes, one after another. Each whole incoming file, each outgoing file and each response,
+/// issued or received, is in the register after them, unaltered. The function does nothing; its contract is the theorem.
 pub fn evidence_stays()
     ensures { EvidenceStays }
 {}

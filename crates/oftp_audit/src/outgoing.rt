@@ -50,7 +50,7 @@ fn received_kept(older: &ReceivedResponse, newer: &ReceivedResponse) -> [Option<
     ]
 }
 
-/// What is lost of a response that a partner sent, where the one with the same number in the newer register is the second, if there is one.
+/// What is lost of a response that a partner sent. The second is the one with the same number in the newer register, if there is one.
 pub fn lost_of_received(
     older: &ReceivedResponse,
     newer: Option<&ReceivedResponse>,

@@ -72,7 +72,7 @@ pub fn unsound_in_row(shape: Shape, at: u64, len: u64) -> Option<Loss>
     unless(may_have(shape, at, len), Loss::UnfitLength)
 }
 
-/// What is lost of a row whose file keeps its content, where the row at the same place in the newer register is the second, if there is one.
+/// What is lost of a row whose file keeps its content. The second is the row at the same place in the newer register, if there is one.
 pub fn lost_of_row(older: &[u8], newer: Option<&[u8]>) -> Option<Loss>
     ensures { result ≡ lost_of_row older.now (option_map (λ y. y.now) newer.entry) }
 {

@@ -1,5 +1,5 @@
--- The encoding of a command is read as that command, kind by kind: the fields of its table follow one another, no octets encode two values,
--- and an encoding has no error.
+-- The encoding of a command is read as that command, kind by kind. The fields of its table follow one another, no octets encode two values, and
+-- an encoding has no error.
 use Rattle.std.proofs.Common.{◌≡◌, ℕ, ◌-◌, ◌<◌, ◌^◌, Bool, true, false, List, [], ◌∷◌, length, Ok, refl, sym, ap, ◌∙◌, arith, rules}
 use Rattle.std.specs.Prelude.{codes, Result}
 use Rattle.std.specs.Str.{bytes_eq}
@@ -98,8 +98,8 @@ by_table M each commands.Rtr = each (Unit {0}) (single_table (codes "P")) tt (se
 contiguous_of : (c : Command) → of_table c (λ S t s. Contiguous 0 t.rows t.end)
 contiguous_of = by_table (λ F G. F (λ S t s. Contiguous 0 t.rows t.end)) (λ S t s parts. parts)
 
--- A command is read if its octets are exactly read by a table, which is that of each command that they encode, and no two commands have the
--- same fields of it.
+-- A command is read if a table reads its octets exactly, and no two commands have the same fields of that table. The table is that of each
+-- command that they encode.
 again_in : {S : Type 0} {T : S → Table S} {t : Table S} {r : Result S WireFault} {o : List ℕ} → Exact r (fault_in t o) (λ s. IsSpelled (T s) s o)
     → ((s : S) → Contiguous 0 (T s).rows (T s).end) → ((s : S) → IsSpelled (T s) s o → t ≡ T s)
     → ((s u : S) → EachSame t.rows s u → s ≡ u) → (s : S) → IsSpelled (T s) s o → r ≡ Ok s

@@ -1,5 +1,5 @@
--- The stream header of RFC 5024, section 8: the octet 10 in hexadecimal (version 1, no flags), then the length of the frame in three
--- octets.
+-- The stream header of RFC 5024, section 8. It is the octet 10 in hexadecimal (version 1, no flags), then the length of the frame in
+-- three octets.
 use Rattle.std.specs.Prelude.{ℕ, ◌+◌, ◌*◌, ◌/◌, ◌%◌, ◌≤◌, List, [], ◌∷◌, ◌++◌, length}
 
 -- the header of a frame of n octets

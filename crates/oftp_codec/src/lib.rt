@@ -2,8 +2,8 @@
 //! 8).
 //!
 //! `parse` reads the octets of one frame and `encode` writes them. Both are proved against Spelling (`specs/Spelling.antt`), which has a
-//! table for each kind: which octets encode a command, which of them are canonical, and what is wrong with all others. Neither allocates
-//! memory.
+//! table for each kind. It says which octets encode a command, which of them are canonical, and what is wrong with all others. Neither
+//! allocates memory.
 //!
 //! A `Deframer` takes a stream in pieces and returns the commands in its frames. `header` makes the header of a command. The deframer is
 //! proved against Front (`specs/Stream.antt`): its commands depend only on the stream, and not on the pieces.

@@ -17,7 +17,7 @@ use std::io::Write;
 /// Returns the exit status, which is that of a refusal if there was a line.
 ///
 /// # Errors
-/// [`Fault::Store`] if a database can't be opened or read, or if the older one has an entry that can't be read; [`Fault::Run`] if `out` returned
+/// [`Fault::Store`] if a database can't be opened or read, or if the older one has an entry that can't be read. [`Fault::Run`] if `out` returned
 /// an error; [`Fault::MEMORY`].
 pub fn audit(rt: &HostRuntime, line: &Audit<'_>, out: &mut impl Write) -> Result<u8, Fault> {
     let newer = Database::opened(rt, line.database)?;

@@ -21,8 +21,8 @@ pub enum Called {
 /// closed again.
 ///
 /// # Errors
-/// [`Fault::Book`], [`Fault::File`] or [`Fault::Store`] if the book, the trace or the database can't be opened; those of the station's
-/// session; [`Fault::Run`] if the station is gone.
+/// [`Fault::Book`], [`Fault::File`] or [`Fault::Store`] if the book, the trace or the database can't be opened. Those of the station's session;
+/// [`Fault::Run`] if the station is gone.
 pub fn call<'a>(rt: &'a HostRuntime, line: &Call<'a>) -> Result<Called, Fault> {
     let (octets, book) = read_book_octets(rt, line.files.book)?;
     match Beside::reached(rt, line.files.database) {

@@ -9,8 +9,8 @@ use std::io::Write;
 /// Writes a folder of what proves a file's delivery, by a database and a record. `sources` is the sum of the program's sources. Returns the exit status.
 ///
 /// # Errors
-/// [`Fault::Store`] or [`Fault::File`] if the database or the record can't be read, or the folder can't be written; [`Fault::Run`] if the office failed,
-/// or `out` returned an error; [`Fault::MEMORY`].
+/// [`Fault::Store`] or [`Fault::File`] if the database or the record can't be read, or the folder can't be written. [`Fault::Run`] if the office
+/// failed, or `out` returned an error; [`Fault::MEMORY`].
 pub fn evidence(
     rt: &HostRuntime,
     line: &Evidence<'_>,

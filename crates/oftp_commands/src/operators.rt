@@ -32,11 +32,11 @@ struct Given<'a> {
 }
 
 /// Submits a file, and writes its line. Returns its outcome. What is read of a pipe is read before the database is opened. A date or time
-/// that the command line lacks is that of the moment, or of the first later one that no file with this name has, as far as the time is to be
-/// chosen.
+/// that the command line lacks is that of the moment. As far as the time is to be chosen, it may be the first later one that no file with
+/// this name has.
 ///
 /// # Errors
-/// [`Fault::Book`], [`Fault::Store`] or [`Fault::File`] if the book, the database, the file or the events can't be opened; [`Fault::Run`] if
+/// [`Fault::Book`], [`Fault::Store`] or [`Fault::File`] if the book, the database, the file or the events can't be opened. [`Fault::Run`] if
 /// the office failed, the station is gone or `out` returned an error; [`Fault::MEMORY`].
 pub fn submit<'a>(
     rt: &'a HostRuntime,

@@ -42,7 +42,7 @@ pub fn stop(rt: &HostRuntime, line: &Stop<'_>) -> Result<Outcome, Fault> {
 /// Has the station that runs over a database read its book again.
 ///
 /// # Errors
-/// [`Fault::Book`] or [`Fault::File`] if the book has an error or can't be read, and the station goes on with the one that it has;
+/// [`Fault::Book`] or [`Fault::File`] if the book has an error or can't be read, and the station goes on with the one that it has.
 /// [`Fault::Socket`] if none runs; [`Fault::Run`] if it is gone; [`Fault::MEMORY`].
 pub fn reload(rt: &HostRuntime, database: &str) -> Result<Outcome, Fault> {
     let Some(mut station) = Beside::reached(rt, database) else {

@@ -11,8 +11,8 @@ use std::io::Write;
 /// Plays a record over a database, and writes what came of it. Returns the exit status.
 ///
 /// # Errors
-/// [`Fault::Book`], [`Fault::Store`] or [`Fault::File`] if the book, the database or the record can't be read; [`Fault::Run`] if the office failed, or
-/// `out` returned an error; [`Fault::MEMORY`].
+/// [`Fault::Book`], [`Fault::Store`] or [`Fault::File`] if the book, the database or the record can't be read. [`Fault::Run`] if the office failed,
+/// or `out` returned an error; [`Fault::MEMORY`].
 pub fn replay(rt: &HostRuntime, line: &Replay<'_>, out: &mut impl Write) -> Result<u8, Fault> {
     let (octets, book) = read_book_octets(rt, line.files.book)?;
     // Without the folder no database is made.

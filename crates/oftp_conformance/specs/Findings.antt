@@ -25,7 +25,7 @@ abbrev pub value_rule : Option ValueRule → Option Rule
 value_rule None = None
 value_rule (Some r) = Some (rules.Value r)
 
--- the rule that a field breaks, where this is the rule on its form that it breaks; of fields that aren't whole only the form is judged
+-- the rule that a field breaks, if this is the rule on its form that it breaks. Of fields that aren't whole only the form is judged.
 abbrev pub field_rule : List Entry → Entry → List ℕ → Option FormRule → Option Rule
 field_rule es e o (Some r) = Some (rules.Form r)
 field_rule es e o None = if nat_lt (length o) (e.at + size e.form) then None else value_rule (broken_value es e o)

@@ -1,4 +1,4 @@
--- The rules on stream headers, as data: the section of RFC 5024 that has each, what it says, what is expected, and what to tell the partner.
+-- The rules on stream headers, as data. Each has its section of RFC 5024, what it says, what is expected, and what to tell the partner.
 use Rattle.std.specs.Prelude.{ℕ, List, codes, Option, Some, None}
 use Rattle.oftp_conformance.specs.declared.departure.Departure.{Departure}
 use Rattle.oftp_conformance.specs.declared.departure.Departure.TheVariants as departures

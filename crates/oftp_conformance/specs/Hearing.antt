@@ -77,8 +77,8 @@ abbrev pub is_next : Phase → Option CommandKind → Bool
 is_next phase None = false
 is_next phase (Some kind) = may_come phase kind
 
--- The side whose command is heard next, where these are the octets of the next ones of the side that owes one, and of the other: that of
--- the side that owes one, if it may come now; else that of the other side, if there is one.
+-- The side whose command is heard next. These are the octets of the next command of the side that owes one, and of the other side. It is
+-- the side that owes one, if its command may come now; else the other side, if that has one.
 abbrev pub next_side : Session → Option (List ℕ) → Option (List ℕ) → Sender
 next_side t own None = owing t
 next_side t None (Some o) = other (owing t)

@@ -102,8 +102,8 @@ fn add_sheet(
     add_end(found, kind, sheet.end, frame)
 }
 
-/// The rules that the octets of a frame break, without its stream header: those on its fields from left to right, at most one each, and
-/// then that on its end. A command that ends within a field has no fields behind that.
+/// The rules that the octets of a frame break, without its stream header. First come those on its fields from left to right, at most
+/// one each, and then that on its end. A command that ends within a field has no fields behind that.
 ///
 /// # Errors
 ///
@@ -160,7 +160,7 @@ fn broken_header(octets: &[u8]) -> Option<FrameRule>
     None
 }
 
-/// The rule that the octets at the beginning of a frame break, if they do: a stream header, or as much of it as has come.
+/// The rule that the octets at the beginning of a frame break, if they do. They are a stream header, or as much of it as has come.
 pub fn header_finding(octets: &[u8]) -> Option<Finding>
     ensures { option_map found_seen result ≡ header_finding octets.now }
 {

@@ -123,8 +123,8 @@ fn add_order_findings(
     }
 }
 
-/// What is found in the octets of a frame of a side, without its stream header: the rules on its fields that it breaks, and those on the
-/// order of commands.
+/// What is found in the octets of a frame of a side, without its stream header. These are the rules on its fields that it breaks, and those
+/// on the order of commands.
 ///
 /// # Errors
 ///
@@ -180,9 +180,9 @@ impl<'f> Session<'f> {
         }
     }
 
-    /// The side whose command is heard next, where no order between both sides is known, and these are the octets of the next command of the
-    /// side that owes one ([`Session::owing`]) and of the other side, without their stream headers: that of the side that owes one if it may
-    /// come now, or if the other side has none; else that of the other side.
+    /// The side whose command is heard next, if no order between both sides is known. These are the octets of the next command of the side
+    /// that owes one ([`Session::owing`]) and of the other side, without their stream headers. It is the side that owes one if its command
+    /// may come now, or if the other side has none; else the other side.
     pub fn next_side(&self, own: Option<&[u8]>, others: Option<&[u8]>) -> Sender
         ensures { result ≡ next_side self.now (option_map (λ o. o.now) own.entry) (option_map (λ o. o.now) others.entry) }
     {

@@ -1,5 +1,5 @@
-//! What a partner does that RFC 5024 doesn't allow, or that this station doesn't take: the rules as data, which of them octets break, and
-//! what is printed of each.
+//! What a partner does that RFC 5024 doesn't allow, or that this station doesn't take. Here are the rules as data, which of them octets
+//! break, and what is printed of each.
 //!
 //! Fields, their places and their forms are those of oftp_telling and oftp_codec, so there is no second list of them.
 #![tactic(auto)]

@@ -157,8 +157,8 @@ fn write_finding<W: fmt::Write>(
     write_advice(f, finding.rule)
 }
 
-/// A finding as it is printed: where and by which octets a rule is broken, what the standard says, what is expected, what this station does
-/// where one of its departures takes part, and what to tell the partner. It has several lines, and no line break at its end.
+/// A finding as it is printed: where and by which octets a rule is broken, and what the standard says. Then come what is expected, what
+/// this station does if one of its departures takes part, and what to tell the partner. It has several lines, and no line break at its end.
 #[derive(Clone, Copy)]
 pub struct Explanation<'f> {
     /// The finding.

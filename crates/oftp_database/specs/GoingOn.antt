@@ -36,7 +36,7 @@ pub record LivesOn (r : Register) (acts : List Act) (s : State) (more : List Act
 abbrev pub AfterCrash : {S : Type 0} (g : Ghosts S) → SqlOffice S g → (Image → Type 0) → Type 0
 AfterCrash g now Holds = (db : Trees) → (database_of g now).may_leave db → (files : Image) → HoldsDatabase files db → Holds files
 
--- each life that begins with an office which was opened over these files goes on after a life that began with r and did these acts
+-- A life may begin with an office that was opened over these files. Each such life goes on after a life that began with r and did these acts.
 abbrev pub NextGoesOn : {S : Type 0} (g : Ghosts S) → Image → Register → List Act → Type 0
 NextGoesOn g files r acts = (next later : OfficeOver g) (more : List Act) (ended : Bool) → IsOpened g files next
     → HasCleanDisk (database_of g next.office) → HasLeft (seen_over g) next more ended later → HasCleanDisk (database_of g later.office)

@@ -16,10 +16,9 @@ use crate::office::DatabaseOffice;
 use oftp_durable::laws::lives_leave_tables;
 use sqlite::{Alter, FileFrom, FileStore, Unknown};
 
-/// What the clause `leaves` of a life says of the program's life, in the terms of the tables: a crash leaves the tables of the register with
-/// which it began, after a prefix of all changes of its acts, with each that was answered. Unless it is over, a crash leaves the tables of the
-/// register of its office, and nothing else. The function only calls the theorem on any database; its contract is
-/// the theorem.
+/// What the clause `leaves` of a life says of the program's life, in the terms of the tables. A crash leaves the tables of the register with
+/// which it began, after a prefix of all changes of its acts. Each change that was answered is in it. Unless it is over, a crash leaves the
+/// tables of the register of its office, and nothing else. The function only calls the theorem on any database; its contract is the theorem.
 pub fn lives_over_files_leave_tables()
     ensures { (began now : DatabaseOffice) (acts : List Act) (over : Bool) → IsBlank began.office.counts
         → HasLeft (λ (o : DatabaseOffice). seen_over over_files o.office) began acts over now
@@ -30,8 +29,8 @@ pub fn lives_over_files_leave_tables()
 
 /// One life goes on where the one before it stopped, over stores of any kind. A life began with an office as an opening returns it, over any
 /// files, and stopped at any moment. Files hold what a crash left then, and the next life begins with the office that an opening returns over
-/// these. So it begins with the register after a prefix of all changes of the first life, which has each that was answered; and whatever it
-/// does, it leaves what a life leaves that begins so. The function only calls the theorem on any database, for each of the two lives.
+/// these. So it begins with the register after a prefix of all changes of the first life, which has each that was answered. Whatever it does,
+/// it leaves what a life leaves that begins so. The function only calls the theorem on any database, for each of the two lives.
 pub fn lives_go_on_from_files<S: Alter, T: Alter>()
     ensures { (first : Image) (began now : OfficeOver S.Store) (acts : List Act) (over : Bool) → IsOpened S.Store first began
         → HasLeft (seen_over S.Store) began acts over now

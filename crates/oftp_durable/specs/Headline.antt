@@ -31,7 +31,7 @@ use Rattle.oftp_engine.specs.Serving.{last_frame}
 use Rattle.oftp_life.specs.LifeParts.{session_over}
 use Rattle.oftp_durable.specs.Counts.{AnswersAreKept}
 
--- Each content that a crash may leave now is the tables of r after the first n of these changes, all of them made, where n is at least
+-- Each content that a crash may leave now is the tables of r after the first n of these changes, all of them made. There n is at least
 -- `least`. The register of the office, wherever it is open, is the one after n or n - 1 of them.
 pub record LeavesPrefix (limits : Limits) (s : State) (r : Register) (changes : List Change) (least : ℕ) : Type 0 where
   pub made : ℕ
@@ -43,7 +43,7 @@ pub record LeavesAlone (limits : Limits) (s : State) (r : Register) : Type 0 whe
   pub has : Has limits r s
   pub left : (db : Trees) → s.may_leave db → IsContentOf db r
 
--- the tables that a crash may leave now have nothing of the file, a beginning of its rows, or the file as one transfer gives it
+-- The tables that a crash may leave now have nothing of the file, or a beginning of its rows. Or they have the file as one transfer gives it.
 abbrev pub LeavesSoFar : File → Identity → State → Type 0
 LeavesSoFar file identity s = (db : Trees) → s.may_leave db → (after : Register) × IsContentOf db after × IsSoFar file (in_at after identity)
 

@@ -7,8 +7,8 @@ use Rattle.oftp_register.specs.Changes.{apply_all}
 use Rattle.oftp_register.specs.Register.{Register}
 use Rattle.oftp_durable.specs.Headline.{LeavesAlone}
 
--- the office has r after the first n of these changes, all of them made, where n is at least `low`, and a crash leaves its tables and
--- nothing else
+-- the office has r after the first n of these changes, all of them made, and n is at least `low`. A crash leaves its tables and
+-- nothing else.
 pub record IsReopened (limits : Limits) (s : State) (r : Register) (changes : List Change) (low : ℕ) : Type 0 where
   pub count : ℕ
   pub least : low ≤ count

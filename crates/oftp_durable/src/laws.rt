@@ -17,9 +17,9 @@ pub fn no_answer_passes()
     ensures { NoAnswerPasses }
 {}
 
-/// What a life leaves by the clause `leaves` of its calls, it leaves in terms of the tables: a crash leaves the tables of the register with
-/// which it began, after a prefix of all changes of its acts, with each that was answered. Unless it is over, it leaves those of its office's
-/// register, and nothing else. The function does nothing; its contract is the theorem.
+/// What a life leaves by the clause `leaves` of its calls, it leaves in terms of the tables. A crash leaves the tables of the register with
+/// which it began, after a prefix of all changes of its acts. Each change that was answered is in it. Unless it is over, it leaves those of
+/// its office's register, and nothing else. The function does nothing; its contract is the theorem.
 pub fn lives_leave_tables<S: Alter>()
     ensures { (began now : SqlOffice S S.Store) (acts : List Act) (over : Bool) → HasLeft (shown S.Store) began acts over now
         → HasLeftTables S.Store began acts over now }

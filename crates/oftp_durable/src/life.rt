@@ -45,9 +45,9 @@ pub fn live_durable<S: Alter>(office: SqlOffice<S>) -> Life<SqlOffice<S>>
 
 /// Opens the office in the files at a path, as [`open_durable`] does, and begins a life with it.
 ///
-/// It begins with the register whose tables the files hold. Where they hold what a crash left of an earlier life, it begins with the
-/// register after a prefix of all changes of that life, which has each change whose answer had one octet out. What a crash leaves of this
-/// life is what [`hear_durable`] and [`order_durable`] say. The limits are those that `open_durable` accepts.
+/// It begins with the register whose tables the files hold. If they hold what a crash left of an earlier life, it begins with the register
+/// after a prefix of all changes of that life. The prefix has each change whose answer had one octet out. What a crash leaves of this life
+/// is what [`hear_durable`] and [`order_durable`] say. The limits are those that `open_durable` accepts.
 ///
 /// # Errors
 ///
@@ -68,7 +68,7 @@ pub fn live_at<S: Start>(
     // The headline, from the content of the files.
     ensures found { IfOk result (λ l. HasCleanDisk (database_of over_files l.began)
         → WhereFilesHold (image_at S.Start) limits (λ r. LifeBegins over_files r l)) }
-    // So it begins with the register after a prefix of the changes of an earlier life, where the files hold what a crash left of that life.
+    // If the files hold what a crash left of an earlier life, it so begins with the register after a prefix of that life's changes.
     ensures reopened { IfOk result (λ l. HasCleanDisk (database_of over_files l.began)
         → ReopensPrefix (image_at S.Start) limits (database_of over_files l.began)) }
     // The headline of a first life, from files that hold no table.
@@ -123,10 +123,10 @@ pub fn admit_durable<'b, S: Alter>(
 
 /// Hears the next octets, as [`LifeSession::hear`] does.
 ///
-/// At every return a crash leaves the tables of the register with which the life began, after a prefix of all changes of all its jobs and of
-/// this session so far. The prefix has each change whose answer has one octet out. Unless the life is over, a crash leaves the tables of the
-/// office's register, which is the one after all these changes, and nothing else. No Restart position that was answered exceeds the rows
-/// that were kept. A file that came in parts is, in what a crash leaves, not there, there in part, or the whole file.
+/// At every return a crash leaves the tables of the register with which the life began, after a prefix of all changes. They are those of all
+/// its jobs and of this session so far. The prefix has each change whose answer has one octet out. Unless the life is over, a crash leaves
+/// the tables of the office's register, which is the one after all these changes, and nothing else. No Restart position that was answered
+/// exceeds the rows that were kept. A file that came in parts is, in what a crash leaves, not there, there in part, or the whole file.
 ///
 /// # Errors
 ///
@@ -187,9 +187,9 @@ pub fn end_durable<S: Alter>(session: LifeSession<'_, SqlOffice<S>>) -> (Life<Sq
 
 /// Carries out an operator's call, as [`Life::order`] does.
 ///
-/// At every return a crash leaves the tables of the register with which the life began, after a prefix of all changes of all its jobs, this
-/// call among them. The prefix has each change whose answer has one octet out. Unless the life is over, a crash leaves the tables of the
-/// office's register and nothing else.
+/// At every return a crash leaves the tables of the register with which the life began, after a prefix of all changes. They are those of all
+/// its jobs, this call among them. The prefix has each change whose answer has one octet out. Unless the life is over, a crash leaves the
+/// tables of the office's register and nothing else.
 ///
 /// # Errors
 ///

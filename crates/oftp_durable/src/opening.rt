@@ -27,7 +27,7 @@ fn leaves_alone<S: Alter>(office: &SqlOffice<S>)
 /// Opens the office in the files at a path, as [`open_at`] does. Where the files hold no table, it makes the office's tables. `S` stands
 /// for the content of the files.
 ///
-/// If a crash left the tables of a register after a prefix of some changes, the office has that register, and the next crash leaves its
+/// If a crash left the tables of a register after a prefix of some changes, the office has that register. The next crash leaves its
 /// tables and nothing else. The limits are those of the register, at most 1,000,000 files and 1,024,000,000 octets of a file.
 ///
 /// # Errors

@@ -60,8 +60,7 @@ use Rattle.oftp_engine.proofs.Offers.{found_code}
 use Rattle.oftp_engine.proofs.Room.{agreed_so}
 use Rattle.oftp_engine.proofs.StepGrounds.{one_entry}
 
--- By cases of the phase: this holds of the partner's code, and the file at hand comes from the partner to the station of one's own code, or
--- goes to the partner.
+-- This holds of the partner's code. The file at hand comes from the partner to the station of one's own code, or goes to the partner.
 abbrev pub IsAbout : (List ℕ → Type 0) → List ℕ → Register → Phase → Type 0
 IsAbout Is own r ResponderOpening = ⊤
 IsAbout Is own r InitiatorOpening = ⊤

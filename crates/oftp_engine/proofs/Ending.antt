@@ -28,8 +28,8 @@ use Rattle.oftp_engine.proofs.Phases.{over_from}
 use Rattle.oftp_engine.proofs.Progress.{octets_step}
 use Rattle.oftp_engine.proofs.Stepping.{made_register}
 
--- the contracts of an office that is open and clean: its register is sound, and where it is open a crash leaves this register and nothing
--- else
+-- The contracts of an office that is open and clean. Its register is sound, and if it is open a crash leaves this register and nothing
+-- else.
 pub record KeepsLaw (old new : View) : Type 0 where
   pub stood : old.stands
   pub sound : IsSound old.register

@@ -13,7 +13,7 @@ use Rattle.oftp_engine.proofs.Standing.{IsWholeAt}
 abbrev pub OfEntry : {A : Type 0} → ℕ → List A → (A → Type 0) → Type 0
 OfEntry {A = A} n entries P = (x : A) → entry_at n entries ≡ Some x → P x
 
--- By cases of the change. A file that starts is one of the other's, with its header; rows that are kept are a beginning of it, and those
+-- By cases of the change. A file that starts is one of the other's, with its header. Rows that are kept are a beginning of it, and those
 -- that close it are all of it. A file is handed over if it is whole there. A response that is added was issued there.
 abbrev pub Grounds : Register → Register → Change → Type 0
 Grounds r there (change.Submit identity format longest description rows) = ⊤

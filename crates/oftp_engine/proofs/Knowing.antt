@@ -1,4 +1,4 @@
--- The sessions of two stations with each other are with each other's codes, and the SSIDs on their way have the codes of who sent them.
+-- The sessions of two stations with each other are with each other's codes. The SSIDs on their way have the codes of who sent them.
 use Rattle.std.proofs.Common.{◌≡◌, ℕ, Bool, true, false, cond, List, [], ◌∷◌, ◌++◌, Option, None, Some, is_some, refl, ◌∙◌, subst}
 use Rattle.std.specs.List.{AllByRecursion}
 use Rattle.std.specs.Str.{bytes_eq}

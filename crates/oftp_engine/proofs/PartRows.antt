@@ -1,4 +1,4 @@
--- Rows of a file that come in parts: what is kept of them, cut off anywhere, is a beginning of the file, and what closes it makes it whole.
+-- Rows of a file that come in parts. What is kept of them, cut off anywhere, is a beginning of the file, and what closes it makes it whole.
 use Rattle.std.proofs.Common.{◌≡◌, ℕ, zero, suc, ◌+◌, ◌-◌, ◌≤◌, List, [], ◌∷◌, ◌++◌, length, take, drop, ap, sym, ◌∙◌, arith, append_assoc, length-drop}
 use Rattle.std.proofs.lemmas.List.{drop-append-le, take-append-drop}
 use Rattle.std.proofs.Math.Seq.{drop-append_seam}

@@ -1,5 +1,5 @@
--- What a run needs of the session's steps: the register accepts each change, how a session that is over has ended, and which session is
--- open.
+-- What a run needs of the session's steps. It is that the register accepts each change, how a session that is over has ended, and which
+-- session is open.
 use Rattle.std.proofs.Common.{◌≡◌, ◌≢◌, true, false, Option, None, Some, Result, Ok, Err, refl, sym, ap, ◌∙◌, is_some}
 use Rattle.std.proofs.lemmas.Bool.{false≢true}
 use Rattle.oftp_wire.specs.declared.command.Command.{Command}

@@ -79,8 +79,8 @@ stands_first There Back book book' partner partner' limits limits' lawful lawful
   meet = tt;
 }
 
--- the promise after every list of events, of files with such identities: those between the two are among them, and no dealings with others
--- change a file among them
+-- The promise after every list of events, of files with such identities. Those between the two are among them, and no dealings with others
+-- change a file among them.
 pub kept_among : (There Back : Identity → Type 0) (book book' : BookData) (partner partner' : Partner) (limits limits' : Limits) (events : List Event) → IsLawful book limits → IsLawful book' limits'
     → GoesOnAmong There Back book.station.code book'.station.code → AllByRecursion (MayHappenTo There Back book.station.code book'.station.code) events
     → PromiseIsKept There Back (after_events (world_of book book' partner partner' limits limits') events)

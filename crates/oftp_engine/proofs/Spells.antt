@@ -1,4 +1,4 @@
--- Each step of a session that is in its ranges sends a command that a frame can hold, and stays in its ranges, by cases of phase.
+-- Each step of a session that is in its ranges sends a command that a frame can hold. It stays in its ranges, by cases of phase.
 use Rattle.std.proofs.Common.{◌≡◌, ℕ, suc, ◌+◌, ◌<◌, ◌≤◌, ◌==◌, ◌&&◌, nat_le, nat_lt, Bool, true, false, cond, List, [], ◌∷◌, length, Option, None, Some, slice_get, Result, Ok, Err, refl, sym, subst, arith}
 use Rattle.std.specs.Option.{IfSome}
 use Rattle.std.specs.Str.{bytes_eq}

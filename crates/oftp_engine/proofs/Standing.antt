@@ -29,7 +29,7 @@ use Rattle.oftp_engine.specs.TwoStations.{Has, IfAny, is_handed, IsAnsweredBy}
 
 -- One file, by its identity: as the sender has it, and as the receiver has it.
 
--- the receiver has a beginning of the file, or all of it if it is whole there; it is whole there if the sender holds it as handed over
+-- The receiver has a beginning of the file, or all of it if it is whole there. It is whole there if the sender holds it as handed over.
 pub record IsPartOf (f : Outgoing) (e : Incoming) : Type 0 where
   pub format : e.format ≡ f.format
   pub longest : e.longest ≡ f.longest
@@ -242,7 +242,7 @@ pub data HasEnded (contact : Contact) (t : Transfer) (coming : List Command) (ot
   EfidGoes : All IsCredit coming → (efid : Efid) → IsTaking t.file.identity t.from (payloads_in contact t) (command.Efid efid ∷ []) other → HasEnded contact t coming other
   AnswerComes : (credits : List Command) → All IsCredit credits → (answer : Command) → IsEndAnswer answer → coming ≡ credits ++ answer ∷ [] → IsTold [] other → HasEnded contact t coming other
 
--- The session that may speak next, by its phase and by what is on its way to it, and the other one (RFC 5024, section 4).
+-- The session that may speak next, by its phase and by what is on its way to it (RFC 5024, section 4). With it goes the other session.
 abbrev pub Speaks : Talk → Phase → Talk → Type 0
 Speaks talk ResponderOpening other = MayGreet talk other
 Speaks talk InitiatorOpening other = ⊥

@@ -63,8 +63,8 @@ pub record HasConcluded (setting : Setting) (given : List ℕ) (first now : Scen
   pub all : IsWhole setting given first now
   pub ends : Some end ≡ ending_of (whole setting given first.office.register).phase
 
--- It sends a file, and goes on without more octets. It is between two of its steps: what is out, the register, and what a crash leaves are
--- what they are where memory runs out there.
+-- It sends a file, and goes on without more octets. It is between two of its steps. What is out, the register, and what a crash leaves are
+-- what they are if memory runs out there.
 pub record SendsOn (setting : Setting) (given : List ℕ) (talk : Dialogue) (first now : Scene) : Type 0 where
   pub heard : HasHeard setting given talk first now
   pub between : IsOutOfMemory setting given first now
@@ -96,8 +96,8 @@ IsOwn fault.Write = ⊤
 IsOwn fault.Office = ⊤
 IsOwn fault.Memory = ⊤
 
--- Others used the office, and its view is the same: the register, that it is open, its count of errors, and that a crash leaves that
--- register and nothing else. This holds after look-ups that returned no error.
+-- Others used the office, and its view is the same. These are the register, that it is open, its count of errors, and that a crash leaves
+-- that register and nothing else. This holds after look-ups that returned no error.
 pub record ShowsSame (old new : View) : Type 0 where
   pub register : new.register ≡ old.register
   pub stands : old.stands → new.stands

@@ -35,8 +35,8 @@ DeedsAreOrders = (w : World) (call : Operator) (deed : Deed) (after : Register) 
 abbrev pub MayBeLeft : List Change → Register → ℕ → ℕ → Register → Type 0
 MayBeLeft changes start least made left = IsPrefix (λ (content r : Register). r ≡ content) changes start least made left
 
--- What `serve` says that a crash may leave, an event leaves. The crash is between two steps; or it is within a step, where the outputs
--- before it and some octets of its own are out, and the station crashes there or its office returns an error.
+-- What `serve` says that a crash may leave, an event leaves. The crash is between two steps, or within one. If it is within a step, the
+-- outputs before it and some octets of its own are out. The station crashes there or its office returns an error.
 pub record StopsLeavePrefixes : Type 0 where
   pub between : (w : World) (c : Course) (made : ℕ) (left : Register) → w.one.session ≡ Some c
       → MayBeLeft c.changes w.one.start (answered c.outputs (length (octets_of c.outputs))) made left
@@ -54,7 +54,7 @@ pub record IsWithAnother (code : List ℕ) (setting : Setting) (stream : List �
   pub reads : Reads LONGEST_FRAME stream commands fault
   pub others : AllByRecursion (λ m. (ssid : Ssid) (a : Agreement) → command_of m ≡ Ok (command.Ssid ssid) → ssid_verdict setting ssid ≡ Ok a → ssid.code ≢ code) commands
 
--- What `serve` says that a session with another partner than the other station may leave, at its end or at a crash, an event leaves, and it
+-- `serve` says what a session with another partner than the other station may leave, at its end or at a crash. An event leaves that, and
 -- changes nothing else. The station may call or be called, and its writer may return an error.
 abbrev pub SessionsAreDealings : Type 0
 SessionsAreDealings = (w : World) (session : SessionData) (least made : ℕ) (left : Register) → w.one.session ≡ None

@@ -50,7 +50,7 @@ pub record BreaksOff (c : Course) (s : List ℕ) (old new : Scene) : Type 0 wher
   pub told : new.told ≡ next_count old.told
 
 -- The office returned an error within a step. Either the register is the one before it, and a crash may leave the one before or the one
--- after; or the register is the one after it, and a crash leaves nothing else.
+-- after. Or the register is the one after it, and a crash leaves nothing else.
 pub record StaysBefore (at : Course) (step : Step) (now : View) : Type 0 where
   pub same : now.is_open → now.register ≡ at.register
   pub left : WithOrWithout step.change at.register now
@@ -163,8 +163,8 @@ pub record OnlyWrites {T W : Type 0} (contents : W → Option (List ℕ)) (befor
   pub out : Puts contents before after
   pub told : WriterTold before after result
 
--- What a call on a session does whatever the store reads. A store that is clean after it was clean before, it returns no error of a reader,
--- it leaves the session unbroken if it returns none, and of the writer it only writes and returns the errors.
+-- What a call on a session does whatever the store reads. A store that is clean after it was clean before. It returns no error of a reader,
+-- and leaves the session unbroken if it returns no error. Of the writer it only writes, and returns the errors.
 pub record Behaves {T W : Type 0} (contents : W → Option (List ℕ)) (old new : View) (before after : Port W) (seen : Seen) (result : Result T RunFault) : Type 0 where
   pub clean : WasClean old new
   pub own : IfErr result IsOwn
@@ -235,7 +235,8 @@ Driven c s stream seen old new (Ok going.Waits) = IsWaiting c s stream seen old 
 Driven c s stream seen old new (Ok going.Sends) = IsPausing c s stream seen old new
 Driven c s stream seen old new (Err fault) = Fails c s old new fault
 
--- on a clean store, wherever the session is in its run, a call goes on as far as the octets of its stream reach, if that had returned no error
+-- A call on a clean store goes on as far as the octets of its stream reach, wherever the session is in its run. That holds if the stream
+-- had returned no error.
 abbrev pub Drives : Dialogue → Scene → Dialogue → Scene → Result Going RunFault → Type 0
 Drives before old after new result = OnCleanStore old.office new.office ((c : Course) → before.stream.limit ≡ LONGEST_FRAME → before.stream.told ≡ None
     → IsAt c before.seen old → Driven c before.stream.rest after.stream after.seen old new result)

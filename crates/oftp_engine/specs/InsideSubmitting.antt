@@ -54,7 +54,8 @@ new_file_result (Ok None) = Err fault.Office
 new_file_result (Ok (Some file)) = Ok (told.Done file.no)
 new_file_result (Err e) = Err fault.Office
 
--- on a clean store the registration of a file with these rows was tried, if its description is the submitted one and the rows are of its format
+-- On a clean store the registration of a file with these rows was tried. That is so if its description is the submitted one and the rows are of its
+-- format.
 abbrev pub RegistersFile : Identity → Submission → List ℕ → List (List ℕ) → View → View → Result Told RunFault → Type 0
 RegistersFile identity s description rows old new result = OnCleanStore old new (description ≡ s.description.now → IsFile s.format s.longest rows
     → Attempts (codes "done: submit ") (λ deed. deed ≡ registered identity s rows old.register) old new result)

@@ -102,8 +102,8 @@ pub record CallCarriedOut {W : Type 0} (contents : W → Option (List ℕ)) (boo
   pub result : new.result ≡ Some answer
   pub ends : CallEnds deed stop answer
 
--- What a job that was cut short leaves: all changes that it would make, how many of these come before an output of which an octet is out,
--- and how many are made.
+-- What a job that was cut short leaves: all changes that it would make, and how many are made. Also how many of these changes come before
+-- an output of which an octet is out.
 pub record Stop : Type 0 where
   pub changes : List Change
   pub answered : ℕ

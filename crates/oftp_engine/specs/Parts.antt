@@ -55,7 +55,7 @@ IsSoFar file (Some e) = IsBegun file e ⊎ IsUnbroken file e
 abbrev pub CarriesPart : File → ℕ → List (List ℕ) → Type 0
 CarriesPart file from payloads = (next : List (List ℕ)) × CarriesWhole file.format file.longest (payloads ++ next) (drop from file.rows)
 
--- A command is a part of the file, if it is of this identity: SFID has the file's header, DATA carry the file from the answered row on, and
+-- A command is a part of the file, if it is of this identity. SFID has the file's header, DATA carry the file from the answered row on, and
 -- EFID has the counts of the file.
 abbrev pub IsPartCommand : File → Identity → Phase → Command → Type 0
 IsPartCommand file identity (ListenerIdle contact) (command.Sfid sfid) =
@@ -78,8 +78,8 @@ AreParts file identity limit (m ∷ ms) c =
     let d = settled limit c in
     (is_over d.phase || is_stopped limit d) ≡ false → IsPart file identity d.phase (command_of m) × AreParts file identity limit ms (came_in d m)
 
--- a session: its book and the partner that it calls, how many octets its writer takes before it returns an error, if it does, and what its
--- reader gives
+-- A session: its book and the partner that it calls, and what its reader gives. Also how many octets its writer takes before it returns an
+-- error, if it does.
 pub record SessionData : Type 0 where
   pub setting : Setting
   pub limit : Option ℕ

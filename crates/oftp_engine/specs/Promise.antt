@@ -36,8 +36,8 @@ abbrev pub PromiseIsKept : (Identity → Type 0) → (Identity → Type 0) → W
 PromiseIsKept There Back w = (ContentArrivesOf There (register_of w.one) (register_of w.other) × ContentArrivesOf Back (register_of w.other) (register_of w.one))
     × (ResponsesAreIssuedOf There (register_of w.one) (register_of w.other) × ResponsesAreIssuedOf Back (register_of w.other) (register_of w.one))
 
--- Two stations among any others: the promise is kept of the files from the one to the other, and of those from the other to the one. Whose
--- they are is said by the two codes.
+-- Two stations among any others keep the promise of the files that go from either of them to the other. Whose they are is said by the two
+-- codes.
 abbrev pub TwoStations : Type 0
 TwoStations = (book book' : BookData) (partner partner' : Partner) (limits limits' : Limits) (events : List Event) → IsLawful book limits → IsLawful book' limits'
     → PromiseIsKept (GoesBetween book.station.code book'.station.code) (GoesBetween book'.station.code book.station.code) (after_events (world_of book book' partner partner' limits limits') events)
@@ -54,7 +54,7 @@ TwoStationsAlone = (book book' : BookData) (partner partner' : Partner) (limits 
     → ContentIsKept (after_events (world_of book book' partner partner' limits limits') events)
     × ResponsesAreKept (after_events (world_of book book' partner partner' limits limits') events)
 
--- Among others the promise isn't kept of all files: whatever the books and partners, there are events after which a file is whole at the one
+-- Among others the promise isn't kept of all files. Whatever the books and partners, there are events after which a file is whole at one
 -- station, and the other has none with its identity. It came from a third partner. So the codes in `TwoStations` are needed.
 abbrev pub CodesAreNeeded : Type 0
 CodesAreNeeded = (book book' : BookData) (partner partner' : Partner) (limits limits' : Limits) → 1 ≤ limits.files

@@ -63,8 +63,8 @@ pub record IsQueue (octets : List ℕ) : Type 0 where
   pub lost : List ℕ
   pub all : in_frames said ≡ octets ++ lost
 
--- What is out where a session ends: these outputs, or a beginning of their octets if the writer returned an error, or a beginning of ESID
--- 08 after them if the office returned one (specs/Served.antt).
+-- What is out at the end of a session: these outputs, or a beginning of their octets if the writer returned an error. If the office
+-- returned one, these outputs and a beginning of ESID 08 are out (specs/Served.antt).
 pub record SaysQueues (outs : List Output) : Type 0 where
   pub whole : IsQueue (octets_of outs)
   pub cut : (count : ℕ) → IsQueue (take count (octets_of outs))
@@ -75,7 +75,7 @@ abbrev pub RunsSayQueues : Type 0
 RunsSayQueues = (limit : Option ℕ) (setting : Setting) (given : List ℕ) (r : Register) (outs later : List Output)
     → (run limit given (started setting r)).outputs ≡ outs ++ later → SaysQueues outs
 
--- The commands of these outputs, and how the other station hears them when some octets of them are out, or all of them and ESID 08 or a
+-- The commands of these outputs, and how the other station hears them. Some octets of them are out, or all of them and ESID 08 or a
 -- beginning of it.
 pub record AreHeard (outs : List Output) : Type 0 where
   pub said : List Command

@@ -47,7 +47,7 @@ pub record IsSpellable (r : Register) : Type 0 where
   pub incoming : All IsSpellableIncoming r.incoming
   pub outgoing : All IsSpellableOutgoing r.outgoing
 
--- a session begins with a book and the partner that it calls, as they are read from a file, and with a sound register in its ranges
+-- A session begins with a book and the partner that it calls, as they are read from a file. Its register is sound and in its ranges.
 pub record StartsInRange (setting : Setting) (r : Register) : Type 0 where
   pub book : IsBook setting.book
   pub called : IfSome setting.called IsPartner
@@ -60,8 +60,8 @@ HasWords (operator.Submit submission) = IsUtf8 submission.description.now
 HasWords (operator.Release n) = ⊤
 HasWords (operator.Refuse n reason text) = IsUtf8 text.now
 
--- Each register of a station is in its ranges: the first one, those after a session's changes, wherever it stops, and those after an
--- operator's calls.
+-- Each register of a station is in its ranges. These are the first one, those after a session's changes, wherever it stops, and
+-- those after an operator's calls.
 pub record RangesAreKept : Type 0 where
   pub first : (limits : Limits) → IsSpellable (empty limits)
   pub sessions : (limit : Option ℕ) (setting : Setting) (given : List ℕ) (r s : Register) (n : ℕ) → StartsInRange setting r

@@ -8,8 +8,8 @@ use Rattle.oftp_session.specs.Settings.{Setting}
 use Rattle.oftp_engine.specs.Runs.{Output, run, started}
 use Rattle.oftp_engine.specs.Serving.{last_frame}
 
--- no output of a run is the frame of ESID 08, whatever the book, the partner, the octets and the register, and whether or not the writer
--- returned an error
+-- No output of a run is the frame of ESID 08, whether or not the writer returned an error. That is so whatever the book, the partner,
+-- the octets and the register.
 abbrev pub RunsNeverLackResources : Type 0
 RunsNeverLackResources = (limit : Option ℕ) (setting : Setting) (given : List ℕ) (r : Register)
     → All (λ (o : Output). o.octets ≢ last_frame) (run limit given (started setting r)).outputs

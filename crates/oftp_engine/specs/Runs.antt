@@ -58,8 +58,8 @@ advance c s = record {
   outputs = with_output c.outputs s.output (length (with_change c.changes s.change));
 }
 
--- octets that aren't a command end the session, for the reason of their error; an error without a reason never occurs here, since only
--- encoding returns it
+-- Octets that aren't a command end the session, for the reason of their error. An error without a reason never occurs here, since only
+-- encoding returns it.
 abbrev pub refusal : Option SessionReason → Step
 refusal (Some reason) = fails reason
 refusal None = fails CommandNotRecognised

@@ -21,8 +21,8 @@ use Rattle.oftp_io.specs.Ports.{IsDone}
 use Rattle.oftp_engine.specs.Runs.{Course, Output, advance, run, started, octets_of, ending, answered}
 use Rattle.oftp_engine.specs.Serving.{MayRunOut, Scene, Took, IsSaid, last_frame}
 
--- The octets that a reader gave in a call: as many as its port counts, at most what the port's limit left, and the next ones that it had,
--- where these are known.
+-- The octets that a reader gave in a call. They are as many as its port counts, and at most what the port's limit left. They are the next
+-- ones that it had, if these are known.
 pub record Gave {R : Type 0} (remaining : R → Option (List ℕ)) (old new : Port R) (given : List ℕ) : Type 0 where
   pub bytes : Consumes (remaining old.inner) (remaining new.inner) given
   pub count : new.moved ≡ old.moved + length given
@@ -117,8 +117,8 @@ module _ (setting : Setting) (given : List ℕ) (old new : Scene) where
     pub told : new.told ≡ next_count old.told
 
   -- The office returned an error. Whole outputs are out, and after them ESID 08 or as much of it as the writer took before it returned an
-  -- error. The register is the one after some changes, at least those that were answered, and at most those up to the step in which the
-  -- session stopped.
+  -- error. The register is the one after some changes. They are at least those that were answered, and at most those up to the step in
+  -- which the session stopped.
   pub record IsOfficeFault : Type 0 where
     pub outs : List Output
     pub later : List Output
@@ -195,7 +195,7 @@ abbrev pub WriterTold : {T W : Type 0} → Port W → Port W → Result T RunFau
 WriterTold old new (Ok x) = new.faults ≡ old.faults
 WriterTold old new (Err fault) = WriterErr old new fault
 
--- a session ends by the end of its input only where no octet is left; at any other end the port sees no end of input
+-- A session ends by the end of its input only if no octet is left. At any other end the port sees no end of input.
 abbrev pub EndSeen : {R : Type 0} → (R → Option (List ℕ)) → Port R → Port R → End → Type 0
 EndSeen remaining old new (Own reason) = new.ended ≡ old.ended
 EndSeen remaining old new (Partner reason) = new.ended ≡ old.ended

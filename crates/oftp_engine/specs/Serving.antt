@@ -7,7 +7,7 @@ use Rattle.oftp_session.specs.Phases.{Phase, Transfer, Sending, frame_of, esid_o
 use Rattle.oftp_session.specs.declared.state.Contact.{Contact}
 use Rattle.oftp_io.specs.declared.port.Port.{Port}
 
--- this holds on a clean store: if the store reads what was written up to the end of a call, and the office was open before it
+-- This holds on a clean store. The store reads what was written up to the end of a call, and the office was open before it.
 abbrev pub OnCleanStore : View → View → Type 0 → Type 0
 OnCleanStore old new holds = new.clean → old.stands → holds
 
@@ -23,8 +23,8 @@ FailsOnlyBy fault result = IfErr result (λ other. other ≡ fault)
 abbrev pub last_frame : List ℕ
 last_frame = frame_of (esid_of ResourcesNotAvailable)
 
--- What an office and a writer show: the office's view, the contents of the writer, how many octets it took, and how many errors it
--- returned. The counts run modulo 2^64.
+-- What an office and a writer show: the office's view, and the contents of the writer. Also how many octets the writer took, and
+-- how many errors it returned. The counts run modulo 2^64.
 pub record Scene : Type 1 where
   pub office : View
   pub contents : Option (List ℕ)

@@ -19,8 +19,8 @@ use Rattle.oftp_engine.specs.declared.operating.Operator.{Operator}
 use Rattle.oftp_engine.specs.Operating.{Deed, IsDeed}
 use Rattle.oftp_engine.specs.Runs.{Course, Output, started, advance, answered, octets_of}
 
--- A station: its book and its entry for the other station, the register that its last session left, its session if it has one, and the
--- commands that are on their way to it.
+-- A station: its book and its entry for the other station, and the register that its last session left. Also its session if it has one, and
+-- the commands that are on their way to it.
 pub record Station : Type 0 where
   pub book : BookData
   pub partner : Partner
@@ -120,7 +120,7 @@ abbrev pub AreMade : Register → List Change → Register → Type 0
 AreMade r [] s = s ≡ r
 AreMade r (change ∷ changes) s = (next : Register) × (apply r change ≡ Ok next) × IsSound next × AreMade next changes s
 
--- from the one register to the other any changes are made, as long as each file for the partner of this code, and each from it, is as it was
+-- Any changes are made between two registers. Each file for the partner of this code, and each from it, is as it was.
 pub record LeavesFilesOf (code : List ℕ) (r s : Register) : Type 0 where
   pub changes : List Change
   pub made : AreMade r changes s
@@ -134,9 +134,9 @@ pub record Dealings : Type 0 where
   pub left : Register → Register
   pub is : (r : Register) → IsSound r → LeavesFilesOf without r (left r)
 
--- What happens at the one station: it makes a step, loses the connection, crashes between steps or within one, ends the session at an error
--- of its office within a step, does an operator's call, has its office changed by another caller, calls the other, or deals with others. A
--- crash, or an error of the office, leaves a number of the session's changes.
+-- What happens at one station. It makes a step, loses the connection, or crashes between steps or within one. It ends the session at an
+-- error of its office within a step, does an operator's call, or has its office changed by another caller. It calls the other, or deals
+-- with others. A crash, or an error of the office, leaves a number of the session's changes.
 pub data Happening : Type 0 where
   Does : Doing → Happening
   Breaks : Happening

@@ -41,23 +41,23 @@ pub fn queues_are_heard()
     ensures { QueuesAreHeard }
 {}
 
-/// A session sends commands, each as a frame. What it has out at its end, or at an error, is these frames in order, cut off somewhere. If
-/// it begins with a book, a partner and a register whose fields are in range, a frame can hold each of these commands, so the other station
-/// reads the first of them as they were sent. The function does nothing; its contract is the theorem.
+/// A session sends commands, each as a frame. What it has out at its end, or at an error, is these frames in order, cut off somewhere. If it
+/// begins with a book, a partner and a register whose fields are in range, a frame can hold each of these commands. So the other station reads
+/// the first of them as they were sent. The function does nothing; its contract is the theorem.
 pub fn runs_say_queues()
     ensures commands { RunsSayCommands }
     ensures queues { RunsSayQueues }
     ensures heard { RunsAreHeard }
 {}
 
-/// The fields of a register stay in range: in an empty register, after the changes of a session, wherever it stops, and after an operator's
-/// call whose texts are UTF-8. The function does nothing; its contract is the theorem.
+/// The fields of a register stay in range. It is empty, or after the changes of a session, wherever it stops, or after an operator's call whose
+/// texts are UTF-8. The function does nothing; its contract is the theorem.
 pub fn ranges_are_kept()
     ensures { RangesAreKept }
 {}
 
-/// No output of a run is ESID 08, whatever the book, the partner, the octets and the register, and whether or not the writer returned an
-/// error. No payload is refused for lack of memory. So ESID 08 is sent only after an error of the office. The function does nothing; its
+/// No output of a run is ESID 08, whether or not the writer returned an error. That is so whatever the book, the partner, the octets and the
+/// register. No payload is refused for lack of memory. So ESID 08 is sent only after an error of the office. The function does nothing; its
 /// contract is the theorem.
 pub fn runs_never_lack_resources()
     ensures runs { RunsNeverLackResources }
@@ -100,18 +100,18 @@ pub fn no_count_passes()
     ensures { NoCountPasses }
 {}
 
-/// Two stations among any others keep their promise after every list of events. An event is a session, a command that arrives or is lost, a
-/// break, a crash or an error of an office at any change, an operator's call, a file or response that another caller commits, or dealings
-/// with third partners. The promise is of the files from one of them to the other, by the two codes: what one station holds as handed over is
-/// whole at the other; what is whole there is a file of the first; what the first holds as delivered or returned was answered so there. If
-/// the two are alone, it is of all files. The function does nothing; its contract is the theorem.
+/// Two stations among any others keep their promise after every list of events. An event is a session, a command that arrives or is lost, or a
+/// break. It is a crash or an error of an office at any change, or an operator's call. It is a file or response that another caller commits, or
+/// dealings with third partners. The promise is of the files from either of them to the other, by the two codes. What one station holds as
+/// handed over is whole at the other, and what is whole there is a file of the first. What the first holds as delivered or returned was
+/// answered so there. If the two are alone, it is of all files. The function does nothing; its contract is the theorem.
 pub fn two_stations()
     ensures among { TwoStations }
     ensures alone { TwoStationsAlone }
 {}
 
-/// Among others the promise of two stations isn't kept of all files, whatever their books: after one event a file of a third partner is
-/// whole at the one, and the other has none with its identity. So [`two_stations`](crate::laws::two_stations) needs the two codes. The function
+/// Among others the promise of two stations isn't kept of all files, whatever their books. After one event a file of a third partner is whole
+/// at one of them, and the other has none with its identity. So [`two_stations`](crate::laws::two_stations) needs the two codes. The function
 /// does nothing; its contract is the theorem.
 pub fn codes_are_needed()
     ensures { CodesAreNeeded }
@@ -137,7 +137,7 @@ pub fn stops_leave_prefixes()
 {}
 
 /// A caller is let in exactly where the first whole command of what it has sent is an SSID that the book accepts. From there on each office
-/// that is open can go on: whatever its register, the conversation has heard all octets of the caller, and is where it would be had the office
+/// that is open can go on, whatever its register: the conversation has heard all octets of the caller. It is where it would be had the office
 /// been there from the first octet on. The function does nothing; its contract is the theorem.
 pub fn callers_need_no_office<O: Office, W: Write>()
     ensures only { (book : BookData) (octets : List ℕ) → admission_of book octets ≡ LetIn → IsAccepted book octets }

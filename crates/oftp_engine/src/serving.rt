@@ -425,8 +425,8 @@ pub(crate) fn opened<'b>(alloc: Global, book: &'b Book, role: Role<'b>) -> Sessi
     }
 }
 
-/// Serves one session by a book and in a role, over the octets of `reader`, until an ESID of the partner or of the station or the end of
-/// the input. Octets after the end aren't read as commands.
+/// Serves one session by a book and in a role, over the octets of `reader`. It ends at an ESID of the partner or of the station, or at the
+/// end of the input. Octets after the end aren't read as commands.
 ///
 /// What is out and what is left in the register are those of the session's run over the octets that the reader gave.
 ///

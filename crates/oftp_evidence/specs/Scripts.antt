@@ -1,7 +1,7 @@
 -- The script that checks a folder of evidence.
 use Rattle.std.specs.Prelude.{ℕ, List, ◌++◌, codes}
 
--- the text of verify.sh: the sums are compared, and then the record is played over a new database, by the book that is the first argument
+-- The text of verify.sh. The sums are compared, and then the record is played over a new database, by the book that is the first argument.
 abbrev pub verify_script : List ℕ
 verify_script = codes "#!/bin/sh\n"
     ++ (codes "# sh verify.sh BOOK: compares the sums, and plays the record over a new database, by the book.\n"

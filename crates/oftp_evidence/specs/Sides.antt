@@ -23,7 +23,7 @@ abbrev pub said_parts : Option Part → List Part
 said_parts None = []
 said_parts (Some p) = p ∷ []
 
--- after octets that begin so (RFC 5024, section 8): a whole frame is a command, a part of one waits for more, and no frame ends the search
+-- After octets that begin so (RFC 5024, section 8). A whole frame is a command, a part of one waits for more, and no frame ends the search.
 abbrev pub after_head : SideParts → Head → SideParts
 after_head s (Whole n) = record s { rest = drop n s.rest; found = s.found ++ said_parts (part_in s.file (command_in n s.rest)) }
 after_head s Waits = s

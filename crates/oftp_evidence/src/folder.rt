@@ -329,9 +329,9 @@ fn add_station(
     add_facts(alloc, &standing_facts(standing), text)
 }
 
-/// The text of a folder's `README`: which file it is, its response if there is one, the sessions that say something of it, the station, what the
-/// file's state proves and what it doesn't, and how the folder is checked. Characters that can't be seen are escapes, and a line that is too long
-/// is cut.
+/// The text of a folder's `README`: which file it is, its response if there is one, and the sessions that say something of it. Then come the
+/// station, what the file's state proves and what it doesn't, and how the folder is checked. Characters that can't be seen are escapes, and a
+/// line that is too long is cut.
 ///
 /// # Errors
 ///

@@ -1,5 +1,5 @@
-//! What a record and a register have of one file: the commands that say something of it, in the octets of a session's side, and what a folder
-//! of evidence tells of it.
+//! What a record and a register have of one file. It is the commands that say something of it, in the octets of a session's side, and what a
+//! folder of evidence tells of it.
 #![tactic(auto)]
 
 mod facts;

@@ -3,8 +3,8 @@
 ghost use Rattle.std.specs.Prelude.{◌≡◌};
 ghost use Rattle.oftp_evidence.specs.Scripts.{verify_script};
 
-/// The text of `verify.sh`: it compares the sums of the folder's files, and plays its record over a new database, by the book that is its first
-/// argument, since the record has no passwords.
+/// The text of `verify.sh`. It compares the sums of the folder's files, and plays its record over a new database. The book for that is its
+/// first argument, since the record has no passwords.
 pub fn verify_script() -> &'static str
     ensures { result.now ≡ verify_script }
 {

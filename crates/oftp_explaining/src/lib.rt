@@ -1,5 +1,5 @@
-//! What a command tells beside its line: what failed or was refused, where, and why. It is found out after the command has ended, by a look
-//! at the files, the book, the database and the addresses that its line names.
+//! What a command tells beside its line: what failed or was refused, where, and why. It is found out after the command has ended, by a
+//! look. That is at the files, the book, the database and the addresses that its line names.
 #![tactic(auto)]
 
 mod addresses;

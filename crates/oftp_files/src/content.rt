@@ -27,7 +27,7 @@ pub fn read_content(rt: &HostRuntime, submit: &Submit<'_>) -> Result<Vec<u8>, Fa
 }
 
 /// Reads the content of a file. If it is longer than any file within the limits, only a beginning is kept, which shows that. The beginning
-/// is valid in its format if the whole file is: in format F it leaves the same remainder of a record, and in format V it ends where a
+/// is valid in its format if the whole file is. In format F it leaves the same remainder of a record, and in format V it ends where a
 /// record ends. A device is judged by this beginning alone.
 ///
 /// # Errors
@@ -61,8 +61,8 @@ fn most_of(submit: &Submit<'_>, about: &Metadata) -> u64 {
     (MOST_CONTENT + 1).saturating_add(behind)
 }
 
-/// How many octets to read beyond the first that is too many, so that the beginning leaves the same remainder as the whole file, in records
-/// of one length. A device is taken to have whole records. For records of length 0 the result is 0.
+/// How many octets to read beyond the first that is too many. In records of one length, the beginning then leaves the same remainder as the
+/// whole file. A device is taken to have whole records. For records of length 0 the result is 0.
 fn left_over(longest: u64, about: &Metadata) -> u64 {
     if longest == 0 {
         return 0;
@@ -86,7 +86,8 @@ fn read_up_to(rt: &HostRuntime, file: &File, most: u64) -> Result<Vec<u8>, Fault
     }
 }
 
-/// Cuts a beginning in format V that is too long: where a record ends, or one octet after that if the rest of the file isn't whole records.
+/// Cuts a beginning in format V that is too long. It ends where a record ends, or one octet after that if the rest of the file isn't whole
+/// records.
 fn cut_records(
     longest: u32,
     mut octets: Vec<u8>,

@@ -197,8 +197,8 @@ fn add_both<'f>(
     Ok(())
 }
 
-/// What the partner did in a session that RFC 5024 doesn't allow, or that this station doesn't take, in lines: by the octets that came from it, and
-/// by those that went to it if they are given.
+/// What the partner did in a session that RFC 5024 doesn't allow, or that this station doesn't take, in lines. It is told by the octets that came
+/// from it, and by those that went to it if they are given.
 ///
 /// # Errors
 /// [`Fault::MEMORY`].
@@ -215,8 +215,8 @@ pub fn explained(alloc: Global, heard: &[u8], said: Option<&[u8]>) -> Result<Str
     Ok(lines)
 }
 
-/// Prints what the partner did in a session that RFC 5024 doesn't allow, or that this station doesn't take: by the octets that came from it, and
-/// by those that went to it where a file has them. Returns whether there was nothing.
+/// Prints what the partner did in a session that RFC 5024 doesn't allow, or that this station doesn't take. It is told by the octets that came
+/// from it, and by those that went to it if a file has them. Returns whether there was nothing.
 ///
 /// # Errors
 /// [`Fault::File`] if a file can't be read; [`Fault::Run`] with [`RunFault::Write`] if `out` returned an error; [`Fault::MEMORY`].

@@ -62,8 +62,8 @@ pub fn open_regular(rt: &HostRuntime, path: &str) -> Result<Option<File>, Fault>
     })
 }
 
-/// Opens a file that was looked at for reading, and for writing too where that is allowed: opened so, a pipe that somebody has put there since
-/// the look doesn't wait for its other end. Links are followed, so the caller compares what is open with what was looked at.
+/// Opens a file that was looked at for reading, and for writing too if that is allowed. A pipe that somebody has put there since the look,
+/// opened so, doesn't wait for its other end. Links are followed, so the caller compares what is open with what was looked at.
 ///
 /// # Errors
 /// The file can't be opened.

@@ -70,8 +70,8 @@ pub fn free_name(rt: &HostRuntime, path: &str, database: &str) -> Result<Name, F
     Ok(Name { path, access })
 }
 
-/// Examines a path as [`free_name`] does, for a new file with these permissions and this owner: those of another one in the folder, so that they
-/// aren't asked for again.
+/// Examines a path as [`free_name`] does, for a new file with these permissions and this owner. They are those of another one in the folder, so
+/// that they aren't asked for again.
 ///
 /// # Errors
 /// Those of [`free_name`].

@@ -1,4 +1,5 @@
--- What is done with a file that is taken from a folder, with one that is collected to it, and about a folder's lock, and what an error concerns.
+-- What is done with a file that is taken from a folder, and with one that is collected to it. Also what is done about a folder's lock, and what an
+-- error concerns.
 use Rattle.oftp_folders.specs.declared.judging.Collecting.{Collecting}
 use Rattle.oftp_folders.specs.declared.judging.Collecting.TheVariants.{Write, Leave, Refuse}
 use Rattle.oftp_folders.specs.declared.judging.Concern.{Concern}

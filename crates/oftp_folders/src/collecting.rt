@@ -20,9 +20,8 @@ use std::io::{self, Write};
 /// released. Returns whether none was refused.
 ///
 /// # Errors
-/// Those of the backend; [`Fault::File`] if a file can't be created, something that isn't this file has its name, or the folder can't be
-/// synced; [`Fault::Run`] if `out` returned an error; [`Fault::MEMORY`]. What was written and released so far stays, and the next call
-/// continues there.
+/// Those of the backend. [`Fault::File`] if a file can't be created, something that isn't this file has its name, or the folder can't be synced.
+/// [`Fault::Run`] if `out` returned an error; [`Fault::MEMORY`]. What was written and released so far stays, and the next call continues there.
 pub fn collect<B: Backend + Drop>(
     rt: &HostRuntime,
     line: &Collect<'_>,

@@ -44,7 +44,7 @@ impl Room {
         }
     }
 
-    /// Opens the folder with a name in this one, which has to belong to the user as whom the program runs, and to be no link. Returns `None` if
+    /// Opens the folder with a name in this one. It has to belong to the user as whom the program runs, and to be no link. Returns `None` if
     /// there is none.
     pub(super) fn inner(&self, rt: &HostRuntime, name: &str) -> Result<Option<Room>, Fault> {
         let path = path_in(rt, self.path(), name)?;
@@ -111,8 +111,8 @@ impl Folder {
     /// Locks the folder at a path. If another command has it locked, waits up to ten seconds.
     ///
     /// # Errors
-    /// [`Fault::File`] if there is no such folder, it can't be opened, its lock can't be created, is a link, another user's or open to others,
-    /// or it stays locked; [`Fault::MEMORY`].
+    /// [`Fault::File`] if there is no such folder, it can't be opened, or its lock can't be created. So too if the lock is a link, another
+    /// user's or open to others, or stays locked. Also [`Fault::MEMORY`].
     pub fn held(rt: &HostRuntime, path: &str) -> Result<Folder, Fault> {
         if path.is_empty() {
             return Err(Fault::File);
@@ -226,7 +226,7 @@ pub(super) fn stamps_in<'a>(claim: &'a str) -> Option<Stamps<'a>> {
     })
 }
 
-/// The name that a file has of its own, in the name that it has while it is submitted, which begins with this name: it is there if the file is
+/// The name that a file has of its own, in the name that it has while it is submitted, which begins with this name. It is there if the file is
 /// described by it.
 pub(super) fn own_name_in<'a>(claim: &'a str, name: &str) -> Option<&'a str> {
     claim.strip_prefix(name)?.strip_prefix(BETWEEN)

@@ -1,4 +1,5 @@
-//! What is done with a file that is taken, with one that is to be collected, and about a folder's lock, and what an error concerns.
+//! What is done with a file that is taken, and with one that is to be collected. Also what is done about a folder's lock, and what an error
+//! concerns.
 
 ghost use Rattle.std.specs.Prelude.{◌≡◌, ℕ};
 ghost use Rattle.oftp_folders.specs.Judged.{collected, concerned, handed, lock_tried, offered};

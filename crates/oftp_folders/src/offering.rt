@@ -25,7 +25,7 @@ const MOST_NAME: usize = 26;
 /// moved or read, which stays where it is. Returns whether each was handed in.
 ///
 /// # Errors
-/// Those of the backend; [`Fault::File`] if a folder can't be read or synced, or a subfolder is a link or another user's; [`Fault::Run`] if
+/// Those of the backend. [`Fault::File`] if a folder can't be read or synced, or a subfolder is a link or another user's. [`Fault::Run`] if
 /// `out` returned an error; [`Fault::MEMORY`]. Taken files stay taken, and the next call continues with them.
 pub fn offer<B: Backend + Drop>(
     rt: &HostRuntime,

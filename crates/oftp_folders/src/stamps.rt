@@ -1,4 +1,4 @@
-//! The date and time that a file is given: those of its last change where it is offered, and else those of the moment, in UTC.
+//! The date and time that a file is given, in UTC. They are those of its last change if it is offered, and else those of the moment.
 
 use jiff::Timestamp;
 use oftp_outcomes::Fault;

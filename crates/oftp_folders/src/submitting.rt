@@ -33,7 +33,7 @@ const LINE: &str = ".line";
 /// How many times are tried for a file, each a tick after the last: more than a register has files.
 const MOST_MOMENTS: u32 = 1_000_001;
 
-/// How many names are tried for a file that is put away: one for each database that has had a file of its number, name, date and time.
+/// How many names are tried for a file that is put away. There is one for each database that has had a file of its number, name, date and time.
 const MOST_NAMES: u32 = 10_000;
 
 /// Why a file that can't be moved or read isn't handed in.
@@ -304,8 +304,8 @@ impl<'a, B: Backend> Submitting<'a, B> {
         Ok(Some(claim))
     }
 
-    /// The name under which a file is taken. It has the time of the file's last change, or the first later one that no file with this name to
-    /// the partner has in the register, taken or refused.
+    /// The name under which a file is taken. It has the time of the file's last change, or a later one. That is the first that no file with this
+    /// name to the partner has in the register, taken or refused.
     fn free_claim(&self, name: &str, changed: Moment) -> Result<String, Fault> {
         let mut moment = changed;
         for _ in 0..MOST_MOMENTS {
@@ -521,7 +521,7 @@ impl<'a, B: Backend> Submitting<'a, B> {
         self.put(claim, &self.subfolders.refused, name)
     }
 
-    /// Removes the line that this taken file would have in `refused`: a call that was killed before it moved the file there may have left one. If
+    /// Removes the line that this taken file would have in `refused`. A call that was killed before it moved the file there may have left one. If
     /// it can't be removed, it stays.
     fn clear_line(&self, claim: &str) -> Result<(), Fault> {
         let name = self.refused_name(claim)?;

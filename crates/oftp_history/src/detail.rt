@@ -83,8 +83,8 @@ impl PastEvent {
         Ok(line)
     }
 
-    /// Its line for people, with its end: the time as the caller spells it, the file's way and number, what happened, and what is told of the file.
-    /// Characters that can't be seen are escapes, and a text that is too long is cut.
+    /// Its line for people, with its end. It has the time as the caller spells it, the file's way and number, what happened, and what is told of
+    /// the file. Characters that can't be seen are escapes, and a text that is too long is cut.
     ///
     /// # Errors
     ///

@@ -168,7 +168,7 @@ holds_at view (Ok going.Sends) first acts office now out dialogue h = h
 holds_at view (Ok (going.Ended ending)) first acts office now out dialogue h = h
 holds_at view (Err f) first acts office now out dialogue h = h
 
--- what it has done it has done too over the office that it has later, and with another box that has handed out the same octets
+-- What it has done it has done too over the office that it has later. So it is with another box that has handed out the same octets.
 conversed_later : {O : Type 0} (view : O → View) (result : Result Going RunFault) (first : Register) (acts : List Act) (office now later : O) (here there : Port Outbox) (dialogue : Dialogue)
     → octets_out there.inner ≡ octets_out here.inner → (h : HasConversed view first acts office now here dialogue result)
     → ComesSoFar h.setting h.heard dialogue (scene contents_of (view office) h.front) (scene contents_of (view later) there) result

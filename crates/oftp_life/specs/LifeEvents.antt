@@ -20,7 +20,7 @@ pub record IsAfterSome (changes : List Change) (start left : Register) : Type 0 
 abbrev pub AreDealings : World → Register → Type 0
 AreDealings w left = (dealings : Dealings) × (happens w (Deals dealings) ≡ record w { one = record w.one { start = left } })
 
--- What a life does is an event. Of a session with another partner than the other station, any number of its changes may be left: it is done,
+-- What a life does is an event. Of a session with another partner than the other station, any number of its changes may be left. It is done,
 -- or a crash or an error of the office cut it short. An operator's call leaves its change.
 pub record ActsAreEvents : Type 0 where
   pub sessions : (w : World) (setting : Setting) (heard said : List ℕ) (changes : List Change) (after left : Register) → w.one.session ≡ None

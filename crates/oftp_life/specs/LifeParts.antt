@@ -31,11 +31,11 @@ abbrev pub BringAll : File → Identity → (first : Register) (acts : List Act)
 BringAll file identity first acts changes least (inl all) = BringSo file identity first acts changes all.0 all.1
 BringAll file identity first acts changes least (inr cut) = BringSo file identity first cut.earlier cut.before cut.at cut.reached × MayAct file identity cut.last cut.at
 
--- each content that a crash may leave now has nothing of the file, a beginning of its rows, or the file as one transfer gives it
+-- Each content that a crash may leave now has nothing of the file, or a beginning of its rows. Or it has the file as one transfer gives it.
 abbrev pub CrashLeavesSoFar : File → Identity → View → Type 0
 CrashLeavesSoFar file identity now = (content : now.Content) → now.may_leave content → (r : Register) × now.holds content r × IsSoFar file (in_at r identity)
 
--- the sessions of these acts, which led from the one view to the other, bring parts of the file, and so nothing else of it is left
+-- The sessions of these acts, which led from the first view to the second, bring parts of the file. So nothing else of it is left.
 abbrev pub ActsMakeTheFile : File → Identity → View → List Act → View → Type 0
 ActsMakeTheFile file identity first acts now = (h : LifeLeaves first.register acts now) → IsSoFar file (in_at first.register identity)
     → BringAll file identity first.register acts h.changes h.least h.covers → CrashLeavesSoFar file identity now

@@ -123,8 +123,8 @@ module _ {O : Type 0} (view : O → View) where
     pub unbroken : has_ceased stage' ≡ false → dialogue.seen.standing ≢ Broken
     pub holds : (view now).clean → (view began).stands → Holds stage' (view began).register acts before now out dialogue
 
--- The headline of a life that has done these acts, from this register on: what a crash leaves; and where the life isn't over, that the
--- office has the register after all its changes, and that a crash leaves this register and nothing else.
+-- The headline of a life that has done these acts, from this register on. It says what a crash leaves. If the life isn't over, the office
+-- has the register after all its changes, and a crash leaves this register and nothing else.
 pub record IsLeft (first : Register) (acts : List Act) (over : Bool) (now : View) : Type 0 where
   pub leaves : LifeLeaves first acts now
   pub rests : over ≡ false → Rests first acts now
@@ -133,7 +133,7 @@ pub record IsLeft (first : Register) (acts : List Act) (over : Bool) (now : View
 abbrev pub HasLeft : {O : Type 0} → (O → View) → O → List Act → Bool → O → Type 0
 HasLeft view began acts over now = (view now).clean → (view began).stands → IsLeft (view began).register acts over (view now)
 
--- a life as its callers see it: its office, the one with which it began, all that it has done since, and whether it is over
+-- A life as its callers see it: its office, and the one with which it began. Also all that it has done since, and whether it is over.
 pub record LifeData (O : Type 0) : Type 0 where
   pub office : O
   pub began : O

@@ -27,7 +27,8 @@ abbrev pub greeted_as : {T : Type 0} → Result T RunFault → Result Admission 
 greeted_as (Ok x) = Ok Undecided
 greeted_as (Err fault) = Err fault
 
--- an opening as its callers see it: its book, the octets that it has heard, those that it hands out, its conversation, and what the octets amount to
+-- An opening as its callers see it: its book, the octets that it has heard, and those that it hands out. Also its conversation, and what the octets
+-- amount to.
 pub record OpeningData : Type 0 where
   pub book : BookData
   pub heard : List ℕ

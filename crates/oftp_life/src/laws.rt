@@ -17,9 +17,9 @@ pub fn lives_make_the_file<O: Office>()
         → ActsMakeTheFile file identity (O.view first) acts (O.view now) }
 {}
 
-/// What a life leaves of its acts is what events of two stations leave. Of a session with a third partner, who may send any octets as long as
-/// the station accepts no SSID with the other station's code, it is any number of its changes: all, or those before a crash or an error of the
-/// office. Of an operator's call it is what the call does. The function does nothing; its contract is the theorem.
+/// What a life leaves of its acts is what events of two stations leave. Of a session with a third partner it is any number of its changes.
+/// They are all, or those before a crash or an error of the office. The partner may send any octets as long as the station accepts no SSID
+/// with the other station's code. Of an operator's call it is what the call does. The function does nothing; its contract is the theorem.
 pub fn acts_are_events()
     ensures { ActsAreEvents }
 {}

@@ -13,8 +13,8 @@ use Rattle.oftp_listing.specs.declared.hosts.Hosts.{Hosts}
 abbrev pub bracketed : (value behind : List ℕ) → List ℕ
 bracketed value behind = if nat_lt (position_or_len (λ c. c == 93) behind) (length behind) then before_first (λ c. c == 93) behind else value
 
--- the host in a value of the field Host: what brackets enclose, or what stands before the first colon, which the port follows
--- (RFC 9110, section 7.2)
+-- The host in a value of the field Host (RFC 9110, section 7.2). It is what brackets enclose, or what stands before the first
+-- colon, which the port follows.
 unfoldable pub host_in : List ℕ → List ℕ
 host_in [] = []
 host_in (c ∷ rest) = if c == 91 then bracketed (c ∷ rest) rest else before_first (λ x. x == 58) (c ∷ rest)

@@ -22,8 +22,8 @@ use Rattle.oftp_listing.specs.Objects.{incoming_object, issued_object, outgoing_
 use Rattle.oftp_listing.specs.Reports.{incoming_fields, issued_fields, line, outgoing_fields, received_fields}
 use Rattle.oftp_listing.specs.Texts.{list_of, no_of}
 
--- a kind of entry: all entries of a register in order of number, the number that is shown with one, and with that number its object and the
--- fields of its line
+-- A kind of entry: all entries of a register in order of number, and the number that is shown with one. With that number go its object and
+-- the fields of its line.
 pub record EntryKind (E : Type 0) : Type 0 where
   pub entries : Register → List E
   pub related : Register → E → ℕ

@@ -31,7 +31,7 @@ IsOfRegister method route (Some query.Invalid) = ⊥
 IsOfRegister method route (Some query.Page) = ⊥
 IsOfRegister method route (Some (query.Register m r)) = (is_get m ≡ bytes_eq method (codes "GET")) × (r ≡ route)
 
--- what a request asks for of the register, by what its octets are: nothing yet, nothing at all or a route, unless memory ran out for that
+-- What a request asks for of the register, by what its octets are. It is nothing yet, nothing at all or a route, unless memory ran out for that.
 abbrev pub AsksFor : Heard → Result (Option Query) ListFault → Type 0
 AsksFor Unfinished result = result ≡ Ok None
 AsksFor Refused result = result ≡ Ok (Some query.Invalid)

@@ -77,8 +77,8 @@ is_asked is_get (Some Outgoing) = is_get
 is_asked is_get (Some (OutgoingFile n)) = true
 is_asked is_get (Some Responses) = is_get
 
--- The office was only read, and at most the last look-up returned an error. If the store reads what was written and the office was open,
--- its register is unchanged wherever it is open, and a crash leaves that register. It stays open if it returned no error.
+-- The office was only read, and at most the last look-up returned an error. If the store reads what was written and the office was open, its
+-- register is unchanged wherever it is open. A crash leaves that register. It stays open if it returned no error.
 pub record Asks (old new : View) : Type 0 where
   pub clean : new.clean → old.clean
   pub register : new.clean → old.stands → new.is_open → new.register ≡ old.register

@@ -37,7 +37,7 @@ IsOfStatus None made = made ≡ None
 IsOfStatus (Some status) None = ⊥
 IsOfStatus (Some status) (Some sent) = Says (error_text status) Working sent
 
--- the answer is the reply with this status, if the office was open and its store reads what was written; nothing is said where there is none
+-- The answer is the reply with this status, if the office was open and its store reads what was written. Nothing is said if there is none.
 abbrev pub IsSame : Option ℕ → (old new : View) → Result Sent ListFault → Type 0
 IsSame None old new result = ⊤
 IsSame (Some status) old new result = new.clean → old.stands → IfOk result (λ sent. sent.octets ≡ error_text status)

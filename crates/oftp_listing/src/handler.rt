@@ -216,7 +216,7 @@ pub(crate) fn serve<O: Office>(
     }
 }
 
-/// The reply to an HTTP request at a site, with this page, that was sent to this address if it is known: [`read_query`] and
+/// The reply to an HTTP request at a site, with this page, that was sent to this address if it is known. It is [`read_query`] and
 /// [`Query::reply`] in one call. A site with the page is for this machine alone: if a field `Host` names another host, the reply is 400.
 /// Else the page is the reply to GET for `/`, and [`answer`] has the other replies.
 ///

@@ -17,7 +17,7 @@ pub fn content_is_hidden()
     ensures reports { (r s : Register) → IsAlike r s → (kind : ReportKind) → report_of kind r ≡ report_of kind s }
 {}
 
-/// What is remembered of a register is true of it after all changes: each number that is remembered is the number of octets of a file whose
+/// What is remembered of a register is true of it after all changes. Each number that is remembered is the number of octets of a file whose
 /// rows no change alters. The function does nothing; its contract is the theorem.
 pub fn counts_stay()
     ensures { CountsStay }

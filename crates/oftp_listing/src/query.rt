@@ -112,9 +112,9 @@ pub fn read_query(
 }
 
 impl Query {
-    /// The reply that is the same for each register, if there is one: to what is invalid, to an unknown target, and to another method than
-    /// GET for a list. For these [`reply`](Query::reply) asks no office, and [`same_for_each`](crate::laws::same_for_each) says that it gives
-    /// this reply.
+    /// The reply that is the same for each register, if there is one. It is that to what is invalid, to an unknown target, and to another
+    /// method than GET for a list. For these [`reply`](Query::reply) asks no office, and [`same_for_each`](crate::laws::same_for_each) says
+    /// that it gives this reply.
     ///
     /// # Errors
     ///

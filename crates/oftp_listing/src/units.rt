@@ -39,8 +39,8 @@ fn units_in_blocks<O: Office>(
     )
 }
 
-// The number of octets of a file that the office returned in a list, with its number, its format, its longest record in octets and its
-// number of rows. In format F no row is read, in U and T the last one, and in V the office measures each.
+// The number of octets of a file that the office returned in a list. Its number, its format, its longest record in octets and its
+// number of rows are given. In format F no row is read, in U and T the last one, and in V the office measures each.
 fn units_of_file<O: Office>(
     office: &mut O,
     side: Side,

@@ -285,7 +285,7 @@ impl fmt::Display for Note<'_> {
 }
 
 impl Note<'_> {
-    /// The note as a line: characters that can't be seen are escapes, a text that is too long is cut, and one line end is behind it.
+    /// The note as a line. Characters that can't be seen are escapes, a text that is too long is cut, and one line end is behind it.
     ///
     /// # Errors
     ///

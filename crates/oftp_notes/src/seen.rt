@@ -58,7 +58,7 @@ pub(crate) fn line_of(alloc: Global, text: &str) -> Result<String, AllocError>
     Ok(line)
 }
 
-/// The line of a text that may have any characters: each that can't be seen is an escape, from 2,000 octets on the text is cut, and one line end
+/// The line of a text that may have any characters. Each that can't be seen is an escape, from 2,000 octets on the text is cut, and one line end
 /// is behind it.
 ///
 /// # Errors

@@ -35,8 +35,8 @@ impl Beat {
         moment.saturating_sub(self.said) >= PAUSE
     }
 
-    /// The line at this moment of a step that goes on and came so far, if one is due: once a second has passed since the last line, or since
-    /// the step began.
+    /// The line at this moment of a step that goes on and came so far, if one is due. It is due once a second has passed since the last
+    /// line, or since the step began.
     ///
     /// # Errors
     ///

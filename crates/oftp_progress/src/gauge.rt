@@ -18,7 +18,7 @@ pub fn screen_of(rt: &HostRuntime) -> Screen {
     }
 }
 
-/// Shows how far a step of a command came, where standard error is a terminal. Each line stands in the place of the one before; the last one
+/// Shows how far a step of a command came, where standard error is a terminal. Each line stands in the place of the one before. The last one
 /// of a step stays, and any other is taken back as the gauge is let go.
 pub struct Gauge<'r> {
     rt: &'r HostRuntime,

@@ -25,7 +25,7 @@ abbrev pub EndsWithOtherDigest : List ℕ → List ℕ → Type 0
 EndsWithOtherDigest before octets =
     drop (length octets - DIGEST_LEN) octets ≡ sha256 (take (length octets - DIGEST_LEN) octets ++ before) → ⊥
 
--- these are the octets of an entry behind these entries, but for one octet; if the digest alone guards that, it is another than it should be
+-- These are the octets of an entry behind these entries, but for one octet. If the digest alone guards that, it is another than it should be.
 pub record IsChangedBehind (before : List ℕ) (entries : List Noted) (entry : Noted) (octets : List ℕ) : Type 0 where
   pub at : ℕ
   pub changed : IsChangedAt (entry_octets entry (last_digest before entries)) octets at

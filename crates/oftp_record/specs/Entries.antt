@@ -1,4 +1,4 @@
--- An entry of a record as octets: a header of fixed length, a content, and a digest by which the entries of a record are a chain.
+-- An entry of a record as octets: a header of fixed length, a content, and a digest. By the digests the entries of a record are a chain.
 use Rattle.std.specs.Prelude.{ℕ, ◌+◌, ◌-◌, ◌^◌, ◌<◌, ◌≤◌, List, ◌∷◌, ◌++◌, codes, length, replicate}
 use Rattle.std.specs.Int.{w32, w64, to_be_bytes}
 use Rattle.sha2.specs.Sha256.{sha256}

@@ -9,8 +9,8 @@ use Rattle.oftp_record.specs.declared.next.Alteration.TheVariants as signs
 use Rattle.oftp_record.specs.declared.next.NextEntry.{NextEntry}
 use Rattle.oftp_record.specs.declared.next.NextEntry.TheVariants as shows
 
--- What is told of octets: an entry with the number of its octets and its digest, the end, how many octets are lacking (if that is known), or what
--- shows a change.
+-- What is told of octets. It is an entry with the number of its octets and its digest, the end, or what shows a change. Or it is how many octets
+-- are lacking, if that is known.
 pub data Next : Type 0 where
   Whole : Noted → ℕ → List ℕ → Next
   Ends : Next

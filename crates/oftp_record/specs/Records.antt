@@ -34,7 +34,7 @@ pub record IsRead (before octets : List ℕ) (entries : List Noted) (next : Next
 abbrev pub cut_next : ℕ → ℕ → Next
 cut_next at count = if at == 0 then Ends else (if nat_lt at HEADER_LEN then Cut None else Cut (Some (count - at)))
 
--- the first `at` octets of a record are read as the entries that are whole there, and how the next one is cut off is told
+-- The first `at` octets of a record are read as the entries that are whole there. How the next one is cut off is told.
 pub record IsCutRead (before : List ℕ) (entries : List Noted) (at : ℕ) : Type 0 where
   pub whole : List Noted
   pub broken : Noted

@@ -11,8 +11,8 @@ ghost use Rattle.oftp_record.specs.declared.kind.RecordKind.{RecordKind};
 /// that a partner sent, or was sent, end a content, and have no length before them. This crate takes any content of any kind.
 #[derive(Clone, Copy, Debug, PartialEq, Eq, Drop)]
 pub enum RecordKind {
-    /// A program begins to record: its version and the sum of its sources, as texts; 16 octets of salt; the octets of its book, with the
-    /// SHA-256 of salt and password in the place of each password; the digest of its register.
+    /// A program begins to record: its version and the sum of its sources, as texts, and 16 octets of salt. Then come the octets of its book
+    /// and the digest of its register. In the book the SHA-256 of salt and password is in the place of each password.
     Opening,
     /// A session begins: its number; 1 for the responder, 2 for the initiator; the partner's code and its address, as texts.
     Session,

@@ -23,7 +23,7 @@ pub fn one_reading()
 {}
 
 /// What was written is what is read, one entry after another. A record that is cut off anywhere is read as the entries that are whole before the
-/// cut, and how the next one is cut off is told. The function does nothing; its contract is the theorem.
+/// cut. How the next one is cut off is told. The function does nothing; its contract is the theorem.
 pub fn written_is_read()
     ensures entry { (before rest : List ℕ) (entry : Noted) → IsEntry entry
         → IsNext before (entry_octets entry before ++ rest) (Whole entry (entry_length entry) (entry_digest entry before)) }

@@ -52,7 +52,7 @@ pub record OneChanged {A : Type 0} (name : A → Identity) (change : A → Resul
   pub done : change old ≡ Ok new
   pub others : (i : Identity) → same_identity (name old) i ≡ false → named name i ys ≡ named name i xs
 
--- The file before a start: there was none, and it starts at its first row; or it was open and had at least `count` rows, which it keeps.
+-- The file before a start. There was none, and it starts at its first row; or it was open and had at least `count` rows, which it keeps.
 abbrev pub WasStarted : Incoming → ℕ → Option Incoming → Incoming → Type 0
 WasStarted header count None new = (new ≡ header) × (count ≡ 0)
 WasStarted header count (Some old) new =
@@ -70,8 +70,8 @@ pub record OneStarted (header : Incoming) (count : ℕ) (xs ys : List Incoming) 
 abbrev pub started_file : Register → Incoming → ℕ → Incoming
 started_file r header count = record header { rows = take count (file_rows r side.Incoming (number_of r header.identity)) }
 
--- What an accepted start leaves. Under its number is the file with its new header and the rows that are kept, open and without a response,
--- and its identity finds it.
+-- What an accepted start leaves. Under its number is the file with its new header and the rows that are kept, open and without a response.
+-- Its identity finds it.
 pub record IsStarted (r s : Register) (header : Incoming) (count : ℕ) : Type 0 where
   pub kept : count ≤ length (file_rows r side.Incoming (number_of r header.identity))
   pub entry : entry_at (number_of r header.identity) s.incoming ≡ Some (started_file r header count)

@@ -120,7 +120,7 @@ pub record Ends (rows : List (List ℕ)) (file : Incoming) : Type 0 where
   pub few : length file.rows + length rows ≤ MOST_ROWS
   pub fits : AreRows file.format file.longest rows
 
--- The premise of a change. Its longest record and its response are possible ones, and the file that it leaves has at most 1,000,000 rows,
+-- The premise of a change. Its longest record and its response are possible ones. The file that it leaves has at most 1,000,000 rows,
 -- which fit its format and longest record.
 unfoldable pub IsFit : Register → Change → Type 0
 IsFit r (change.Submit identity format longest description rows) = IsFile format longest rows

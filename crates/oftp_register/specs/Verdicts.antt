@@ -53,8 +53,8 @@ has_length layout.Text = true
 abbrev pub is_plain : Sfid → Bool
 is_plain sfid = sfid.security == 0 && (sfid.cipher == 0 && (sfid.compression == 0 && (sfid.enveloping == 0 && not sfid.signed_response)))
 
--- The row from which a file goes on: at most the one from which it is offered. It is the first row if the file is new, if restart isn't
--- agreed, or if it is kept in another format or with another longest record.
+-- The row from which a file goes on: at most the one from which it is offered. It is the first row if the file is new, or if restart
+-- isn't agreed. So it is if the file is kept in another format or with another longest record.
 abbrev pub restart_position : Sfid → Option IncomingEntry → Bool → ℕ
 restart_position sfid None restart = 0
 restart_position sfid (Some entry) restart =

@@ -116,8 +116,8 @@ pub enum Change<'a> {
         /// The reason of the refusal.
         reason: Count<2>,
     },
-    /// Send an outgoing file again from its first row on, after EFNA, or after SFPA where its end was sent (RFC 5024, sections 5.3.4 and
-    /// 5.3.10).
+    /// Send an outgoing file again from its first row on. This is after EFNA, or after SFPA if its end was sent (RFC 5024, sections
+    /// 5.3.4 and 5.3.10).
     Reopen {
         /// The file's number.
         no: u64,

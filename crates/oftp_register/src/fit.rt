@@ -26,8 +26,8 @@ pub fn are_limits(limits: Limits) -> bool
     limits.files <= MOST_FILES && limits.octets <= MOST_OCTETS
 }
 
-/// Whether these rows fit a file that isn't complete: records of the right length in F and V, and full blocks of 1,024 octets in U and T
-/// (RFC 5024, section 1.5.4).
+/// Whether these rows fit a file that isn't complete. They are records of the right length in F and V, and full blocks of 1,024 octets in
+/// U and T (RFC 5024, section 1.5.4).
 pub fn are_full_rows(format: Format, longest: u32, rows: &[Row]) -> bool
     ensures { IsTrue result ↔ AreFullRows format longest rows.now }
 {

@@ -121,8 +121,8 @@ pub trait Office {
         ensures looks { LooksUp (λ r there. there ≡ has_received r kind identity.now) (view self.old) (view self.new) result };
 
     /// What a session sends next to a partner, or `None` where nothing is left. It is the first response that is due and has a greater
-    /// number than the cursor's. If there is none and `files` is true, it is the first file that is waiting or closing and has a greater
-    /// number than the cursor's. The register is unchanged.
+    /// number than the cursor's. If there is none and `files` is true, it is a file that is waiting or closing. It is the first with a
+    /// greater number than the cursor's. The register is unchanged.
     ///
     /// # Errors
     ///
@@ -139,8 +139,8 @@ pub trait Office {
 
     /// At most `most` rows of a file, from row `from` on, counted from 0. A number without a file has no rows. The register is unchanged.
     ///
-    /// Where the store may read something else than was written, only the number of rows is promised, because the call doesn't look at the
-    /// file's format. A caller who needs rows of a format checks them by [`are_rows`]; that check doesn't fail on rows of the register.
+    /// If the store may read something else than was written, only the number of rows is promised. The call doesn't look at the file's
+    /// format. A caller who needs rows of a format checks them by [`are_rows`]; that check doesn't fail on rows of the register.
     ///
     /// [`are_rows`]: crate::are_rows
     ///
@@ -204,10 +204,9 @@ pub trait Office {
 
     /// Commits a change. Once it has returned `Ok`, a crash doesn't undo the change.
     ///
-    /// The change has to be fit: the file that it leaves has at most 1,000,000 rows, which fit its format and longest record, and an
-    /// End-to-End Response has no reason, no creator and no text. A caller can check this beforehand by [`is_file`],
-    /// [`Format::allows_longest`], [`are_full_rows`], [`are_rows`] and [`is_response`]. For a change that isn't fit, nothing is promised of
-    /// the register.
+    /// The change has to be fit. The file that it leaves has at most 1,000,000 rows, which fit its format and longest record. An End-to-End
+    /// Response has no reason, no creator and no text. A caller can check this beforehand by [`is_file`], [`Format::allows_longest`],
+    /// [`are_full_rows`], [`are_rows`] and [`is_response`]. For a change that isn't fit, nothing is promised of the register.
     ///
     /// [`is_file`]: crate::is_file
     /// [`Format::allows_longest`]: oftp_vfile::Format::allows_longest

@@ -56,7 +56,7 @@ asking_of (request.Status form) = asking.For wanted.Query
 asking_of (request.Health warn critical) = asking.For wanted.Query
 asking_of request.Settled = asking.For wanted.Query
 
--- what the schedule is told of a request that asks for this, and whose call would be one of this partner: a call that can't be made is a look-up
+-- What the schedule is told of a request that asks for this, and whose call would be one of this partner. A call that can't be made is a look-up.
 abbrev pub signal_of : Asking → Option Partner → Signal
 signal_of (asking.For kind) partner = signal.Asked kind
 signal_of asking.Call (Some partner) = signal.Wants partner
@@ -119,7 +119,7 @@ ended_for reason.Invalid = Err (trouble_of run.Read)
 ended_for reason.TimedOut = Err (trouble_of run.Read)
 ended_for reason.Vanished = Err (trouble_of run.Read)
 
--- where the station was told to end, a session that is cut off for this isn't over for a failing office: nothing more is heard of its partner
+-- If the station was told to end, a session that is cut off for this isn't over for a failing office. Nothing more is heard of its partner.
 abbrev pub told_reason : Option Haste → Reason → Reason
 told_reason (Some haste.AtOnce) reason.Stopping = reason.Vanished
 told_reason stop it = it
@@ -134,7 +134,7 @@ abbrev pub last_status : Option Haste → Status → Status
 last_status (Some haste.AtOnce) status.OfficeFailed = status.Stopped
 last_status stop it = it
 
--- what becomes of the error of a request that has no answer for it: one of a life for one job ends the service only if it is the service's
+-- What becomes of the error of a request that has no answer for it. That of a life for one job ends the service only if it is the service's.
 abbrev pub closing_of : Option Trouble → Term → Closing
 closing_of None term = closing.Nothing
 closing_of (Some (OfJob it)) term = closing.Tell it

@@ -200,7 +200,7 @@ fn called_in(book: &Book, request: &Request<'_>) -> Option<Partner> {
     }
 }
 
-/// What the schedule is told of a partner of a book with this number, who is to be called with this patience and for no longer, in seconds. A
+/// What the schedule is told of a partner of a book with this number. It is to be called with this patience and for no longer, in seconds. A
 /// patience of 0 is no limit.
 pub fn partner_of(
     book: &Book,

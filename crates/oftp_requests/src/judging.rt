@@ -128,7 +128,7 @@ pub fn ended_for(reason: Reason) -> Result<End, Trouble>
     }
 }
 
-/// The reason for which a session is over, where the station was told to end: one that is cut off for this isn't over for a failing office.
+/// The reason for which a session is over, if the station was told to end. One that is cut off for this isn't over for a failing office.
 pub fn told_reason(stop: Option<Haste>, reason: Reason) -> Reason
     ensures { result ≡ told_reason stop reason }
 {
@@ -191,7 +191,7 @@ pub(crate) fn office_after(ending: &Answered) -> OfficeState
     }
 }
 
-/// Whether the service's office failed, where a life lasts so long and the office of a look-up was so: what fails with a job is no matter of
+/// Whether the service's office failed, if a life lasts so long and the office of a look-up was so. What fails with a job is no matter of
 /// the service.
 pub fn office_within(term: Term, office: OfficeState) -> OfficeState
     ensures { result ≡ office_within term office }
@@ -202,7 +202,7 @@ pub fn office_within(term: Term, office: OfficeState) -> OfficeState
     }
 }
 
-/// The error of a service that ended like this, if it is one: that with which it ended, or that of its door or its office.
+/// The error of a service that ended like this, if it is one. It is that with which the service ended, or that of its door or its office.
 pub fn result_at(fault: Option<Fault>, status: Status) -> Option<Fault>
     ensures { result ≡ result_at fault status }
 {

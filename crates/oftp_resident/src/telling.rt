@@ -104,7 +104,8 @@ impl Shell<'_> {
         }
     }
 
-    /// Notes that a connection of a partner is over, which ended like this: a session, a caller that wasn't let in, or a call that wasn't reached.
+    /// Notes that a connection of a partner is over, which ended like this. It was a session, a caller that wasn't let in, or a call that
+    /// wasn't reached.
     pub(crate) fn note_end(&mut self, id: u64, ended: Result<End, Fault>) {
         let (Some(events), Ok(now)) = (self.config.events, self.now()) else {
             return;

@@ -1,4 +1,4 @@
--- Whom a call calls never changes, it hangs up as often as the limits say, and the clock has one call of a partner at a time.
+-- Whom a call calls never changes, and it hangs up as often as the limits say. The clock has one call of a partner at a time.
 use Rattle.std.proofs.Common.{◌||◌, inl, inr, ◌⊎◌, nat_lt, subst, ◌≡◌, ◌≢◌, ℕ, zero, suc, ◌+◌, ◌-◌, ◌≤◌, ◌==◌, ◌^◌, Bool, true, false, cond, if◌then◌else◌, List, [], ◌∷◌, ◌++◌, Option, Some, None, map, filter, find, refl, ap, sym, ◌∙◌, arith}
 use Rattle.std.proofs.lemmas.Bool.Decides.{nat_tests, eqb_tells}
 use Rattle.std.proofs.lemmas.List.Sums.{sum_by-cons, sum_by-append}

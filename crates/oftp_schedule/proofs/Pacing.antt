@@ -1,4 +1,5 @@
--- Between two pieces of a session a look-up is done only where there is nothing to hear, or enough was heard, and as long has passed as the last one took.
+-- Between two pieces of a session a look-up is done only if there is nothing to hear, or enough was heard. As long must have passed as the last one
+-- took.
 use Rattle.std.proofs.Common.{◌⊎◌, ◌≡◌, ◌≤◌, ◌∙◌, false, Some, None, find, subst, ap, sym, inl, inr}
 use Rattle.oftp_schedule.specs.declared.connection.Phase.TheVariants.{Between}
 use Rattle.oftp_schedule.specs.declared.connection.Choice.{Choice}

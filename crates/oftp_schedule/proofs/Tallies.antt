@@ -21,7 +21,8 @@ use Rattle.oftp_schedule.proofs.Cases.{each_reason}
 use Rattle.oftp_schedule.proofs.Numbers.{same}
 use Rattle.oftp_schedule.proofs.Lives.{never_broken, watch-append}
 
--- what was counted: handings over, answers, what was declined, and so at the end of the station, lines, wishes for a call, and requests of each kind
+-- What was counted: handings over, answers, and what was declined, and so at the end of the station. Also lines, wishes for a call, and requests of
+-- each kind.
 pub record Counts : Type 0 where
   pub handed : ℕ
   pub answered : ℕ

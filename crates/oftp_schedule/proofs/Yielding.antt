@@ -1,4 +1,4 @@
--- A call gives way only to a guest that has waited for its partner's pause, and only where nothing of that partner is there to hear.
+-- A call gives way only to a guest that has waited for its partner's pause. It does so only while nothing of that partner is there to hear.
 use Rattle.std.proofs.Common.{max, nat_le, nat_lt, ◌≡◌, ◌≤◌, ℕ, ◌-◌, Bool, true, false, if◌then◌else◌, Some, find, refl, ap, sym, ◌∙◌, arith}
 use Rattle.std.proofs.lemmas.Bool.Decides.{nat_tests}
 use Rattle.oftp_schedule.specs.declared.connection.Door.{Door}

@@ -43,8 +43,8 @@ NoSession s = how_many in_session s.connections ≡ 0
 abbrev pub NoCopy : State → Type 0
 NoCopy s = how_many is_copying_phase s.connections ≡ 0
 
--- a job begins where nothing is with the office; a session, a change, a copy, the clock's look-up and a call only where there is neither a
--- session nor a copy
+-- A job begins if nothing is with the office. A session, a change, a copy, the clock's look-up and a call begin only if there is neither a
+-- session nor a copy.
 abbrev pub ChosenApart : State → Choice → Type 0
 ChosenApart s Nothing = Unit {0}
 ChosenApart s (Finish st) = Unit {0}
@@ -59,8 +59,8 @@ ChosenApart s (Lend id) = NoJob s × (NoSession s × NoCopy s)
 ChosenApart s (Seek id c) = (how_many is_up_phase s.connections ≡ 0) × (NoSession s × NoCopy s)
 ChosenApart s (Depart st) = s.connections ≡ []
 
--- between two pieces of a session a look-up is done only where there is nothing to hear, or enough was heard since the last one, and where no
--- rest is left
+-- Between two pieces of a session a look-up is done only if no rest is left. There must be nothing to hear, or enough was heard since the last
+-- one.
 abbrev pub IsPaced : State → Choice → Type 0
 IsPaced s (Consult id) =
     (c : Connection) (x : Session) → find (in_phase is_between_phase) s.connections ≡ Some c → c.phase ≡ Between x
@@ -80,8 +80,8 @@ IsBrief s m =
     (t.quiet ≡ s.quiet)
     ⊎ ((id : ℕ) × (o : ℕ) × (m ≡ Tell (Told id (Done o))) × (phase_at id s.connections ≡ Some (Served Query)) × (t.quiet ≡ s.now + (s.now - s.looked)))
 
--- a look-up is ordered in s, its end is told in t, and another one begins within a session in u: between t and u as long has passed as between s
--- and t
+-- A look-up is ordered in s, its end is told in t, and another one begins within a session in u. Between t and u as long has passed as between s
+-- and t.
 abbrev pub IsRested : State → List Move → List Move → Type 0
 IsRested s during after =
     (id o i : ℕ) →

@@ -31,7 +31,7 @@ hangs_up a = false
 abbrev pub hang_ups : ℕ → List Note → ℕ
 hang_ups id ns = times_ordered hangs_up id ns
 
--- d is call c after it hung up k times: it is of the same partner and for the same asker, and may do so k times less
+-- d is call c after it hung up k times. It is of the same partner and for the same asker, and may do so k times less.
 abbrev pub IsSameCall : ℕ → Call → Call → Type 0
 IsSameCall k c d = (d.partner ≡ c.partner) × (d.asker ≡ c.asker) × (d.times + k ≡ c.times)
 

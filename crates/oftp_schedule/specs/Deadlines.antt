@@ -36,7 +36,7 @@ longest_of l In = l.longest
 longest_of l (Out c) = c.partner.longest
 longest_of l (Unanswered c k) = c.partner.longest
 
--- how long a connection of this door may stay in this phase from now on, if nothing comes of it (an answer that refuses has the time of a farewell)
+-- How long a connection of this door may stay in this phase from now on, if nothing comes of it. An answer that refuses has the time of a farewell.
 abbrev pub time_limit : Limits → Door → Phase → ℕ
 time_limit l d (Stranger u r) = l.admission
 time_limit l d (Between x) = min (patience_of l x.way) (longest_of l x.way)
@@ -122,7 +122,8 @@ is_for id (Lend i) = i == id
 is_for id (Seek i c) = i == id
 is_for id c = false
 
--- after what was told of others: it is as it was, but for the rank that the end of a session gives a request; or it was a stranger who may be closed for another
+-- After what was told of others it is as it was, but for the rank that the end of a session gives a request. Or it was a stranger who may be closed
+-- for another.
 abbrev pub IsLeft : ℕ → Phase → Option Phase → Type 0
 IsLeft now p None = is_ripe_phase now p ≡ true
 IsLeft now p (Some q) = (q ≡ p) ⊎ (q ≡ owed_phase p)
@@ -130,7 +131,8 @@ IsLeft now p (Some q) = (q ≡ p) ⊎ (q ≡ owed_phase p)
 abbrev pub IsUnmovedBy : State → Event → Type 0
 IsUnmovedBy s e = (id : ℕ) (p : Phase) → is_of id e ≡ false → phase_at id s.connections ≡ Some p → IsLeft s.now p (phase_at id (received s e).0.connections)
 
--- a choice for others leaves this of it: at the end of the station an answer has no longer than its farewell, and after a look-up a session has its share again
+-- A choice for others leaves this of it. At the end of the station an answer has no longer than its farewell, and after a look-up a session has its
+-- share again.
 abbrev pub left_by : State → Choice → Phase → Phase
 left_by s (Finish st) p = hurried_phase (s.now + s.limits.farewell) p
 left_by s (Consult i) p = shared_phase s.limits.share p
@@ -171,7 +173,7 @@ abbrev pub YieldsInTime : State → Type 0
 YieldsInTime s =
     (id : ℕ) (p : Phase) → choice s ≡ Settle id (Yield p) → (x : Session) × (c : Call) × (t : ℕ) × AreRivals s x c t × (c.partner.pause ≤ s.now - max x.begun t)
 
--- and so is every moment that the shell is told: it never asks in vain (a door rests for some time, and times are as small as the shell tells them)
+-- And so is every moment that the shell is told. It never asks in vain: a door rests for some time, and times are as small as the shell tells them.
 abbrev pub IsToCome : State → Type 0
 IsToCome s = (t : ℕ) → IsStill s → 0 < s.limits.rest → s.now < 2 ^ 63 → next_time s ≡ Some t → s.now < t
 

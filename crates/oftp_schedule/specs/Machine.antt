@@ -316,7 +316,7 @@ orphaned s = choice_of (find (is_orphan s.connections) s.connections) (λ c. Set
 abbrev pub call_over : State → Choice
 call_over s = choice_of (find (is_to_tell s.connections) s.connections) (λ c. Settle c.id (Respond (answered s.now (limits_now s) c.door 0)))
 
--- a call that isn't answered, and of whose partner nothing is there to hear, gives way to a guest that has waited for the partner's pause
+-- A call gives way to a guest that has waited for the partner's pause. The call isn't answered, and nothing of its partner is there to hear.
 abbrev pub is_to_yield : ℕ → Session → Call → ℕ → Bool
 is_to_yield now x c t = if is_awaited x.input then nat_le c.partner.pause (now - max x.begun t) else false
 

@@ -22,7 +22,7 @@ abbrev pub first_update : State → Option ℕ → Option ℕ
 first_update s None = first_in is_update_phase s
 first_update s (Some id) = Some id
 
--- a session is that of the first guest, or of a call, and begins where nothing is owed before it; a look-up, a change or a copy is the first
+-- A session is that of the first guest, or of a call, and begins if nothing is owed before it. A look-up, a change or a copy is the first.
 abbrev pub IsFirst : State → Choice → Type 0
 IsFirst s (Start id x) = (first_in is_owed_phase s ≡ None) × ((first_in is_guest_phase s ≡ Some id) ⊎ (first_in is_connected_phase s ≡ Some id))
 IsFirst s (Consult id) = first_in is_query_phase s ≡ Some id

@@ -1,4 +1,4 @@
--- The rules of one connection, apart from all others: what each signal does in each phase, when its time is over, and what is done then.
+-- The rules of one connection, apart from all others. They are what each signal does in each phase, when its time is over, and what is done then.
 use Rattle.std.specs.Prelude.{ℕ, zero, suc, ◌+◌, ◌-◌, ◌==◌, max, min, Bool, true, false, nat_lt, nat_le, not, List, [], ◌∷◌, ◌++◌, Option, Some, None, if◌then◌else◌, find}
 use Rattle.std.specs.List.{list_any}
 use Rattle.oftp_schedule.specs.declared.connection.Counted.{Counted}

@@ -1,4 +1,4 @@
--- What waits, and for what: where nothing is chosen, each that waits does so for something whose end is told, or for a moment that is to come.
+-- What waits, and for what. If nothing is chosen, each that waits does so for something whose end is told, or for a moment that is to come.
 use Rattle.std.specs.Prelude.{◌≡◌, ◌≢◌, ◌⊎◌, ◌^◌, ℕ, ◌<◌, ◌≤◌, Bool, true, false, nat_lt, Some, find}
 use Rattle.std.specs.List.{list_any}
 use Rattle.oftp_schedule.specs.declared.connection.Door.{Door}
@@ -27,11 +27,11 @@ IsAtWork s = is_busy s ≡ true
 abbrev pub IsAny : (Phase → Bool) → State → Type 0
 IsAny t s = list_any (in_phase t) s.connections ≡ true
 
--- somebody in such a phase is there until u at the latest, which is to come, and no later than which the shell tells the time
+-- Somebody in such a phase is there until u at the latest. That is to come, and the shell tells the time no later than then.
 abbrev pub Waits : (Phase → Bool) → State → Type 0
 Waits t s = (id : ℕ) × (u : ℕ) × (p : Phase) × (phase_at id s.connections ≡ Some p) × (t p ≡ true) × (due p ≡ Some u) × (s.now < u) × AtMost u (next_time s)
 
--- there is a session, and no look-up begins within it until a moment that is to come, and no later than which the shell tells the time
+-- There is a session, and no look-up begins within it until a moment that is to come. The shell tells the time no later than then.
 abbrev pub IsHeldBack : State → Type 0
 IsHeldBack s = IsAny is_between_phase s × (s.now < s.quiet) × AtMost s.quiet (next_time s)
 
@@ -108,10 +108,10 @@ CommandsAreAwake s = (id i : ℕ) → IsStill s → phase_at id s.connections �
 abbrev pub DoorsAreAwake : State → Type 0
 DoorsAreAwake s = (d : Door) → IsStill s → is_ending s.course ≡ false → s.next < 2 ^ 63 → gate s d ≡ Knocked → has_place s d ≡ true → IsAny is_arriving_phase s
 
--- the end of the station, for nothing: it comes at once where it is told, and where as many jobs were done as there may be
+-- The end of the station, for nothing. It comes at once if it is told, and if as many jobs were done as there may be.
 abbrev pub EndIsAwake : State → Type 0
 EndIsAwake s = IsStill s → ((st : Status) → s.course ≢ Called st) × (s.course ≡ Serving → is_enough s ≡ false)
 
--- once it ends, each connection that is left is with the office, being accepted, or there until a time that comes, and without any the program ends
+-- Once it ends, each connection that is left is with the office, being accepted, or there until a time that comes. Without any the program ends.
 abbrev pub EndComes : State → Type 0
 EndComes s = (st : Status) → IsStill s → s.course ≡ Ending st → IsAtWork s ⊎ (IsAny is_arriving_phase s ⊎ Waits has_time s)

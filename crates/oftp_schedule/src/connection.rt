@@ -346,7 +346,8 @@ pub struct Limits {
     pub farewell: u32,
     /// How long a backup may take.
     pub copying: u32,
-    /// How long a call may take to connect, if a wait in its session may be as long, and how long it is up without a session.
+    /// How long a call may take to connect, if a wait in its session may be as long. The second is how long it is up without a
+    /// session.
     pub dialing: u32,
     pub standing: u32,
     /// How long a door rests for which the system had no descriptor or no memory.
@@ -412,8 +413,8 @@ pub enum Choice {
     Nothing,
     /// No job begins any more.
     Finish(Status),
-    /// What becomes of a connection whose time is over, that gives way, whose command or whose call is gone, or that the end of the
-    /// station concerns.
+    /// What becomes of a connection whose time is over, or that gives way. So of one whose command or whose call is gone, or that
+    /// the end of the station concerns.
     Settle(u64, Reply),
     /// Somebody is accepted at a door.
     Admit(Door),

@@ -18,12 +18,12 @@ ghost use Rattle.oftp_schedule.specs.Deadlines.{IsWithin, SessionsEnd, KeepsEnds
 ghost use Rattle.oftp_schedule.specs.Calls.{HasOneEach, KeepsCalls, call_of_number, hang_ups};
 ghost use Rattle.oftp_schedule.specs.Wakeups.{GuestsAreAwake, UpdatesAreAwake, UpsAreAwake, ClockIsAwake, QueriesAreAwake, SessionIsAwake, CallsAreAwake, CommandsAreAwake, DoorsAreAwake, EndIsAwake, EndComes};
 
-/// Each deadline lies within its limit, a session ends in its time, and nothing moves that. `Schedule::poll_timeout` is no later than any
-/// moment at which something is to be done. What is told of others, and what is chosen for them, moves no deadline: only the end of the
-/// station makes answers hurry, and from then on none of them gains time. And where the schedule says nothing more, no deadline is past,
-/// and `Schedule::poll_timeout` is to come, if a door rests for any time at all. A call gives way no earlier than after its partner's pause,
-/// and only while nothing of that partner is there to hear. Nobody is closed, declined or made again for its time before that is over, but a call
-/// that has given way as often as it may: each time that a call hangs up or gives way it may do so once less.
+/// Each deadline lies within its limit, a session ends in its time, and nothing moves that. `Schedule::poll_timeout` is no later than any moment
+/// at which something is to be done. What is told of others, and what is chosen for them, moves no deadline. Only the end of the station makes
+/// answers hurry, and from then on none of them gains time. And where the schedule says nothing more, no deadline is past, and
+/// `Schedule::poll_timeout` is to come, if a door rests for any time at all. A call gives way no earlier than after its partner's pause, and only
+/// while nothing of that partner is there to hear. Nobody is closed, declined or made again for its time before that is over. The exception is a
+/// call that has given way as often as it may. Each time that a call hangs up or gives way it may do so once less.
 pub fn gone_in_time()
     ensures within { (limits : Limits) (moves : List Move) → IsWithin limits (run (start limits) moves) }
     ensures ends { (limits : Limits) (moves : List Move) → SessionsEnd limits (run (start limits) moves) }
@@ -46,9 +46,9 @@ pub fn gone_in_time()
     ensures to_come { (limits : Limits) (moves : List Move) → IsToCome (run (start limits) moves) }
 {}
 
-/// Nothing waits for nothing. Where the schedule says nothing more, whatever waits does so for something whose end is told (a job of the
-/// office, the look-up of an address, one who is being accepted), for somebody whose deadline the shell waits for, or, a look-up within a
-/// session, for the end of the rest after another, which the shell waits for too.
+/// Nothing waits for nothing. If the schedule says nothing more, whatever waits does so for something whose end is told, or for somebody whose
+/// deadline the shell waits for. What is told is the end of a job of the office, of the look-up of an address, or of one who is being accepted. A
+/// look-up within a session may also wait for the end of the rest after another, which the shell waits for too.
 pub fn no_lost_wakeup()
     ensures guests { (limits : Limits) (moves : List Move) → GuestsAreAwake (run (start limits) moves) }
     ensures updates { (limits : Limits) (moves : List Move) → UpdatesAreAwake (run (start limits) moves) }
@@ -63,12 +63,12 @@ pub fn no_lost_wakeup()
     ensures end_comes { (limits : Limits) (moves : List Move) → EndComes (run (start limits) moves) }
 {}
 
-/// The life of one connection. An observer of one number, who knows only what was told of it and what was ordered for it, stands
-/// where the schedule has that connection, and nothing happens to it that may not.
+/// The life of one connection. An observer of one number knows only what was told of it and what was ordered for it. It stands where the schedule
+/// has that connection, and nothing happens to it that may not.
 ///
-/// So a request is handed over once, and as what it is, and not if it is declined at the end of the station; it is answered once or
-/// declined, and not answered before it was handed over, unless it waits for a call; and one line at most is printed for a connection.
-/// Who asked, and whose request is whole, is closed only after its answer, a refusal, or the news that it is gone.
+/// So a request is handed over once, and as what it is, and not if it is declined at the end of the station. It is answered once or declined, and
+/// not answered before it was handed over, unless it waits for a call. One line at most is printed for a connection. Who asked, and whose request
+/// is whole, is closed only after its answer, a refusal, or the news that it is gone.
 pub fn at_most_once()
     ensures life { (limits : Limits) (moves : List Move) (id : ℕ) →
         watch (life id) Unbegun (history (start limits) moves) ≡ stage_of id (run (start limits) moves) }
@@ -88,12 +88,12 @@ pub fn at_most_once()
     ensures kept { (limits : Limits) (moves : List Move) → AreAnswered (history (start limits) moves) }
 {}
 
-/// One thing at a time. The office has one job at most: a step of a session, a request, or the clock's look-up. There is one session, or one
-/// copy of the database's files, at most, one call that is up without a session, and one connection that is being accepted. A job begins
-/// where the office has none, and a session, a change, a copy, the clock's look-up or a call only where there is neither a session nor a
-/// copy. So between two pieces of a session there are look-ups alone, and while there are octets to hear, a look-up only where the share is
-/// used up: after so many octets, or a wait. After each look-up none begins within a session for as long as that one took, and only
-/// the end of a look-up lengthens that rest.
+/// One thing at a time. The office has one job at most: a step of a session, a request, or the clock's look-up. There is one session, or one copy
+/// of the database's files, at most. There is one call at most that is up without a session, and one connection that is being accepted. A job
+/// begins if the office has none. A session, a change, a copy, the clock's look-up or a call begins only if there is neither a session nor a
+/// copy. So between two pieces of a session there are look-ups alone. While there are octets to hear, a look-up comes only if the share is used
+/// up: after so many octets, or a wait. After each look-up none begins within a session for as long as that one took, and only the end of a
+/// look-up lengthens that rest.
 pub fn one_at_a_time()
     ensures apart { (limits : Limits) (moves : List Move) → IsApart (run (start limits) moves) }
     ensures chosen { (limits : Limits) (moves : List Move) → ChosenApart (run (start limits) moves) (choice (run (start limits) moves)) }
@@ -104,7 +104,7 @@ pub fn one_at_a_time()
 {}
 
 /// A call is of one partner and for one asker as long as it is there, whatever comes. It hangs up, to give way or because its session didn't
-/// begin, as often as the limits say and no more, and what it may still do so is the rest. The clock has one call of a partner at a time.
+/// begin, as often as the limits say and no more. What it may still do so is the rest. The clock has one call of a partner at a time.
 pub fn calls_are_bounded()
     ensures one_each { (limits : Limits) (moves : List Move) → HasOneEach (run (start limits) moves) }
     ensures keeps { (limits : Limits) (before during : List Move) → KeepsCalls (run (start limits) before) during }
@@ -113,19 +113,19 @@ pub fn calls_are_bounded()
     ensures most { (limits : Limits) (moves : List Move) (id : ℕ) → hang_ups id (history (start limits) moves) ≤ limits.times }
 {}
 
-/// Of each kind the first in the table is served first, and a session begins only where no change or copy is owed that came within the last
-/// one. Who is let in, and whose request is whole, goes to the end of the table by the machine's definition (`Queue`, specs/Machine.antt).
+/// Of each kind the first in the table is served first. A session begins only if no change or copy is owed that came within the last one. Who is
+/// let in, and whose request is whole, goes to the end of the table by the machine's definition (`Queue`, specs/Machine.antt).
 ///
-/// While a guest waits, a change that isn't owed, a look-up or a call comes only in its turn: between two such changes a session begins, and no
-/// call is begun where the last session was a call's.
+/// While a guest waits, a change that isn't owed, a look-up or a call comes only in its turn. Between two such changes a session begins, and no
+/// call is begun if the last session was a call's.
 pub fn in_order()
     ensures first { (limits : Limits) (moves : List Move) → IsFirst (run (start limits) moves) (choice (run (start limits) moves)) }
     ensures turn { (limits : Limits) (moves : List Move) → IsTurn (run (start limits) moves) (choice (run (start limits) moves)) }
     ensures round { (limits : Limits) (before during : List Move) → IsRound (run (start limits) before) during }
 {}
 
-/// Once the station is to end, and a door that failed or a failed office is such a cause, it stays so and nothing new begins: nobody is
-/// accepted or called, and no session, change or copy begins. Once everybody is gone the program ends, and nothing follows.
+/// Once the station is to end, it stays so and nothing new begins. A door that failed or a failed office is such a cause. Nobody is accepted or
+/// called, and no session, change or copy begins. Once everybody is gone the program ends, and nothing follows.
 pub fn ends_in_order()
     ensures stays { (state : State) (move : Move) → is_ending state.course ≡ true → is_ending (step state move).0.course ≡ true }
     ensures nothing_new { (limits : Limits) (moves : List Move) → BeginsNothing (run (start limits) moves) (choice (run (start limits) moves)) }
@@ -133,8 +133,8 @@ pub fn ends_in_order()
     ensures over { (limits : Limits) (moves : List Move) → IsOver (run (start limits) moves) }
 {}
 
-/// Nobody is closed for another, but where one was accepted at a door that is too full then: the oldest stranger that has been there for
-/// long enough.
+/// Nobody is closed for another, but if one was accepted at a door that is too full then. It is the oldest stranger that has been there for long
+/// enough.
 pub fn no_needless_eviction()
     ensures { (limits : Limits) (moves : List Move) (move : Move)
         → evictions (step (run (start limits) moves) move).1 ≡ number (leaver (run (start limits) moves) move) }

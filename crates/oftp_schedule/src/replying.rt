@@ -146,8 +146,8 @@ impl Schedule {
         }
     }
 
-    /// Counts what a reply to a connection in this phase does: a job, the time of a look-up, a number for a call, and a guest that comes
-    /// first.
+    /// Counts what a reply to a connection in this phase does. It is a job, the time of a look-up, a number for a call, and a guest that
+    /// comes first.
     fn count(&mut self, door: Door, phase: Phase, reply: Reply)
         requires { in_numbers self.old.0.next reply ≡ reply }
         ensures { self.new ≡ (counted self.old.0 door phase reply, self.old.1) }

@@ -24,8 +24,8 @@ const MOST_RESERVED: u64 = 4_096;
 /// The actions for which a new schedule reserves room.
 const RESERVED_ACTIONS: usize = 64;
 
-/// The schedule of a station. The shell around it tells it what has happened by [`Schedule::handle`], does what [`Schedule::poll_action`]
-/// says until it says nothing, and then waits for the next event, or until [`Schedule::poll_timeout`].
+/// The schedule of a station. The shell around it tells it what has happened by [`Schedule::handle`], and does what
+/// [`Schedule::poll_action`] says until it says nothing. Then it waits for the next event, or until [`Schedule::poll_timeout`].
 #[derive(Drop)]
 pub struct Schedule {
     pub(crate) time: Millis,

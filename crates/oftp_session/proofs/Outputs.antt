@@ -56,7 +56,7 @@ pub record StartsWith (count : ℕ) (change : Change) : Type 0 where
   pub description : List ℕ
   pub is : change ≡ Start identity format longest description count
 
--- an ESID is for such a reason, and an SFPA is sent by a step whose change starts a file with the Restart position that it answers
+-- An ESID is for such a reason. An SFPA is sent by a step whose change starts a file with the Restart position that it answers.
 abbrev pub MayBeSaid : Option Command → Option Change → Type 0
 MayBeSaid None change = Unit {0}
 MayBeSaid (Some (command.Esid esid)) change = (reason : SessionReason) × IsOther reason × (command.Esid esid ≡ esid_of reason)

@@ -16,8 +16,8 @@ use Rattle.oftp_session.specs.Phases.{Phase, Step, framed, register_after}
 use Rattle.oftp_session.specs.Steps.{Suits}
 use Rattle.oftp_session.specs.Standings.{Standing, StandsIn}
 
--- What a caller sees of a session: its book and the partner that it calls, its state, whether a response to its partner is due, once that was
--- looked up, and its last frame, [] for none.
+-- What a caller sees of a session: its book and the partner that it calls, its state, and its last frame, [] for none. Also whether a
+-- response to its partner is due, once that was looked up.
 pub record Seen : Type 0 where
   pub setting : Setting
   pub standing : Standing

@@ -73,8 +73,8 @@ abbrev pub StepsFrom : {P : Type 0} → (Register → P → Type 0) → (P → T
 StepsFrom {P = P} Has Stands step old new frame result =
     new.clean → old.stands → (at : P) → Has old.register at → Stands at → Takes (step old.register at) old new frame result
 
--- If the disk is clean after a call and the office was valid before it, this holds of each phase that the state may be in, and of the
--- office's register. The register suits the phase, and whether a response is next was remembered rightly.
+-- If the disk is clean after a call and the office was valid before it, this holds of the office's register. It holds of each phase
+-- that the state may be in. The register suits the phase, and whether a response is next was remembered rightly.
 abbrev pub InState : View → View → Standing → Option Bool → (Phase → Register → Type 0) → Type 0
 InState before after standing due holds = after.clean → before.stands
     → (p : Phase) → Holds p before.register → StandsIn p standing → RecallsAt due standing before.register → holds p before.register

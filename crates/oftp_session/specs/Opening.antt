@@ -71,7 +71,7 @@ agreement setting ssid (Some partner) =
     if ssid.authentication then Err AuthenticationIncompatible else
     Ok (record { partner = partner; link = agreed setting.book partner ssid }))))
 
--- what is agreed with a partner that sends this SSID, or the reason to end the session, which is that of the first test that fails
+-- What is agreed with a partner that sends this SSID, or the reason to end the session. That is the reason of the first test that fails.
 unfoldable pub ssid_verdict : Setting → Ssid → Result Agreement SessionReason
 ssid_verdict setting ssid =
     if not (ssid.level == 5) then Err ModeIncompatible else (

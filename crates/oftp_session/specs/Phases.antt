@@ -16,8 +16,8 @@ use Rattle.oftp_session.specs.declared.state.Contact.{Contact}
 use Rattle.oftp_session.specs.declared.session.Ending.{Ending}
 use Rattle.oftp_session.specs.declared.session.Ending.TheVariants as ended
 
--- A file that is received: its number, its entry with the stored rows, the row from which on it is received, the octets before that row,
--- its limit in octets, and all payloads since SFPA (RFC 5024, sections 5.3.4 and 5.3.6).
+-- A file that is received: its number, its entry with the stored rows, and the row from which on it is received. Also the octets before
+-- that row, its limit in octets, and all payloads since SFPA (RFC 5024, sections 5.3.4 and 5.3.6).
 pub record Receipt : Type 0 where
   pub number : ℕ
   pub file : Incoming
@@ -32,8 +32,8 @@ pub record Offer : Type 0 where
   pub file : Outgoing
   pub from : ℕ
 
--- A file that is sent: its number, its entry, the row from which it is sent, how many of its payloads were sent, and how many CDT were
--- received (RFC 5024, sections 5.3.4, 5.3.6 and 5.3.7).
+-- A file that is sent (RFC 5024, sections 5.3.4, 5.3.6 and 5.3.7): its number, its entry, and the row from which it is sent. Also how
+-- many of its payloads were sent, and how many CDT were received.
 pub record Transfer : Type 0 where
   pub number : ℕ
   pub file : Outgoing

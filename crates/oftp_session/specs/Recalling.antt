@@ -7,7 +7,7 @@ use Rattle.oftp_session.specs.Receiving.{asks_to_speak}
 use Rattle.oftp_session.specs.Standings.{Standing, At, Awaits, Broken, Offers, Receives, Sends}
 use Rattle.oftp_session.specs.Calls.{Seen}
 
--- the partner to which a response may be next, in a phase and in a state: that of an open session in which RTR isn't missing
+-- The partner to which a response may be next, in a phase and in a state. It is that of an open session in which RTR isn't missing.
 abbrev pub recalled_in : Phase → Option Contact
 recalled_in (ListenerIdle contact) = Some contact
 recalled_in (Receiving contact f) = Some contact
@@ -26,7 +26,7 @@ recalled_of (Sends contact outgoing) = Some contact
 recalled_of (Awaits contact number) = Some contact
 recalled_of Broken = None
 
--- whether a response is next is what was looked up, if it was: if one is, a listener asks to speak, and a speaker sends it before any file
+-- Whether a response is next is what was looked up, if it was. If one is, a listener asks to speak, and a speaker sends it before any file.
 abbrev pub RecallsOf : Option Bool → Contact → Register → Type 0
 RecallsOf due contact r = (given : Bool) → due ≡ Some given → given ≡ asks_to_speak contact r
 

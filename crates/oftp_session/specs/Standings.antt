@@ -26,7 +26,7 @@ pub data Standing : Type 0 where
   Awaits : (contact : Contact) (number : ℕ) → Standing
   Broken : Standing
 
--- An incoming transfer is in the state of the phase: its credit is what is left of the window, its taker took all payloads, and the stored rows were
+-- An incoming transfer is in the state of the phase. Its credit is what is left of the window, its taker took all payloads, and the stored rows were
 -- removed from the taker.
 pub record Tracks (contact : Contact) (f : Receipt) (s : IncomingTransfer) : Type 0 where
   pub number : s.number ≡ f.number
@@ -56,8 +56,8 @@ pub record AreAtHand (file : List (List ℕ)) (s : OutgoingTransfer) : Type 0 wh
   pub first : at_hand s.page ≡ take (length (at_hand s.page)) (drop s.filler.row file)
   pub place : IsInRows s.filler (at_hand s.page)
 
--- An outgoing transfer is in the state of the phase: its credit is what is left, no payload was sent without credit or without room for a subrecord,
--- its filler made the payloads that were sent, and the rows at hand are those of the file.
+-- An outgoing transfer is in the state of the phase. Its credit is what is left, and no payload was sent without credit or without room for a
+-- subrecord. Its filler made the payloads that were sent, and the rows at hand are those of the file.
 pub record Ships (contact : Contact) (t : Transfer) (s : OutgoingTransfer) : Type 0 where
   pub number : s.number ≡ t.number
   pub format : s.filler.format ≡ t.file.format

@@ -95,7 +95,7 @@ pub record IsResponding (r : Register) (number : ℕ) : Type 0 where
   pub issued : file.response ≡ Some response
   pub due : response.dispatch ≡ Due
 
--- the entry of a file that is offered or sent is as the session left it, and its rows reach to where it is sent from
+-- The entry of a file that is offered or sent is as the session left it. Its rows reach to where it is sent from.
 pub record IsOffered (r : Register) (offer : Offer) : Type 0 where
   pub entry : entry_at offer.number r.outgoing ≡ Some offer.file
   pub goes : is_on_its_way offer.file.state ≡ true

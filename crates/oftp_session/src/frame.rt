@@ -21,8 +21,8 @@ use std::marker::Model;
 // The number of octets before the payload of a DATA: the stream header, and the command's letter.
 const DATA_HEAD: usize = 5;
 
-// The most octets of the payload of a DATA: those of the largest Data Exchange Buffer, without the command's letter (RFC 5024, sections 5.3.2
-// and 5.3.6).
+// The most octets of the payload of a DATA (RFC 5024, sections 5.3.2 and 5.3.6). They are those of the largest Data Exchange Buffer, without the
+// command's letter.
 pub(crate) const LARGEST_PAYLOAD: usize = 99_998;
 
 // The room in octets for the frame of a command other than DATA. The longest has 1,168: SFID with a description of 999 octets (RFC 5024,

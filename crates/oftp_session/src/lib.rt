@@ -1,5 +1,5 @@
-//! One session with a partner, as a state machine without I/O: each call executes one command that arrived, or makes one command of its own
-//! that is due, and returns the frame to send as a borrowed slice.
+//! One session with a partner, as a state machine without I/O. Each call executes one command that arrived, or makes one command of its own
+//! that is due. It returns the frame to send as a borrowed slice.
 //!
 //! A change of the register is committed before the frame that answers it is returned.
 //!

@@ -125,7 +125,7 @@ fn look_up<O: Office>(
     Ok(rows)
 }
 
-// The number of rows to look up when those at hand don't fill a payload: twice as many, at least `FIRST_ROWS`, and at most as many as a
+// The number of rows to look up if those at hand don't fill a payload. It is twice as many, at least `FIRST_ROWS`, and at most as many as a
 // payload has octets.
 fn next_count(outgoing: &OutgoingTransfer, size: usize) -> usize
     requires { next_row outgoing.now ≤ MOST_ROWS }

@@ -19,8 +19,8 @@ use oftp_register::{Change, Office};
 use oftp_vfile::{Filler, Format, Rows};
 use oftp_wire::{Command, Count, SessionReason, Sfna, StartReason};
 
-// An offered file: its number, whether its end was sent in an earlier session, its layout, its numbers of rows and of octets, how many
-// rows the partner is known to have, and the row from which it was offered.
+// An offered file: its number, whether its end was sent in an earlier session, its layout, and its numbers of rows and of octets. Also
+// how many rows the partner is known to have, and the row from which it was offered.
 #[derive(Drop)]
 pub(crate) struct OutgoingOffer {
     pub(crate) number: u64,
@@ -33,8 +33,8 @@ pub(crate) struct OutgoingOffer {
     pub(crate) from: u64,
 }
 
-// A file that is being sent: its number, how many commands may be sent before CDT, its longest record, its numbers of rows and of octets,
-// its mark in the register, the filler of its payloads, and the rows that were looked up and aren't wholly sent.
+// A file that is being sent: its number, its longest record, and its numbers of rows and of octets. Also how many commands may be sent
+// before CDT, its mark in the register, and the filler of its payloads. Also the rows that were looked up and aren't wholly sent.
 #[derive(Drop)]
 pub(crate) struct OutgoingTransfer {
     pub(crate) number: u64,

@@ -289,9 +289,9 @@ impl<'b> Session<'b> {
         self.frame.out()
     }
 
-    /// Judges a caller by its first command, and returns the frame that answers it as a borrowed slice: the station's SSID where it is let
-    /// in, or ESID (RFC 5024, section 5.3.2). No office is asked, because no such answer depends on a register. The session must wait for
-    /// SSID.
+    /// Judges a caller by its first command, and returns the frame that answers it as a borrowed slice. It is the station's SSID if the
+    /// caller is let in, or ESID (RFC 5024, section 5.3.2). No office is asked, because no such answer depends on a register. The session
+    /// must wait for SSID.
     pub fn judge(&mut self, command: &Command<'_>) -> Out<'_>
         requires { Stands Phase.AwaitingSsid self.old }
         ensures said { said result ≡ framed (came_awaiting_ssid self.old.setting command.now).output }

@@ -8,7 +8,7 @@ use std::net::TcpListener;
 const NO_BUFFERS: i32 = 105;
 
 /// The errors of accept after which the listener still works, by Linux's numbers. The caller is gone or was rejected (EPERM, ENONET,
-/// EPROTO, ENOPROTOOPT, EOPNOTSUPP, ENETDOWN, ENETUNREACH, ECONNABORTED, ECONNRESET, ETIMEDOUT, EHOSTDOWN, EHOSTUNREACH), or there is no
+/// EPROTO, ENOPROTOOPT, EOPNOTSUPP, ENETDOWN, ENETUNREACH, ECONNABORTED, ECONNRESET, ETIMEDOUT, EHOSTDOWN, EHOSTUNREACH). Or there is no
 /// descriptor or memory for it now (ENOMEM, ENFILE, EMFILE, ENOBUFS).
 const PASSING: [i32; 16] = [
     1, 64, 71, 92, 95, 100, 101, 103, 104, 110, 112, 113, 12, 23, 24, NO_BUFFERS,

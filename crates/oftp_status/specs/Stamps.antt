@@ -6,7 +6,7 @@ use Rattle.oftp_status.specs.declared.stamp.TheConstants.{DAY, DAYS_BEFORE}
 abbrev pub two : ℕ → ℕ → ℕ
 two tens ones = (tens - 48) * 10 + (ones - 48)
 
--- The days from 1970 on, by the Gregorian calendar. The year begins with March, so that a leap day is its last; the months from there on have
+-- The days from 1970 on, by the Gregorian calendar. The year begins with March, so that a leap day is its last. The months from there on have
 -- 31, 30, 31, 30, 31 days again and again, 153 in five.
 abbrev pub days_from_march : ℕ → ℕ → ℕ → ℕ
 days_from_march year month day = (365 * year + year / 4 + year / 400 + (153 * month + 2) / 5 + day) - (year / 100 + DAYS_BEFORE + 1)

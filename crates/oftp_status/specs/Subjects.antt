@@ -76,7 +76,7 @@ standing_text Refused = codes "refused"
 standing_text Delivered = codes "delivered"
 standing_text Returned = codes "returned"
 
--- something is still to be done: the rest of the file is to come, a response is to be issued, sent or received, or the file is to be sent
+-- Something is still to be done. The rest of the file is to come, a response is to be issued, sent or received, or the file is to be sent.
 abbrev pub is_open : Standing → Bool
 is_open Coming = true
 is_open Whole = true

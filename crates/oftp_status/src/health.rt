@@ -501,8 +501,8 @@ pub struct Verdict {
     pub line: Vec<u8>,
 }
 
-/// The verdict on a station by these limits: the oldest file of each partner that waits to be released, to be sent or for its response, the
-/// last good session with each partner, and the last backup.
+/// The verdict on a station by these limits. They are of the oldest file of each partner that waits to be released, to be sent or for its
+/// response. They are also of the last good session with each partner, and of the last backup.
 ///
 /// # Errors
 ///

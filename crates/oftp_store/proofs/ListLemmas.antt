@@ -155,8 +155,8 @@ no_file : (partner : List ℕ) (tried n : ℕ) (fs : List Outgoing) → n + leng
 no_file partner tried n [] h = refl
 no_file partner tried n (f ∷ fs) h = let low : nat_lt tried n ≡ false = grind (arith, nat_tests, h) in rw low (no_file partner tried (n + 1) fs (omega (arith, h)))
 
--- the next above a number is the next above the one that is used in its place: the number itself where the database can store it, and else
--- the greatest
+-- The next above a number is the next above the one that is used in its place. That is the number itself if the database can store it, and
+-- else the greatest.
 same_within : {E : Type 0} (next : ℕ → Option E) (entries tried given : ℕ) → entries < 2 ^ 63 → ((at : ℕ) → 1 + entries ≤ at + 1 → next at ≡ None)
     → (tried < 2 ^ 63 → given ≡ tried) → (2 ^ 63 ≤ tried → given + 1 ≡ 2 ^ 63) → next given ≡ next tried
 same_within next entries tried given few none same far =

@@ -123,8 +123,8 @@ ends_unfound g limits told fits n old new fault ends change needs = ends change 
 
 -- ---- the changes of a file by its number
 
--- How such a change ends: with an error of the look-up, or because there is no such file; the same for look-up and test together; with the
--- refusal of a file that doesn't fit; or with its edits.
+-- How such a change ends: with an error of the look-up, or because there is no such file. The same for look-up and test together. It also
+-- ends with the refusal of a file that doesn't fit; or with its edits.
 
 pub made_unfound : {S A : Type 0} {g : Ghosts S} {limits : Limits} {told : Register → ℕ → Option A → Type 0} {fits : A → Bool} {edits : A → List Edit} {n : ℕ} {change : Change}
     {old new : Held S} {fault : OfficeFault} {result : Result (Unit {0}) OfficeFault} → IsOfFile told fits edits n change → EndsCommit g limits (NeedsFile told n) old new fault

@@ -183,13 +183,13 @@ pub data IsCause {S : Type 0} (g : Ghosts S) (r : Register) (new : Held S) : Typ
   query : (asked : Query) (old : Held S) (params : Row) → length params ≡ values_of asked → IsQueryCause g (sql_of asked) params (Fits asked) old new → IsCause g r new
   number : (table : Table) → 2 ^ 63 ≤ entries_in r table + 1 → IsCause g r new
 
--- the cause of an error at a row of a page: that of a look-up, or the row fits no entry, and the connection is as it was
+-- The cause of an error at a row of a page. It is that of a look-up, or the row fits no entry, and the connection is as it was.
 pub data IsRowCause {S : Type 0} (g : Ghosts S) (asked : Query) (r : Register) (row : Row) (old new : Held S) : Type 0 where
   asking : IsCause g r new → IsRowCause g asked r row old new
   misread : ¬ Fits asked row → IsUnchanged (state g old) (state g new) → IsRowCause g asked r row old new
 
--- The cause of a change: that of a look-up; or the register makes it, and its transaction ended with an error other than out of memory,
--- or the database can't store what makes it.
+-- The cause of a change. It is that of a look-up. Or the register makes it, and its transaction ended with an error other than out of
+-- memory, or the database can't store what makes it.
 pub data IsCommitCause {S : Type 0} (g : Ghosts S) (r : Register) (change : Change) (new : Held S) : Type 0 where
   reading : IsCause g r new → IsCommitCause g r change new
   writing : (s : Register) (e : Error) → apply r change ≡ Ok s → IsTransactionError g new e → e ≢ SqliteFailure OutOfMemory → IsCommitCause g r change new

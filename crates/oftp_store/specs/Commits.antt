@@ -22,8 +22,8 @@ use Rattle.oftp_store.specs.Causes.{HasCommitCause}
 use Rattle.oftp_store.specs.Edits.{IsStorable, MakesAll}
 use Rattle.oftp_store.specs.declared.changes.edit.Edit.{Edit}
 
--- Within these limits the change is made, or it is refused for its cause, or the store failed and the register is unchanged if the
--- connection is open. After a crash the change is made or not made.
+-- Within these limits the change is made, or it is refused for its cause, or the store failed. In the last case the register is
+-- unchanged if the connection is open. After a crash the change is made or not made.
 pub record CommitsOn {T : Type 0} (limits : Limits) (change : Change) (old new : State) (result : Result T OfficeFault) : Type 0 where
   pub clean : doubt old.is_clean ≤ doubt new.is_clean
   pub mode : old.in_transaction ≡ false → new.in_transaction ≡ false

@@ -67,7 +67,7 @@ next_text sendable.File = codes "SELECT no FROM out_file WHERE no > ?1 AND (stat
 next_text sendable.Response =
     codes "SELECT issued.no FROM issued JOIN in_file ON in_file.no = issued.no WHERE issued.no > ?1 AND sent = 0 AND originator = ?2 ORDER BY issued.no LIMIT 1"
 
--- the number above `tried` of the first file that is on its way to a partner, or of the file with the first response that is due to it
+-- The number above `tried` of the first file that is on its way to a partner. Or it is that of the file with the first response that is due to it.
 abbrev pub next_number : Register → Sendable → List ℕ → ℕ → Option ℕ
 next_number r sendable.File partner tried = option_map (λ (e : OutgoingEntry). e.no) (next_file r partner tried)
 next_number r sendable.Response partner tried = option_map (λ (e : IssuedEntry). e.no) (next_response r partner tried)

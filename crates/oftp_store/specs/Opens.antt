@@ -39,8 +39,9 @@ LeavesCommitted s = IsTrue s.is_open → (db : Trees) → s.may_leave db → db 
 
 -- ---- a refused opening
 
--- What an opening demands of the database in the files: which databases it accepts, which of these it changes, which it reports as foreign
--- whatever the disk does, and which have the tables of a register. `AsEmpty` is the error for files that hold no table.
+-- What an opening demands of the database in the files. It says which databases it accepts, and which of these it changes. It says which
+-- it reports as foreign whatever the disk does, and which have the tables of a register. `AsEmpty` is the error for files that hold no
+-- table.
 pub record Demand : Type 1 where
   pub Takes : Database → Type 0
   pub Changes : Database → Type 0

@@ -93,7 +93,7 @@ pub record IsAsBefore (old new : State) : Type 0 where
 abbrev pub add_about_text : List ℕ
 add_about_text = codes "INSERT INTO about (id, schema) VALUES (1, 2)"
 
--- The making came so far in its transaction, and then this statement returned this error: the one that makes the next table, or the one that
+-- The making came so far in its transaction, and then this statement returned this error. It is the one that makes the next table, or that
 -- writes the row of `about`.
 pub record FailsToMake {S : Type 0} (g : Ghosts S) (old new : Held S) (e : Error) : Type 0 where
   pub last : Held S

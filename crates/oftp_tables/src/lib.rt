@@ -1,11 +1,12 @@
-//! The tables in which an office keeps its register in a SQLite database: how they are made and recognised, what they hold of a register,
-//! and how their rows are queried and read.
+//! The tables in which an office keeps its register in a SQLite database. It has how they are made and recognised, what they hold of a
+//! register, and how their rows are queried and read.
 //!
-//! The definitions are in `specs/`, in this order: [`Schema`](../specs/Schema.antt) has the tables as data,
-//! [`Transactions`](../specs/Transactions.antt) says what calls do to a connection, [`Making`](../specs/Making.antt) how the tables are
-//! made, [`Tables`](../specs/Tables.antt) which rows represent a register, [`Statements`](../specs/Statements.antt) what statements do to
-//! these tables, [`Stands`](../specs/Stands.antt) and [`Opening`](../specs/Opening.antt) which register a store has when it is opened, and
-//! [`Migration`](../specs/Migration.antt) and [`MigrationSteps`](../specs/MigrationSteps.antt) what a migration does to schema 1.
+//! The definitions are in `specs/`, in this order. [`Schema`](../specs/Schema.antt) has the tables as data,
+//! [`Transactions`](../specs/Transactions.antt) says what calls do to a connection, and [`Making`](../specs/Making.antt) how the tables
+//! are made. [`Tables`](../specs/Tables.antt) says which rows represent a register, and [`Statements`](../specs/Statements.antt) what
+//! statements do to these tables. [`Stands`](../specs/Stands.antt) and [`Opening`](../specs/Opening.antt) say which register a store has
+//! when it is opened. [`Migration`](../specs/Migration.antt) and [`MigrationSteps`](../specs/MigrationSteps.antt) say what a migration
+//! does to schema 1.
 #![tactic(auto)]
 
 mod about;

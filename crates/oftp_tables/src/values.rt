@@ -272,8 +272,8 @@ fn reason_of(kind: ResponseKind, text: &[u8]) -> Option<Count<2>>
     }
 }
 
-/// Reads the reason of a response of this kind from column `at`, counted from 0: two digits for a Negative End Response, and an empty text,
-/// which is 0, for an End-to-End Response. `None` where the column has anything else.
+/// Reads the reason of a response of this kind from column `at`, counted from 0. It is two digits for a Negative End Response, and an empty
+/// text, which is 0, for an End-to-End Response. `None` where the column has anything else.
 pub fn reason_at(row: &Row, at: usize, kind: ResponseKind) -> Option<Count<2>>
     ensures told { IfSome result (λ reason. reason ≡ number (bytes (column row.now at))) }
     ensures fits { IfSome result (λ reason. column row.now at ≡ value.Text (reason_text kind reason)) }

@@ -1,5 +1,5 @@
-//! What a trace and `show` tell of commands: each field by its name in RFC 5024 (section 5.3), and of faulty octets which field is at fault,
-//! what it has and what it may have.
+//! What a trace and `show` tell of commands. It is each field by its name in RFC 5024 (section 5.3). Of faulty octets it is which field is
+//! at fault, what it has and what it may have.
 //!
 //! The places of the fields are those of oftp_codec's tables (`specs/Names.antt`), so there is no second list of them. A password is never
 //! told, and no content of a file.

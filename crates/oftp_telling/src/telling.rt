@@ -234,7 +234,7 @@ impl fmt::Display for UnknownLine<'_> {
     }
 }
 
-/// The kind that the octets of a frame begin as, without its stream header; of none, and of a letter that no command has, there is none.
+/// The kind that the octets of a frame begin as, without its stream header. Of no octets there is none, nor of a letter that no command has.
 pub fn kind_in(frame: &[u8]) -> Option<CommandKind>
     ensures { result ≡ kind_in frame.now }
 {

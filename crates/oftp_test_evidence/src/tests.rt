@@ -96,8 +96,8 @@ const FRAMES: [(&[u8], Option<Part>); 18] = [
     (b"Z", None),
 ];
 
-/// The octets of a side: SSRM, the file's SFID, a payload, its EERP, the SFID of another file, and the file's NERP; then a stream header of version 2,
-/// and the file's SFID again.
+/// The octets of a side: SSRM, the file's SFID, a payload, its EERP, the SFID of another file, and the file's NERP. Then come a stream header of
+/// version 2, and the file's SFID again.
 const SIDE: [&[u8]; 8] = [
     b"\x10\0\0\x17IODETTE FTP READY \r",
     b"\x10\0\0\xa9HINVOICE                      202601021112130001        O0002                    O0001                    F000800000000000001000000000000100000000000000000000000N000",

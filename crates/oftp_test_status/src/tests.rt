@@ -54,7 +54,7 @@ fn file(alloc: Global, code: &str, standing: Standing) -> Result<Subject, AllocE
     })
 }
 
-/// Counters of a day: three good sessions with O1, the last an hour ago, a wrong password of O2, and what else is counted, once each.
+/// Counters of a day. Three good sessions with O1, the last an hour ago, a wrong password of O2, and what else is counted, once each.
 fn counters(alloc: Global) -> Result<Tallies, AllocError> {
     let mut counted = Tallies::new(alloc);
     let good = Ending::Partner(Count::new(0));
@@ -223,7 +223,7 @@ fn judge(
     Ok(())
 }
 
-// The file to O2 waits for 49 hours: that is well up to a limit of 49, and no more than a warning up to a second one of 49.
+// The file to O2 waits for 49 hours. That is well up to a limit of 49, and no more than a warning up to a second one of 49.
 #[test]
 fn grades_at_the_limits(rt: HostRuntime) -> Result<(), Fail> {
     judge(

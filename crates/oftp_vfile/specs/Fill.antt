@@ -6,7 +6,7 @@ use Rattle.oftp_vfile.specs.declared.format.Format.{Format}
 use Rattle.oftp_vfile.specs.VirtualFile.{is_stream, octets_in}
 use Rattle.oftp_vfile.specs.Subrecord.{Subrecord, payload_of, octets_of}
 
--- how many octets the next subrecord of a record needs, if these octets of it are left: its header, and an octet if there is one
+-- How many octets the next subrecord of a record needs, if these octets of it are left. It needs its header, and an octet if there is one.
 abbrev pub needs : List ℕ → ℕ
 needs [] = 1
 needs (x ∷ xs) = 2
@@ -79,8 +79,8 @@ payloads_of format size rows = fill size (records_of format rows)
 abbrev pub rows_ended : Format → List Subrecord → ℕ
 rows_ended format subs = if is_stream format then length (octets_of subs) / BLOCK else count_by (λ (s : Subrecord). s.ends) subs
 
--- how many of these rows are wholly sent after k payloads, where in a stream only full blocks count; a transfer that breaks there is
--- continued from there (RFC 5024, section 1.5.4)
+-- How many of these rows are wholly sent after k payloads, if in a stream only full blocks count. A transfer that breaks there is
+-- continued from there (RFC 5024, section 1.5.4).
 abbrev pub wholly_sent : Format → ℕ → List (List ℕ) → ℕ → ℕ
 wholly_sent format size rows k =
     rows_ended format (flat_map (λ ss. ss) (take k (fill_from (weight (records_of format rows)) size (records_of format rows))))

@@ -8,8 +8,8 @@ use Rattle.oftp_vfile.specs.VirtualFile.{is_stream, octets_in, whole_count}
 use Rattle.oftp_vfile.specs.Subrecord.{Subrecord}
 use Rattle.oftp_vfile.specs.Fill.{Packs, fill, payloads_of}
 
--- the place of a filler: the row, how many octets of it were sent, whether the end of a stream was sent, and how many rows count as wholly
--- sent
+-- The place of a filler: the row, and how many octets of it were sent. Also whether the end of a stream was sent, and how many rows count
+-- as wholly sent.
 pub record Filling : Type 0 where
   pub format : Format
   pub row : ℕ
@@ -45,7 +45,7 @@ AreBehind Variable false (r ∷ rs) = Unit {0}
 AreBehind Unstructured false (r ∷ rs) = 0 < length r
 AreBehind Text false (r ∷ rs) = 0 < length r
 
--- These octets are the first payload that `fill` makes of what is left, and it makes the others of what is left after them, whatever rows
+-- These octets are the first payload that `fill` makes of what is left. It makes the others of what is left after them, whatever rows
 -- follow the given ones.
 abbrev pub IsFirstPayload : ℕ → Filling → Filling → List (List ℕ) → Bool → List ℕ → Type 0
 IsFirstPayload size old new rows last octets =
@@ -110,8 +110,8 @@ FillsNext size old new rows last (Buffer n) = IsWritten size old new rows last
 FillsNext size old new rows last More = AsksForMore size old new rows last
 FillsNext size old new rows last Done = IsDone old new rows last
 
--- A filler that began at row `from`, where these are the rows of the file from there on, made these payloads of at most `size` octets. They
--- are the first of all payloads, and those of what is left are the others.
+-- A filler that began at row `from` made these payloads of at most `size` octets. These are the rows of the file from there on. They are
+-- the first of all payloads, and those of what is left are the others.
 pub record Sent (f : Filling) (size from : ℕ) (rows payloads : List (List ℕ)) : Type 0 where
   pub began : from ≤ f.row
   pub within : f.row ≤ from + length rows

@@ -2,7 +2,7 @@
 use Rattle.std.specs.Prelude.{◌≡◌, ℕ, List, [], ◌∷◌, ◌++◌, length, take, drop, nat_le, if◌then◌else◌}
 use Rattle.oftp_vfile.specs.declared.format.TheConstants.{BLOCK}
 
--- The new rows and the new tail continue the old ones: the old tail, with more octets after it, is still the tail, or the first new row.
+-- The new rows and the new tail continue the old ones. The old tail, with more octets after it, is still the tail, or the first new row.
 abbrev pub HasGrown : List (List ℕ) → List ℕ → List (List ℕ) → List ℕ → Type 0
 HasGrown rows tail rows' tail' =
     (more : List ℕ) × (behind : List (List ℕ)) × (rows' ++ tail' ∷ [] ≡ rows ++ (tail ++ more) ∷ behind)

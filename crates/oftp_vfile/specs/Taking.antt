@@ -13,8 +13,8 @@ use Rattle.oftp_vfile.specs.Growth.{stream_rows, stream_tail}
 use Rattle.oftp_vfile.specs.Subrecord.{Subrecord, header, payload_of, octets_of, has_end, has_compression, count_in, AreShort}
 use Rattle.oftp_vfile.specs.Carries.{Carried, Carries, stage_of}
 
--- the state of a taker: the file and its limit, what is kept of it from before, how many rows were removed, the rows and the open tail that
--- it has, the octets that it took, and whether a subrecord was received and ended
+-- The state of a taker: the file and its limit, what is kept of it from before, and how many rows were removed. Also the rows and the open
+-- tail that it has, the octets that it took, and whether a subrecord was received and ended.
 pub record Taking : Type 0 where
   pub format : Format
   pub longest : ℕ

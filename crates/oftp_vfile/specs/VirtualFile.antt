@@ -29,8 +29,7 @@ records_in format rows = if is_stream format then 0 else length rows
 abbrev pub whole_count : Format → List (List ℕ) → ℕ
 whole_count format rows = if is_stream format then count_by (λ (r : List ℕ). length r == BLOCK) rows else length rows
 
--- the longest record that a file of this format may have, in octets: 1 to 16,384 in F and V, and 0 in U and T, which have no
--- records
+-- The longest record that a file of this format may have, in octets. It is 1 to 16,384 in F and V, and 0 in U and T, which have no records.
 abbrev pub IsLongest : Format → ℕ → Type 0
 IsLongest Fixed longest = (0 < longest) × (longest ≤ LONGEST_RECORD)
 IsLongest Variable longest = (0 < longest) × (longest ≤ LONGEST_RECORD)
@@ -43,8 +42,8 @@ AreBlocks size [] = Unit {0}
 AreBlocks size (r ∷ []) = (0 < length r) × (length r ≤ size)
 AreBlocks size (r ∷ q ∷ rs) = (length r ≡ size) × AreBlocks size (q ∷ rs)
 
--- the rows of a virtual file: records of exactly the longest length in F and of at most that in V (RFC 5024, section 1.5.3), and in U and T
--- blocks of 1024 octets, the last of which may be shorter (RFC 5024, section 1.5.4)
+-- The rows of a virtual file. In F and V they are records, of exactly the longest length in F and of at most that in V (RFC 5024, section
+-- 1.5.3). In U and T they are blocks of 1024 octets, the last of which may be shorter (RFC 5024, section 1.5.4).
 abbrev pub AreRows : Format → ℕ → List (List ℕ) → Type 0
 AreRows Fixed longest rows = All (λ (r : List ℕ). length r ≡ longest) rows
 AreRows Variable longest rows = All (λ (r : List ℕ). length r ≤ longest) rows

@@ -35,7 +35,7 @@ impl Format {
         }
     }
 
-    /// Whether a file may have this longest record, in octets: 1 to 16,384 in F and V, and 0 in U and T, which have no records.
+    /// Whether a file may have this longest record, in octets. It is 1 to 16,384 in F and V, and 0 in U and T, which have no records.
     pub fn allows_longest(self, longest: u32) -> bool
         ensures { IsTrue result ↔ IsLongest self longest }
     {

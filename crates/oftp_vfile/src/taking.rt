@@ -97,8 +97,8 @@ fn is_wrong_size(format: Format, longest: usize, size: usize, ends: bool) -> boo
 }
 
 impl Taker {
-    /// A taker of a file, with its longest record in octets (0 in U and T), the numbers of rows and octets that are kept from earlier
-    /// transfers, and the limits of the station, of which it uses `octets`. It allocates nothing.
+    /// A taker of a file, with its longest record in octets (0 in U and T). It has the numbers of rows and octets that are kept from
+    /// earlier transfers, and the limits of the station, of which it uses `octets`. It allocates nothing.
     ///
     /// At most 1,000,000 rows are kept, and the sum of the kept octets and the limit is below 2^63, so that every count fits.
     pub fn new(
@@ -221,8 +221,8 @@ impl Taker {
         (records, self.kept_units + self.units)
     }
 
-    /// The finished rows that weren't removed and, unless it is empty, the open tail as the last one: the rows with which a file ends,
-    /// whose last block may be shorter. It copies no octet.
+    /// The finished rows that weren't removed and, unless it is empty, the open tail as the last one. With these rows a file ends, whose
+    /// last block may be shorter. It copies no octet.
     ///
     /// A caller checks `is_open` first: a record or a stream that goes on would be closed too early.
     ///
@@ -318,8 +318,8 @@ impl Taker {
         Ok(())
     }
 
-    // How many octets of a record are allocated at once: all of it where its length is known, and else twice what was received, so that a
-    // short record holds little more than it has.
+    // How many octets of a record are allocated at once. It is all of it if its length is known. Else it is twice what was received, so
+    // that a short record holds little more than it has.
     fn record_size(&self, ends: bool) -> usize {
         match self.format {
             Format::Fixed => self.longest,

@@ -56,7 +56,7 @@ waiting_line status = seen_line (waiting_with (option_and_then (get (codes "sess
 abbrev pub call_line : List ℕ → List ℕ → List ℕ
 call_line status code = seen_line (call_with code (option_and_then (get (codes "session")) (value_in status)))
 
--- how many of a hundred parts so many octets of so many blocks of 1,024 octets are; one may have more octets, and all of nothing is there
+-- How many of a hundred parts so many octets of so many blocks of 1,024 octets are. One may have more octets, and all of nothing is there.
 abbrev pub share_of : ℕ → ℕ → ℕ
 share_of octets blocks = if blocks == 0 then 100 else min (octets * 100 / (blocks * 1024)) 100
 

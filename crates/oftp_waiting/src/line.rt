@@ -110,8 +110,8 @@ fn session_of(status: &Option<Value>) -> Option<&Value>
     }
 }
 
-/// The line that says for what a command waits, by the status that the station gives as JSON: for a session with a partner, and a file in it, or
-/// only for its turn. Characters that can't be seen are escapes, and one line end is behind it.
+/// The line that says for what a command waits, by the status that the station gives as JSON. It waits for a session with a partner, and a file
+/// in it, or only for its turn. Characters that can't be seen are escapes, and one line end is behind it.
 ///
 /// # Errors
 ///
@@ -125,9 +125,9 @@ pub fn waiting_line(alloc: Global, status: &[u8]) -> Result<String, AllocError>
     seen_line(alloc, text.as_str())
 }
 
-/// The line of a call of the partner with a code, by the status that the station gives as JSON: how far the file came that is on its way in the
-/// session for which the station called that partner, or else what [`waiting_line`] says. Characters that can't be seen are escapes, and one
-/// line end is behind it.
+/// The line of a call of the partner with a code, by the status that the station gives as JSON. It says how far the file came that is on its
+/// way in the session for which the station called that partner. Else it is what [`waiting_line`] says. Characters that can't be seen are
+/// escapes, and one line end is behind it.
 ///
 /// # Errors
 ///

@@ -3,7 +3,7 @@
 ghost use Rattle.std.specs.Prelude.{◌≡◌};
 ghost use Rattle.oftp_waiting.specs.Waits.{share_of};
 
-/// How many of a hundred parts of a file came or went, if so many octets did and it has so many blocks of 1,024 octets.
+/// How many of a hundred parts of a file came or went, if so many octets did. The file has so many blocks of 1,024 octets.
 pub fn share_of(octets: u64, blocks: u64) -> u64
     ensures { result ≡ share_of octets blocks }
 {

@@ -180,7 +180,7 @@ fn lent(text: &Option<String>) -> Option<&str>
 }
 
 impl Account {
-    /// The account of what was noted, in a session with this number if it was in one, of a file of which the register has so much.
+    /// The account of what was noted of a file of which the register has so much. It was noted in a session with this number, if it was in one.
     ///
     /// # Errors
     ///

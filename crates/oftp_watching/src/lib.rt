@@ -1,5 +1,5 @@
-//! What is noted of a station's work as it is done: the changes that its register accepted, what became of the files of a session, and the
-//! lines of the events that these are.
+//! What is noted of a station's work as it is done. It is the changes that its register accepted, what became of the files of a session,
+//! and the lines of the events that these are.
 #![tactic(auto)]
 
 mod account;

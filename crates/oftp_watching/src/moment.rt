@@ -67,7 +67,8 @@ fn format_of(change: &Change<'_>) -> Option<Format>
     }
 }
 
-// How many rows the file has after a change that gives or takes all of them: those that are kept of a transfer, and none after it is given up.
+// How many rows the file has after a change that gives or takes all of them. They are those that are kept of a transfer, and none after it is given
+// up.
 fn rows_of(change: &Change<'_>) -> Option<u64>
     ensures { result ≡ rows_of change.now }
 {

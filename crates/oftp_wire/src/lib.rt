@@ -1,5 +1,5 @@
-//! The commands of the ODETTE File Transfer Protocol 2 as values (RFC 5024, section 5.3): the fifteen commands, their fields, each within its
-//! range, and the reasons, with the words in which an operator reads them.
+//! The commands of the ODETTE File Transfer Protocol 2 as values (RFC 5024, section 5.3). It has the fifteen commands, their fields, each
+//! within its range, and the reasons, with the words in which an operator reads them.
 //!
 //! `oftp_codec` has their octets, and the stream that carries them.
 #![tactic(auto)]

@@ -120,8 +120,8 @@ impl<O: Office> LifeSession<'_, O> {
     }
 
     /// Hears the next octets of the partner, if there are any, and goes on as far as they reach. It returns how the session ended, or `None`
-    /// where it waits for more, or sends a file: then it made some exchange buffers, and makes the next ones once it is called again. A
-    /// session that can't go on returns the same again.
+    /// if it waits for more, or sends a file. Then it made some exchange buffers, and makes the next ones once it is called again. A session
+    /// that can't go on returns the same again.
     ///
     /// # Errors
     ///

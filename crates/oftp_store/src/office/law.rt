@@ -44,7 +44,7 @@ fn counted<T>(faults: &mut u64, found: Result<T, OfficeFault>) -> Result<T, Offi
     }
 }
 
-// Whether no register can have a row from `from` on of the file `no`: the number is too large for the store, or `from` exceeds the rows
+// Whether no register can have a row from `from` on of the file `no`. The number is too large for the store, or `from` exceeds the rows
 // that a file may have.
 fn is_past(no: u64, from: u64) -> bool
     ensures { result ≡ (nat_le (2 ^ 63) no || nat_lt MOST_ROWS from) }

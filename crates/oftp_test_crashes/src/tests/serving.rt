@@ -1,4 +1,4 @@
-//! Sessions with each office: one with a file that passes its limit, and one over a disk that stops at each of its calls in turn. The octets
+//! Sessions with each office. One has a file that passes its limit, and one is over a disk that stops at each of its calls in turn. The octets
 //! are spelled by hand from RFC 5024, and so is what is kept.
 
 use oftp_test_acts::asking::Ask;
@@ -167,7 +167,7 @@ fn is_register(changes: usize, found: &[String]) -> bool {
     }
 }
 
-// Whether each change is found that comes before an answer of which one octet is out, and at most one more, which ended in an error.
+// Whether each change is found that comes before an answer of which one octet is out. At most one more may be, which ended in an error.
 fn is_kept(out: usize, is_fault: bool, found: &[String]) -> bool {
     let least = BEGINS.iter().filter(|begin| **begin < out).count();
     is_register(least, found) || is_fault && is_register(least.saturating_add(1), found)

@@ -17,8 +17,8 @@ use std::alloc::{AllocError, Global};
 use std::process::Abort;
 use std::test::Fail;
 
-/// The partner's SSID, SFID of a file in V, DATA with two records, of which the second is empty, DATA with a third one, EFID and ESID 00.
-/// They are cut within the password, and within the header of the last DATA.
+/// The partner's SSID, SFID of a file in V, DATA with two records, DATA with a third one, EFID and ESID 00. Of the two records the second
+/// is empty. They are cut within the password, and within the header of the last DATA.
 const PIECES: [&[u8]; 3] = [
     b"\x10\0\0\x41X5O0177CARMAKER            CAR",
     b"PW   00128BNYN002N            \r\

@@ -119,7 +119,7 @@ fn lost_by_a_look_up(alloc: Global, rt: &impl Abort, book: &Book) {
     assert!(rt; life.is_over());
 }
 
-/// After an error of the office in an operator's call, in a session or in a look-up, the life is over: nothing is done any more.
+/// After an error of the office in an operator's call, in a session or in a look-up, the life is over. Nothing is done any more.
 #[test]
 fn error_of_the_office_ends_it(rt: HostRuntime) -> Result<(), Fail> {
     let alloc = rt.alloc();

@@ -65,7 +65,8 @@ const ALL: usize = 9_999;
 /// SSID, SFID, a DATA, and a part of the next one.
 const A_PART: usize = 65 + 169 + 132 + 7;
 
-/// SSID, SFID, the three DATA of the whole file, and a part of EFID: too few for it from its first record on, and enough for its last two.
+/// SSID, SFID, the three DATA of the whole file, and a part of EFID. They are too few for it from its first record on, and enough for its
+/// last two.
 const THE_REST: usize = 65 + 169 + 132 + 132 + 18 + 20;
 
 /// A station between two sessions.

@@ -168,8 +168,8 @@ fn add_responses(text: &mut String, office: &mut PlainOffice) -> Result<(), Fail
     Ok(())
 }
 
-/// A register as text: for each outgoing file the state and the mark, for each incoming one the state, the number of rows, and how many of
-/// them are the file's.
+/// A register as text. For each outgoing file it has the state and the mark. For each incoming one it has the state, the number of rows,
+/// and how many of them are the file's.
 pub(crate) fn told(
     alloc: Global,
     office: &mut PlainOffice,
@@ -363,7 +363,7 @@ fn stop_at(alloc: Global, rt: &impl Abort, given: &Given, stop: Stop) -> Result<
     finish(alloc, rt, &mut sender, &mut receiver)
 }
 
-/// The receiver's office fails in the first round, in each of its commits in turn, before the change and after it: in those that begin the
+/// The receiver's office fails in the first round, in each of its commits in turn, before the change and after it. The commits begin the
 /// file, store its first row and its second, close it, release it and send the response.
 #[test]
 fn stop_at_each_write(rt: HostRuntime) -> Result<(), Fail> {

@@ -16,8 +16,8 @@ use std::alloc::Global;
 use std::process::Abort;
 use std::test::Fail;
 
-/// SFID of the same file as its own, with DATA and EFID, and EERP of the file that was sent to the car maker, as if it had been sent to the
-/// third partner.
+/// SFID of the same file as its own, with DATA and EFID. Then comes EERP of the file that was sent to the car maker, as if it had been sent
+/// to the third partner.
 const OWN: &[u8] =
     b"\x10\0\0\xa9HABC                          202401311015300001        O0013SUPPLIER            O0099OTHER               U00000\
       0000000000001000000000000100000000000000000\

@@ -18,8 +18,8 @@ use oftp_register::Office;
 use std::alloc::Global;
 
 impl<O: Office> Life<O> {
-    /// Begins the session of a caller that was let in. It goes on with all that the caller has sent, and hands out all that is to go to it:
-    /// what the opening hasn't handed out, the station's SSID, and what follows. If the life is over nothing is to go out.
+    /// Begins the session of a caller that was let in. It goes on with all that the caller has sent, and hands out all that is to go to it.
+    /// That is what the opening hasn't handed out, the station's SSID, and what follows. If the life is over nothing is to go out.
     pub fn admit<'b>(self, alloc: Global, guest: Guest<'b>) -> LifeSession<'b, O>
         ensures began { (result.began ≡ self.began) × (result.before ≡ self.office) }
         ensures acts { self.over ≡ false → result.acts ≡ Conversed (of_caller guest.entry.book) guest.entry.heard (octets_out result.out.inner) ∷ self.acts }
