@@ -30,18 +30,15 @@ pub(crate) struct Telling<'t> {
     pub(crate) path: Option<&'t str>,
     /// The file of the book, which isn't that file.
     pub(crate) book: &'t str,
-    /// The octets of the book; none of a command without one.
-    pub(crate) octets: &'t [u8],
     /// The folder of the record, if there is one.
     pub(crate) record: Option<&'t str>,
 }
 
 impl<'t> Telling<'t> {
-    /// Where those of a command go that names these files, of which the book has these octets.
+    /// Where those of a command go that names these files.
     pub(crate) fn of(
         rt: &'t HostRuntime,
         files: &Files<'t>,
-        octets: &'t [u8],
         news: &'t News,
     ) -> Telling<'t> {
         Telling {
@@ -49,7 +46,6 @@ impl<'t> Telling<'t> {
             news,
             path: files.events,
             book: files.book,
-            octets,
             record: files.record,
         }
     }

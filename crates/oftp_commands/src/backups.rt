@@ -39,7 +39,6 @@ pub fn back_up<'a>(
         // It writes its own event, once the copy is finished.
         path: None,
         book: "",
-        octets: &[],
         record: line.record,
     };
     let backing = Backing::opened(rt, line.database, None, Some(telling))?;

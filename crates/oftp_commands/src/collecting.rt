@@ -32,7 +32,7 @@ fn collect_to<'a>(
     out: &mut impl Write,
 ) -> Result<bool, Fault> {
     let news = News::new(rt.alloc());
-    let telling = Telling::of(rt, &line.files, octets, &news);
+    let telling = Telling::of(rt, &line.files, &news);
     let backing = Backing::opened(rt, line.files.database, Some(book), Some(telling))?;
     folders::collect(rt, line, folder, octets, backing, out)
 }

@@ -46,7 +46,7 @@ pub fn submit<'a>(
     let content = Content::of(rt, submit);
     let (octets, book) = read_book_octets(rt, submit.files.book)?;
     let news = News::new(rt.alloc());
-    let telling = Telling::of(rt, &submit.files, octets.as_slice(), &news);
+    let telling = Telling::of(rt, &submit.files, &news);
     let database = submit.files.database;
     let backing = Backing::opened(rt, database, Some(&book), Some(telling))?;
     submit_over(rt, submit, content, backing, octets.as_slice(), out)
@@ -85,7 +85,7 @@ pub fn resend<'a>(
 ) -> Result<Outcome, Fault> {
     let (octets, book) = read_book_octets(rt, resend.files.book)?;
     let news = News::new(rt.alloc());
-    let telling = Telling::of(rt, &resend.files, octets.as_slice(), &news);
+    let telling = Telling::of(rt, &resend.files, &news);
     let database = resend.files.database;
     let backing = Backing::opened(rt, database, Some(&book), Some(telling))?;
     resend_over(rt, resend, backing, octets.as_slice(), out)
@@ -213,7 +213,7 @@ fn respond<'a>(
 ) -> Result<Outcome, Fault> {
     let (octets, book) = read_book_octets(rt, files.book)?;
     let news = News::new(rt.alloc());
-    let telling = Telling::of(rt, files, octets.as_slice(), &news);
+    let telling = Telling::of(rt, files, &news);
     let backing = Backing::opened(rt, files.database, Some(&book), Some(telling))?;
     let book = octets.as_slice();
     respond_over(backing, &Request::Operate { book, call }, out)

@@ -20,7 +20,7 @@ pub(crate) struct Recording<'t> {
 }
 
 impl<'t> Recording<'t> {
-    /// Records that a command begins, if it names a record.
+    /// Records that a command begins, if it names a record. Each of its calls has its book, so its beginning has none.
     ///
     /// # Errors
     /// [`Fault::File`] if the record can't be written; [`Fault::Run`] if the office failed; [`Fault::MEMORY`].
@@ -32,7 +32,7 @@ impl<'t> Recording<'t> {
             return Ok(None);
         };
         let recorder = Recorder::open(telling.rt, folder, Syncing::Synced)?;
-        recorder.begin(VERSION, telling.octets, office)?;
+        recorder.begin(VERSION, &[], office)?;
         Ok(Some(Recording { recorder, calls: 0 }))
     }
 

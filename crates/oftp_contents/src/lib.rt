@@ -13,7 +13,7 @@
 //!
 //! | Kind | Number | Code | First text | Second text | Octets |
 //! |---|---|---|---|---|---|
-//! | opening | the salt of the passwords | 0 | the program's version | the digest of its register | its book; none of a command without one |
+//! | opening | the salt of the passwords | 0 | the program's version | the digest of its register | its book; none of a command |
 //! | session | of the session | [`RecordSide`] | the partner's code | the partner's address | |
 //! | octets in, octets out | of the session | 0 | | | the octets |
 //! | call | of the call | 0 | | | the request |

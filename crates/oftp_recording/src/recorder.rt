@@ -73,8 +73,8 @@ impl<'a> Recorder<'a> {
         })
     }
 
-    /// Records that the program begins: its version, the octets of its book, of which passwords are hidden, and the register. A command without
-    /// a book has no octets of one.
+    /// Records that the program begins: its version, the octets of its book, of which passwords are hidden, and the register. A command has no
+    /// octets of a book.
     ///
     /// # Errors
     /// [`Fault::File`] if the record can't be written; [`Fault::Run`] if the office failed; [`Fault::MEMORY`].

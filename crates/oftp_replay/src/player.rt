@@ -76,7 +76,7 @@ impl<'a> Player<'a> {
         Ok(self.tape.advance()?)
     }
 
-    /// Whether an opening has the station's book. That of a command without a book has none.
+    /// Whether an opening has the station's book. That of a command has none.
     fn has_book(&self) -> Result<bool, Stop> {
         let Some(fields) = ContentFields::of(self.tape.content()) else {
             return Ok(false);
