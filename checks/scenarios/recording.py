@@ -11,6 +11,7 @@ SIGKILL between any two octets of sessions and within commands, with a start aga
 in which an octet was changed, is told, and so is a database that isn't the station's. A station goes on behind the last whole entry. One that can't
 write its record ends with `fault: 7 file`. What `listen`, `call` and commands without a station record gives their tables, too, also after kills of
 commands. The register is marked each hour if no session goes on, and before a backup. A part of a record is played from an entry, and up to one.
+An audit against a record tells a database that isn't the last one of it, or never was.
 `explain` shows what isn't to be seen in a changed record by its escape
 """
 
@@ -625,7 +626,32 @@ def hostile_record(room):
     expect(done.stdout.decode().splitlines()[0], "session 5: A\\u{1b}[2J\\u{202e}B x\\u{a}y", "the line of the session")
 
 
-CASES = [commands, rows, two_stations, book_read_again, killed_at_moments, killed_beside_partners, changed_octet, cut_record, backup, days, two_in_one_folder, without_syncing, other_database, full_disk, full_disk_of_the_database, commands_alone, killed_commands, listen_and_call, backups_recorded, parts, marks, hostile_record]
+def audits(room):
+    """An audit against the record: the last register, an earlier one, one that it hasn't, and a record that is cut off."""
+    (room / "record").mkdir()
+    (room / "file").write_bytes(b"ABC")
+    for name in ("A", "B"):
+        alone(room, "submit", *IDENTITY, "--dataset", name, room / "file")
+        for end in ("", "-wal"):
+            if (room / f"database{end}").exists():
+                shutil.copyfile(room / f"database{end}", room / f"{name}{end}")
+
+    def audit(database):
+        done = subprocess.run([PROGRAM, "audit", "--db", room / database, "--record", room / "record"], capture_output=True, timeout=LONG, check=False)
+        return done.returncode, (done.stdout + done.stderr).decode()
+
+    expect(audit("database"), (0, ""), "the database")
+    expect(audit("A"), (1, "register: the record goes on behind it\n"), "an earlier database")
+    done = subprocess.run([PROGRAM, "submit", "--db", room / "B", "--book", BOOK, *IDENTITY, "--dataset", "C", BOOK], capture_output=True, timeout=LONG, check=False)
+    expect(done.returncode, 0, "a change that isn't recorded")
+    expect(audit("B"), (1, "register: not in the record\n"), "a database that the record hasn't")
+    file = file_of(room)
+    file.write_bytes(file.read_bytes()[:-1])
+    expect(audit("database"), (1, f"differs: {file.name}, entry 8: it is cut off\n"), "a record that is cut off")
+    expect(subprocess.run([PROGRAM, "audit", "--db", room / "database", "--record", room / "nowhere"], capture_output=True, timeout=LONG, check=False).stderr, b"fault: 7 file\n", "no record")
+
+
+CASES = [commands, rows, two_stations, book_read_again, killed_at_moments, killed_beside_partners, changed_octet, cut_record, backup, days, two_in_one_folder, without_syncing, other_database, full_disk, full_disk_of_the_database, commands_alone, killed_commands, listen_and_call, backups_recorded, parts, marks, hostile_record, audits]
 
 
 def tried(case):

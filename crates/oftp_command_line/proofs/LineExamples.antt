@@ -646,9 +646,11 @@ explain_lines = refl
 -- lines of `audit`
 audit_lines : AreRead (
     -- `audit` takes the database alone
-    asks (codes "audit --db=d") (said_audit (record { database = codes "d"; old = None }))
+    asks (codes "audit --db=d") (said_audit (record { database = codes "d"; old = None; «record» = None }))
     -- or with an older one
-    ∷ asks (codes "audit --old o --db=d") (said_audit (record { database = codes "d"; old = Some (codes "o") }))
+    ∷ asks (codes "audit --old o --db=d") (said_audit (record { database = codes "d"; old = Some (codes "o"); «record» = None }))
+    -- and a record
+    ∷ asks (codes "audit --record r --db=d") (said_audit (record { database = codes "d"; old = None; «record» = Some (codes "r") }))
     -- the database is required
     ∷ bad (codes "audit --old=o")
     -- it takes no word

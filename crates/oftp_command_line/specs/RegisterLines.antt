@@ -109,15 +109,24 @@ backup_with rows = record {
 pub record AuditSaid : Type 0 where
   pub database : Text
   pub old : Option Text
+  pub «record» : Option Text
 
 -- those of the command that was read
 abbrev pub audit_said : Audit → AuditSaid
-audit_said a = record { database = a.database.now; old = option_map (λ s. s.now) a.old }
+audit_said a = record {
+  database = a.database.now;
+  old = option_map (λ s. s.now) a.old;
+  «record» = option_map (λ s. s.now) a.«record»;
+}
 
 -- the declaration of `audit` to the parser
 unfoldable pub audit_app : App
-audit_app = app_with (codes "audit") (own_database ∷ optional (codes "old") ∷ [])
+audit_app = app_with (codes "audit") (own_database ∷ optional (codes "old") ∷ own_record ∷ [])
 
 -- the command `audit` with these values
 abbrev pub audit_with : List Row → AuditSaid
-audit_with rows = record { database = given (codes "db") rows; old = first_of (codes "old") rows }
+audit_with rows = record {
+  database = given (codes "db") rows;
+  old = first_of (codes "old") rows;
+  «record» = first_of (codes "record") rows;
+}

@@ -7,19 +7,35 @@ use oftp_audit::{
     unsound_in_row,
 };
 use oftp_command_line::Audit;
+use oftp_database::{self as database, PATIENCE};
 use oftp_outcomes::{Fault, status_where, write_line};
 use oftp_register::IncomingState;
+use oftp_replay::{Compared, compare_with_record};
 use oftp_store::StoreFault;
 use std::fmt;
 use std::io::Write;
 
 /// Tells what is unsound in a database, and what it has lost of an older one if the command line names one, a line each. Neither changes.
-/// Returns the exit status, which is that of a refusal if there was a line.
+/// Then tells whether a record has another register after that of the database, or not that one, if the command line names a record. Returns the
+/// exit status, which is that of a refusal if there was a line.
 ///
 /// # Errors
-/// [`Fault::Store`] if a database can't be opened or read, or if the older one has an entry that can't be read. [`Fault::Run`] if `out` returned
-/// an error; [`Fault::MEMORY`].
+/// [`Fault::Store`] if a database can't be opened or read, or if the older one has an entry that can't be read. [`Fault::File`] if the record
+/// can't be read. [`Fault::Run`] if the office failed or `out` returned an error; [`Fault::MEMORY`].
 pub fn audit(rt: &HostRuntime, line: &Audit<'_>, out: &mut impl Write) -> Result<u8, Fault> {
+    let is_sound = judge_all(rt, line, out)?;
+    let is_recorded = match line.record {
+        Some(folder) => {
+            let mut life = database::live(rt, line.database, PATIENCE, None)?;
+            compare_with_record(rt, folder, &mut life, out)? == Compared::Same
+        }
+        None => true,
+    };
+    Ok(status_where(is_sound && is_recorded))
+}
+
+/// Tells what is unsound in a database, and what it has lost of an older one. Returns whether there was nothing to tell.
+fn judge_all(rt: &HostRuntime, line: &Audit<'_>, out: &mut impl Write) -> Result<bool, Fault> {
     let newer = Database::opened(rt, line.database)?;
     let mut audit = Auditing {
         newer,
@@ -31,7 +47,7 @@ pub fn audit(rt: &HostRuntime, line: &Audit<'_>, out: &mut impl Write) -> Result
         let mut older = Database::opened(rt, old)?;
         audit.compare(&mut older)?;
     }
-    Ok(status_where(audit.is_sound))
+    Ok(audit.is_sound)
 }
 
 /// What a line is about.

@@ -1,4 +1,5 @@
 -- The definitions that contracts cite: the fields of a content as octets, and the codes.
 pub mod Fields
 pub mod Places
+pub mod Standings
 pub mod Codes

@@ -30,8 +30,10 @@ mod fields;
 pub mod laws;
 mod marks;
 mod places;
+mod standing;
 
 pub use codes::{EndCause, Marked, RecordSide};
 pub use fields::ContentFields;
 pub use marks::left_to_mark;
 pub use places::EntryPlace;
+pub use standing::{Likeness, RegisterStanding};

@@ -10,9 +10,11 @@ mod part;
 mod player;
 mod replaying;
 mod searching;
+mod standing;
 mod talking;
 mod tape;
 
 pub use evidencing::write_evidence;
 pub use explaining::explain_record;
 pub use replaying::replay;
+pub use standing::{Compared, compare_with_record};

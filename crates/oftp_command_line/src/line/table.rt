@@ -269,6 +269,7 @@ const AUDIT: Declaration =
     declaration! { Audit, "audit", "Tells what is unsound in the database, and what it has lost of an older one", [
         Shared(database),
         Optional("old", "BACKUP", "The file that holds the older database"),
+        Optional("record", "FOLDER", "The folder of the record whose last register the database has"),
     ] };
 
 const HISTORY: Declaration =

@@ -1,0 +1,68 @@
+//! How the register of a database stands to those that a record has.
+
+use crate::tape::{At, Tape};
+use oftp_contents::{Likeness, RegisterStanding};
+use oftp_outcomes::{Fault, write_line};
+use oftp_recording::{Digest, register_digest};
+use oftp_register::Office;
+use std::io::Write;
+
+/// What came of comparing a register with a record.
+#[derive(Clone, Copy, Debug, PartialEq, Eq)]
+pub enum Compared {
+    /// The register is the last one of which the record has the digest, and the record is whole.
+    Same,
+    /// It isn't, which was told.
+    Other,
+}
+
+/// Compares the register of an office with the digests of the record in a folder, and writes a line unless it is the last of these. A record that is cut
+/// off or was changed is told of.
+///
+/// # Errors
+/// [`Fault::File`] if the record can't be read; [`Fault::Run`] if the office failed, or `out` returned an error; [`Fault::MEMORY`].
+pub fn compare_with_record<O: Office>(
+    rt: &HostRuntime,
+    folder: &str,
+    office: &mut O,
+    out: &mut impl Write,
+) -> Result<Compared, Fault> {
+    let register = register_digest(rt.alloc(), office)?;
+    let mut tape = Tape::open(rt, folder)?;
+    let standing = standing_of(&mut tape, &register)?;
+    if let At::Broken(what) = tape.at() {
+        let line = tape.told(what)?;
+        write_line(out, &line.as_str())?;
+        return Ok(Compared::Other);
+    }
+    match standing {
+        RegisterStanding::Last => return Ok(Compared::Same),
+        RegisterStanding::Earlier => write_line(out, &"register: the record goes on behind it")?,
+        RegisterStanding::Unknown => write_line(out, &"register: not in the record")?,
+    }
+    Ok(Compared::Other)
+}
+
+/// How a register stands to the digests of a record, which is read to its end or up to what is broken.
+fn standing_of(tape: &mut Tape<'_>, register: &Digest) -> Result<RegisterStanding, Fault> {
+    let mut standing = RegisterStanding::Unknown;
+    for _ in 0..u64::MAX {
+        let At::Entry(_) = tape.at() else {
+            break;
+        };
+        if let Some(digest) = tape.register() {
+            standing = standing.after(likeness_of(&digest, register));
+        }
+        tape.advance()?;
+    }
+    Ok(standing)
+}
+
+/// Whether a digest is that of a register.
+fn likeness_of(digest: &Digest, register: &Digest) -> Likeness {
+    if digest == register {
+        Likeness::Same
+    } else {
+        Likeness::Other
+    }
+}
