@@ -79,7 +79,7 @@ def twice(held):
 
 
 def is_between(entry, codes):
-    """Whether a file goes from the one code to the other; any does if no codes are given."""
+    """Whether a file goes from the first code to the second; any does if no codes are given."""
     return codes is None or (entry["originator"], entry["destination"]) == codes
 
 

@@ -6,8 +6,8 @@
 
 The version stands in crates/oftp_command_line/src/line/usage.rt, from which the program and the package have it. It is the newest of CHANGELOG.md,
 and what rows/lines/help.lines expects of the program. No other file outside of crates/ may spell it, so that none is forgotten: proofs have such
-numbers for parts of what they speak of. The sum is that of sha256sum over the lines that sha256sum prints, in the order of their names. These are for
-crates.txt and for each file of the crates that is built or proved, but that which has the sum. The last line is `N passed, M failed`.
+numbers for parts of what they speak of. The sum is that of sha256sum over the lines that sha256sum prints for files, in the order of their names.
+They are crates.txt and each file of the crates that is built or proved, but that which has the sum. The last line is `N passed, M failed`.
 
 Shows: CHANGELOG.md and rows/lines have the version of the program's source, and no other file spells it. The sum that `version` prints is that of the
 sources

@@ -80,7 +80,7 @@ def cases(short):
         Case("a file comes, small windows", "in", 1024, BLOCK, "U", 128, 2, 1.3, 2),
         Case("a file goes, large windows", "out", 8192, BLOCK, "U", 16384, 99, 1.5, 2),
         Case("a file goes, small windows", "out", 1024, BLOCK, "U", 128, 2, 1.1, 2),
-        # With the command that asks for it, and the transfer of its octets from the one to the other.
+        # With the command that asks for it, and the transfer of its octets from one to the other.
         Case("a file is fetched", "fetch", 8192, BLOCK, "U", 16384, 99, 1.5, 3),
         Case("V of one octet comes", "in", short, 1, "V", 16384, 99, None, 2),
         Case("F of 67 octets comes", "in", short, 67, "F", 16384, 99, None, 2),

@@ -26,7 +26,7 @@ use Rattle.oftp_codec.proofs.Scans.{value_allowed}
 pub record IsFine (form : Form) (at : ℕ) (o : List ℕ) : Type 0 where
   pub fine : fault_of form at o ≡ None
 
--- if neither test gives an error, the one is false and the other true
+-- if neither test gives an error, the first is false and the second true
 none_parts : (b d : Bool) (e f : WireFault) → cond b (Some e) (cond d None (Some f)) ≡ None → (b ≡ false) × (d ≡ true)
 none_parts true d e f h = absurd cc
 none_parts false true e f h = (refl, refl)

@@ -54,7 +54,7 @@ to calls p c coming = record { calls = calls; phase = p; coming = c ∷ coming }
 abbrev now_with : Talk → List Command → Talk
 now_with other coming = record other { coming = coming }
 
--- if the one can't speak, the other did
+-- if one of them can't speak, the other did
 hears : (calls : Bool) (p : Phase) (c : Command) (coming : List Command) (other : Talk) → (Speaks (to calls p c coming) p other → ⊥) → Linked (to calls p c coming) other
     → Heard c coming (to calls p c coming) other
 hears calls p c coming other mute s = elim s [ inl k ↦ absurd (mute k) | inr k ↦ heard c coming (to calls p c coming) other other.phase refl refl k ]

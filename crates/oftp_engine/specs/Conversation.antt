@@ -96,8 +96,8 @@ IsOwn fault.Write = ⊤
 IsOwn fault.Office = ⊤
 IsOwn fault.Memory = ⊤
 
--- Others used the office, and its view is the same. These are the register, that it is open, its count of errors, and that a crash leaves
--- that register and nothing else. This holds after look-ups that returned no error.
+-- Others used the office, and its view is the same. The view is the register, that it is open, its count of errors, and that a crash
+-- leaves that register and nothing else. This holds after look-ups that returned no error.
 pub record ShowsSame (old new : View) : Type 0 where
   pub register : new.register ≡ old.register
   pub stands : old.stands → new.stands

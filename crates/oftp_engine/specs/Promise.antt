@@ -31,7 +31,7 @@ ResponsesAreKept w = ResponsesAreIssued (register_of w.one) (register_of w.other
 abbrev pub world_of : BookData → BookData → Partner → Partner → Limits → Limits → World
 world_of book book' partner partner' limits limits' = record { one = new_station book partner limits; other = new_station book' partner' limits' }
 
--- the same of the files There, which go from the one to the other, and of those Back, in the words of their identities
+-- the same of the files There, which go from the first to the second, and of those Back, in the words of their identities
 abbrev pub PromiseIsKept : (Identity → Type 0) → (Identity → Type 0) → World → Type 0
 PromiseIsKept There Back w = (ContentArrivesOf There (register_of w.one) (register_of w.other) × ContentArrivesOf Back (register_of w.other) (register_of w.one))
     × (ResponsesAreIssuedOf There (register_of w.one) (register_of w.other) × ResponsesAreIssuedOf Back (register_of w.other) (register_of w.one))

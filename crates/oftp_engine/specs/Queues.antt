@@ -75,7 +75,7 @@ abbrev pub RunsSayQueues : Type 0
 RunsSayQueues = (limit : Option ℕ) (setting : Setting) (given : List ℕ) (r : Register) (outs later : List Output)
     → (run limit given (started setting r)).outputs ≡ outs ++ later → SaysQueues outs
 
--- The commands of these outputs, and how the other station hears them. Some octets of them are out, or all of them and ESID 08 or a
+-- The commands of these outputs, and how the other station hears them. Then some octets of them are out, or all of them and ESID 08 or a
 -- beginning of it.
 pub record AreHeard (outs : List Output) : Type 0 where
   pub said : List Command

@@ -56,7 +56,7 @@ pub record World : Type 0 where
 abbrev pub turned_round : World → World
 turned_round w = record { one = w.other; other = w.one }
 
--- a step of the one station, whose output goes to the other
+-- a step of a station, whose output goes to the other
 abbrev pub stepped : World → Course → Step → World
 stepped w c s = record { one = with_course w.one (advance c s); other = told w.other s.output }
 
@@ -207,7 +207,7 @@ happens_in w h None = without_session w h
 abbrev pub happens : World → Happening → World
 happens w h = happens_in w h w.one.session
 
--- an event: what happens, and whether at the one station or at the other
+-- an event: what happens, and at which of the two stations
 pub record Event : Type 0 where
   pub at_one : Bool
   pub happening : Happening

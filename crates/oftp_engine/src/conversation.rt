@@ -57,8 +57,8 @@ impl<'b> Conversation<'b> {
     /// Executes all commands that are complete and all turns that are due, and writes the answers. It returns how the session ended, or
     /// `None` where it waits for more octets. It must not be called after an error.
     ///
-    /// At each `None` the octets written since the conversation began, the register, and what a crash leaves are known. They are those of the
-    /// session over all octets heard so far. The same holds at the end.
+    /// At each `None` three things are those of the session over all octets heard so far. They are the octets written since the conversation
+    /// began, the register, and what a crash leaves. The same holds at the end.
     ///
     /// # Errors
     ///
@@ -90,8 +90,8 @@ impl<'b> Conversation<'b> {
     /// Goes on as [`go_on`] does, but sends a file in parts. After some exchange buffers it returns [`Going::Sends`] if there is credit for
     /// more, and the next call makes these. It must not be called after an error.
     ///
-    /// At each `Sends` the octets written since the conversation began, the register, and what a crash leaves are known. They are those of the
-    /// session between two of its steps.
+    /// At each `Sends` three things are those of the session between two of its steps. They are the octets written since the conversation
+    /// began, the register, and what a crash leaves.
     ///
     /// # Errors
     ///

@@ -50,8 +50,8 @@ pub fn runs_say_queues()
     ensures heard { RunsAreHeard }
 {}
 
-/// The fields of a register stay in range. It is empty, or after the changes of a session, wherever it stops, or after an operator's call whose
-/// texts are UTF-8. The function does nothing; its contract is the theorem.
+/// The fields of a register stay in range. That is so of an empty register, after the changes of a session, wherever it stops, and after an
+/// operator's call whose texts are UTF-8. The function does nothing; its contract is the theorem.
 pub fn ranges_are_kept()
     ensures { RangesAreKept }
 {}
@@ -104,7 +104,7 @@ pub fn no_count_passes()
 /// break. It is a crash or an error of an office at any change, or an operator's call. It is a file or response that another caller commits, or
 /// dealings with third partners. The promise is of the files from either of them to the other, by the two codes. What one station holds as
 /// handed over is whole at the other, and what is whole there is a file of the first. What the first holds as delivered or returned was
-/// answered so there. If the two are alone, it is of all files. The function does nothing; its contract is the theorem.
+/// answered so there. If the two are alone, the promise is of all files. The function does nothing; its contract is the theorem.
 pub fn two_stations()
     ensures among { TwoStations }
     ensures alone { TwoStationsAlone }

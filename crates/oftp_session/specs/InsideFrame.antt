@@ -12,7 +12,7 @@ use Rattle.oftp_session.specs.declared.session.SessionFault.{SessionFault}
 use Rattle.oftp_session.specs.declared.session.SessionFault.TheVariants.{Memory}
 use Rattle.oftp_session.specs.Phases.{frame_of}
 
--- the frame: a command in the one buffer, or DATA in the other
+-- the frame: a command in one buffer, or DATA in the other
 abbrev pub frame_in : Contents → List ℕ → List ℕ → List ℕ
 frame_in (contents.Command n) octets buffer = take n octets
 frame_in (contents.Data n) octets buffer = take n buffer
