@@ -39,13 +39,13 @@ pub(crate) fn faulty_path<'a>(rt: &HostRuntime, line: &Line<'a>) -> Fault<'a> {
     if let Some(fault) = faulty_input(rt, line) {
         return Some(fault);
     }
-    if let Some(fault) = faulty_trace(rt, line) {
-        return Some(fault);
-    }
     if let Some(fault) = faulty_events(rt, line) {
         return Some(fault);
     }
     if let Some(fault) = faulty_record(rt, line) {
+        return Some(fault);
+    }
+    if let Some(fault) = faulty_trace(rt, line) {
         return Some(fault);
     }
     faulty_output(rt, line)
@@ -65,28 +65,29 @@ fn faulty_book<'a>(rt: &HostRuntime, line: &Line<'a>) -> Fault<'a> {
     }
 }
 
-/// The folder that it works on, and why it can't be used. One that can be isn't told where something is written beside it.
+/// The folder that it works on, if it is none.
 fn faulty_folder<'a>(rt: &HostRuntime, line: &Line<'a>) -> Fault<'a> {
-    let path = folder_of(line)?;
-    match folder_cause(rt, path) {
-        PathCause::IsOther if output_of(line).is_some() => None,
-        cause => Some((path, cause)),
-    }
+    no_folder(rt, folder_of(line)?)
 }
 
-/// The folder of the record, and why it can't be used.
+/// The folder of the record, if it is none.
 fn faulty_record<'a>(rt: &HostRuntime, line: &Line<'a>) -> Fault<'a> {
-    let path = record_of(line)?;
-    Some((path, folder_cause(rt, path)))
+    no_folder(rt, record_of(line)?)
 }
 
-/// Why a folder can't be used.
-fn folder_cause(rt: &HostRuntime, path: &str) -> PathCause {
+/// The path of a folder, if none is there.
+fn no_folder<'a>(rt: &HostRuntime, path: &'a str) -> Fault<'a> {
     match fs::metadata(rt, path) {
-        Err(error) => cause_of(&error),
-        Ok(about) if !about.is_dir() => PathCause::IsNoFolder,
-        Ok(_) => PathCause::IsOther,
+        Err(error) => Some((path, cause_of(&error))),
+        Ok(about) if !about.is_dir() => Some((path, PathCause::IsNoFolder)),
+        Ok(_) => None,
     }
+}
+
+/// The last path of a line that writes no file: the record if there is one, else what is read.
+fn last_read<'a>(line: &Line<'a>) -> Option<&'a str> {
+    let read = folder_of(line).or(input_of(line)).or(book_of(line));
+    record_of(line).or(read)
 }
 
 /// The file that is read, if it can't be.
@@ -103,7 +104,7 @@ fn faulty_input<'a>(rt: &HostRuntime, line: &Line<'a>) -> Fault<'a> {
     }
 }
 
-/// The trace, if nothing can be appended to it.
+/// The trace, if nothing can be appended to it. Where one can be opened, the command needs the file, so this is looked at behind the others.
 fn faulty_trace<'a>(rt: &HostRuntime, line: &Line<'a>) -> Fault<'a> {
     let path = trace_of(line)?;
     match made_cause(rt, path) {
@@ -127,7 +128,7 @@ fn faulty_events<'a>(rt: &HostRuntime, line: &Line<'a>) -> Fault<'a> {
 /// The file that is written, and why it can't be.
 fn faulty_output<'a>(rt: &HostRuntime, line: &Line<'a>) -> Fault<'a> {
     let Some(path) = output_of(line) else {
-        return Some((input_of(line).or(book_of(line))?, PathCause::IsOther));
+        return Some((last_read(line)?, PathCause::IsOther));
     };
     if is_of(rt, path, database_of(line)) {
         return Some((path, PathCause::IsNeeded));
