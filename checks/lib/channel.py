@@ -64,6 +64,8 @@ def fields_of(command, book, content, words):
         return [b"\1" if "--now" in words else b"\0"]
     if command == "fetch":
         return [number(int(words[0]))]
+    if command == "backup":
+        return [words[0].encode()]
     return []
 
 

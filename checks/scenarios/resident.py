@@ -312,6 +312,7 @@ def false_clients(room):
         spelled(bytes([KINDS["fetch"]]), bytes(7)),
         spelled(bytes([KINDS["report"]]), bytes([5])),
         spelled(bytes([KINDS["outgoing"]]), b"\xff"),
+        spelled(bytes([KINDS["backup"]])),
         request_of("init") + b"A",
     ]
     with Resident(room) as service:
@@ -878,7 +879,7 @@ def wait_for_quiet(process):
 def begin_backup(client):
     """Asks for a backup, and waits until the database's files may be copied."""
     client.recv(1)
-    client.sendall(request_of("backup"))
+    client.sendall(request_of("backup", "copy"))
     sign = b""
     while len(sign) < 9 and (piece := client.recv(9 - len(sign))):
         sign += piece

@@ -1,10 +1,11 @@
 //! The request that words stand for.
 
-ghost use Rattle.std.specs.Prelude.{◌≡◌, [], None, IfSome};
+ghost use Rattle.std.specs.Prelude.{◌≡◌, ◌∷◌, ℕ, List, [], None, IfSome};
+ghost use Rattle.std.specs.Str.{IsUtf8};
 ghost use Rattle.oftp_channel.specs.Asked.{IsAskable, read_words, request_fields, request_kind, submission_fields, words_of};
 ghost use Rattle.oftp_channel.specs.InsideAsked.{IsFor, IsNoRequest, IsNoSubmission};
 ghost use Rattle.oftp_channel.specs.declared.asking.Request.{Request};
-ghost use Rattle.oftp_channel.specs.declared.codes.RequestKind.TheVariants.{Call, Fetch, Health, Holds, Outgoing, Refuse, Release, Report, Resend, Status, Stop, Submit};
+ghost use Rattle.oftp_channel.specs.declared.codes.RequestKind.TheVariants.{Backup, Call, Fetch, Health, Holds, Outgoing, Refuse, Release, Report, Resend, Status, Stop, Submit};
 
 use crate::asking::Request;
 use crate::codes::RequestKind;
@@ -44,7 +45,7 @@ fn request_in<'a>(kind: RequestKind, fields: &'a [Vec<u8>]) -> Option<Request<'a
         RequestKind::Outgoing => outgoing_in(fields),
         RequestKind::Fetch => fetch_in(fields),
         RequestKind::Holds => holds_in(fields),
-        RequestKind::Backup => alone(Request::Backup, fields),
+        RequestKind::Backup => backup_in(fields),
         RequestKind::Init => alone(Request::Init, fields),
         RequestKind::Stop => stop_in(fields),
         RequestKind::Reload => alone(Request::Reload, fields),
@@ -158,10 +159,8 @@ fn outgoing_in<'a>(fields: &'a [Vec<u8>]) -> Option<Request<'a>>
     ensures some { IfSome result (IsFor Outgoing (read_words fields.now)) }
     ensures none { result ≡ None → IsNoRequest Outgoing (read_words fields.now) }
 {
-    let [to] = fields else {
-        return None;
-    };
-    Some(Request::Outgoing { to: text_in(to)? })
+    let to = only_text(fields)?;
+    Some(Request::Outgoing { to })
 }
 
 // The request for a content that has these fields.
@@ -187,6 +186,15 @@ fn holds_in<'a>(fields: &'a [Vec<u8>]) -> Option<Request<'a>>
         no: number_in(no)?,
         content,
     })
+}
+
+// The request to let files be copied that has these fields.
+fn backup_in<'a>(fields: &'a [Vec<u8>]) -> Option<Request<'a>>
+    ensures some { IfSome result (IsFor Backup (read_words fields.now)) }
+    ensures none { result ≡ None → IsNoRequest Backup (read_words fields.now) }
+{
+    let to = only_text(fields)?;
+    Some(Request::Backup { to })
 }
 
 // The request to end that has these fields.
@@ -239,6 +247,17 @@ fn health_in<'a>(fields: &'a [Vec<u8>]) -> Option<Request<'a>>
         warn: number_in(warn)?,
         critical: number_in(critical)?,
     })
+}
+
+// The text that is the only field.
+fn only_text<'a>(fields: &'a [Vec<u8>]) -> Option<&'a str>
+    ensures some { IfSome result (λ text. text.now ∷ [] ≡ read_words fields.now) }
+    ensures none { result ≡ None → (text : List ℕ) → IsUtf8 text → read_words fields.now ≡ text ∷ [] → ⊥ }
+{
+    let [text] = fields else {
+        return None;
+    };
+    text_in(text)
 }
 
 // A request that has no fields.

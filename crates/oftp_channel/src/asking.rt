@@ -87,7 +87,10 @@ pub enum Request<'a> {
         content: &'a [u8],
     },
     /// To let the database's files be copied.
-    Backup,
+    Backup {
+        /// The path of the copy, as the command names it.
+        to: &'a str,
+    },
     /// Whether the database is open.
     Init,
     /// To end.
@@ -168,7 +171,7 @@ impl<'a> Request<'a> {
             }
             Request::Fetch { no } => two_words(RequestKind::Fetch, Word::Number(no)),
             Request::Holds { no, content } => holds_words(no, content),
-            Request::Backup => one_word(RequestKind::Backup),
+            Request::Backup { to } => two_words(RequestKind::Backup, Word::Octets(to.as_bytes())),
             Request::Init => one_word(RequestKind::Init),
             Request::Stop(haste) => two_words(RequestKind::Stop, Word::Octet(haste.code())),
             Request::Reload => one_word(RequestKind::Reload),
