@@ -113,7 +113,7 @@ fn take_piece(
     if out.write_all(octets).is_err() {
         return Err(Fault::Run(RunFault::Write));
     }
-    if let Request::Backup = request {
+    if let Request::Backup { .. } = request {
         // A station that is gone needs no message.
         let _ = stream.shutdown(Shutdown::Write);
     }

@@ -1,5 +1,9 @@
 //! The requests of commands, and what is told and answered of each.
 
+ghost use Rattle.std.specs.Prelude.{◌≡◌, OnOk};
+ghost use Rattle.oftp_channel.specs.Asked.{words_of};
+ghost use Rattle.oftp_channel.specs.Requests.{spelled_request};
+
 use crate::asking::{look_up, operate};
 use crate::judging::{asking_of, signal_of};
 use crate::made::Made;
@@ -87,12 +91,17 @@ impl Asked {
     /// # Errors
     /// [`Fault::MEMORY`].
     pub fn octets(&self, alloc: Global) -> Result<Vec<u8>, Fault> {
-        let mut out = Port::new(Vec::new(alloc), 0);
         match self.request() {
-            Some(request) if fits(&request) && write_request(&mut out, &request) => {
-                Ok(out.into_inner())
-            }
-            _ => Err(Fault::MEMORY),
+            Some(request) => request_octets(alloc, &request),
+            None => Err(Fault::MEMORY),
+        }
+    }
+
+    /// The path of the copy that it asks for, if it does: a backup.
+    pub fn copy_to(&self) -> Option<&str> {
+        match self.request() {
+            Some(Request::Backup { to }) => Some(to),
+            _ => None,
         }
     }
 
@@ -181,6 +190,21 @@ impl Asked {
             }
             _ => Err(Fault::Socket),
         }
+    }
+}
+
+/// The octets of a request, as they go over the channel.
+///
+/// # Errors
+/// [`Fault::MEMORY`], also if the request is longer than one may be.
+pub fn request_octets(alloc: Global, request: &Request<'_>) -> Result<Vec<u8>, Fault>
+    ensures { OnOk result (λ octets. octets.items ≡ spelled_request (words_of request.now)) }
+{
+    let mut port = Port::new(Vec::new(alloc), 0);
+    if fits(request) && write_request(&mut port, request) {
+        Ok(port.into_inner())
+    } else {
+        Err(Fault::MEMORY)
     }
 }
 

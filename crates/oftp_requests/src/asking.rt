@@ -89,8 +89,9 @@ pub fn look_up<O: Office, W: Write>(
         Request::Init => Ok(Ending::Outcome(Outcome::Initiated)),
         Request::Settled => list_open(alloc, office, out),
         Request::Status(_) | Request::Health { .. } => Err(Fault::Socket),
-        Request::Operate { .. } | Request::Call { .. } | Request::Backup => Err(Fault::Socket),
-        Request::Stop(_) | Request::Reload | Request::Resend { .. } => Err(Fault::Socket),
+        Request::Operate { .. } | Request::Call { .. } => Err(Fault::Socket),
+        Request::Backup { .. } | Request::Resend { .. } => Err(Fault::Socket),
+        Request::Stop(_) | Request::Reload => Err(Fault::Socket),
     }
 }
 

@@ -28,7 +28,7 @@ pub(crate) fn asking_of(request: &Request<'_>) -> Asking
         Request::Operate { .. } => Asking::For(schedule::Request::Update),
         Request::Resend { .. } => Asking::For(schedule::Request::Update),
         Request::Call { .. } => Asking::Call,
-        Request::Backup => Asking::For(schedule::Request::Backup),
+        Request::Backup { .. } => Asking::For(schedule::Request::Backup),
         Request::Stop(Haste::InTurn) | Request::Reload => Asking::For(schedule::Request::Update),
         Request::Stop(Haste::AtOnce) => Asking::For(schedule::Request::Query),
         Request::Report(_) | Request::Init => Asking::For(schedule::Request::Query),

@@ -22,7 +22,7 @@ mod sought;
 mod standings;
 
 pub use answers::{answer_of, answer_of_call, bare_answer, copy_let};
-pub use asked::{Asked, Order, Wanted, partner_of};
+pub use asked::{Asked, Order, Wanted, partner_of, request_octets};
 pub use asking::{Backend, look_up, operate};
 pub use codes::{PartnerLimit, codes_of, overdues_of};
 pub use comparing::Comparison;
@@ -34,7 +34,7 @@ pub use judging::{
     Closing, closing_of, declined, ended_for, farewell_of, goes_on, last_status, office_within,
     result_at, result_of, told_reason, told_status, trouble_of,
 };
-pub use lines::line_of_answer;
+pub use lines::{line_of_answer, line_of_ending};
 pub use made::{Made, stopping};
 pub use outgoing::write_outgoing;
 pub use pacing::Pace;

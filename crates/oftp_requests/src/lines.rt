@@ -18,15 +18,18 @@ pub fn line_of_answer(alloc: Global, answer: &[u8]) -> Result<String, Fault> {
         let part = read_part(alloc, &mut reader);
         match &part {
             Ok(AnswerPart::Piece(..)) => {}
-            Ok(AnswerPart::End(ending)) => return line_of(alloc, *ending),
+            Ok(AnswerPart::End(ending)) => return line_of_ending(alloc, *ending),
             Err(_) => break,
         }
     }
-    line_of(alloc, Ending::Failed(Fault::MEMORY))
+    line_of_ending(alloc, Ending::Failed(Fault::MEMORY))
 }
 
-/// The line of an ending. That of a look-up has none.
-fn line_of(alloc: Global, ending: Ending) -> Result<String, Fault> {
+/// The line of an ending. That of a look-up is empty.
+///
+/// # Errors
+/// [`Fault::MEMORY`].
+pub fn line_of_ending(alloc: Global, ending: Ending) -> Result<String, Fault> {
     match ending {
         Ending::Outcome(outcome) => Ok(format!(in alloc; "{outcome}")?),
         Ending::Failed(fault) => Ok(format!(in alloc; "{fault}")?),

@@ -108,7 +108,7 @@ impl<'a> Given<'a> {
                 no: self.number(1),
                 content: self.octets(2),
             },
-            "backup" => Request::Backup,
+            "backup" => Request::Backup { to: self.text(1) },
             "init" => Request::Init,
             "stop" => Request::Stop(self.haste(1)),
             "reload" => Request::Reload,
@@ -256,7 +256,10 @@ fn print_request(rt: &HostRuntime, request: &Request<'_>) -> io::Result<()> {
             print!(rt; " holds {no}")?;
             print_whole(rt, content)
         }
-        Request::Backup => print!(rt; " backup"),
+        Request::Backup { to } => {
+            print!(rt; " backup")?;
+            print_whole(rt, to.as_bytes())
+        }
         Request::Init => print!(rt; " init"),
         Request::Stop(haste) => print!(rt; " stop {haste:?}"),
         Request::Reload => print!(rt; " reload"),
