@@ -468,7 +468,7 @@ def commands_alone(room):
     for folder in ("offered", "collected"):
         (room / folder).mkdir()
     (room / "file").write_bytes(bytes(range(256)) * 10)
-    for name in ("one", "two"):
+    for name in ("ONE", "TWO"):
         (room / "offered" / name).write_bytes(name.encode() * 100)
     offer = ["--to", CARMAKER, "--from", room / "offered"]
     for name, status in (("A", 0), ("A", 1), ("B", 0)):
@@ -521,7 +521,7 @@ def listen_and_call(room):
             with contextlib.suppress(OSError), socket.create_connection(("127.0.0.1", ports[1])):
                 break
             time.sleep(0.05)
-        expect(alone(room, "call", "--partner", CARMAKER, book=book), "end: own 00\n", "the call")
+        expect(alone(room, "call", "--partner", CARMAKER, book=book), "end: partner 00\n", "the call")
         expect(listener.wait(LONG), 0, "the exit status of listen")
     expect(alone(folder, "release", "1", book=theirs), "done: release 1\n", "their release")
     expect_same(room, 1, 1, book=book)
@@ -587,12 +587,12 @@ def marks(room):
         idle = kinds_in(room).count(MARK)
         with service.caller() as caller:
             octets = session_of("receiving/one_octet").joined("in")
-            caller.sendall(octets[:60])
+            caller.sendall(octets[:70])
             time.sleep(0.5)
             begun = kinds_in(room).count(MARK)
             time.sleep(2.5)
             during = kinds_in(room).count(MARK)
-            caller.sendall(octets[60:])
+            caller.sendall(octets[70:])
             caller.shutdown(socket.SHUT_WR)
             rest_of(caller)
         service.line()
