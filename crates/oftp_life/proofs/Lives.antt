@@ -1,5 +1,5 @@
 -- What holds of a life after each of its calls.
-use Rattle.std.proofs.Common.{◌≡◌, ◌∙◌, ap, sym, subst, refl, arith, Bool, take, ℕ, ◌+◌, inl, inr, true, false, List, [], ◌∷◌, ◌++◌, length, Option, None, Some, Result, Ok, Err, IfErr, OnOk, ◌≢◌}
+use Rattle.std.proofs.Common.{◌≡◌, ◌∙◌, ap, sym, subst, refl, arith, Bool, take, ℕ, ◌+◌, ◌≤◌, inl, inr, true, false, List, [], ◌∷◌, ◌++◌, length, length-take-le, Option, None, Some, Result, Ok, Err, IfErr, OnOk, ◌≢◌}
 use Rattle.std.specs.Bool.{⊤}
 use Rattle.oftp_partners.specs.Book.{BookData}
 use Rattle.oftp_register.specs.declared.change.Change.{Change}
@@ -142,7 +142,17 @@ module _ (first : Register) (acts : List Act) (before : List Change) (setting : 
   short_rests : IsOutOfMemory setting heard a b → Rests first (last ∷ acts) b.office
   short_rests h =
       rests_behind first acts before from reached last (take h.made (whole setting heard from).changes) b.office
-      (record { how = inr (record { outs = h.outs; made = h.made; stopped = h.stopped; are = refl; out = out (octets_of h.outs) h.out }); replay = h.register }) h.stands h.left
+      (record {
+        how = inr (record {
+          outs = h.outs;
+          made = h.made;
+          stopped = h.stopped;
+          are = refl;
+          kept = subst (λ (n : ℕ). answered h.outs (length (octets_of h.outs)) ≤ n) (sym (length-take-le h.made (whole setting heard from).changes h.few)) h.kept;
+          out = out (octets_of h.outs) h.out;
+        });
+        replay = h.register;
+      }) h.stands h.left
 
   fault_leaves : IsOfficeFault setting heard a b → LifeLeaves first (last ∷ acts) b.office
   fault_leaves h =

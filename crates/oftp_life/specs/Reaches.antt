@@ -1,5 +1,5 @@
 -- The changes that a life made, and the register that they lead to.
-use Rattle.std.specs.Prelude.{◌≡◌, ℕ, ◌+◌, ◌⊎◌, List, [], ◌∷◌, ◌++◌, length, take, Option, None, Some, Ok}
+use Rattle.std.specs.Prelude.{◌≡◌, ℕ, ◌+◌, ◌≤◌, ◌⊎◌, List, [], ◌∷◌, ◌++◌, length, take, Option, None, Some, Ok}
 use Rattle.oftp_partners.specs.Book.{BookData}
 use Rattle.oftp_register.specs.declared.change.Change.{Change}
 use Rattle.oftp_register.specs.Register.{Register}
@@ -24,12 +24,13 @@ pub record RunsTo (setting : Setting) (heard said : List ℕ) (r : Register) (ch
   pub are : changes ≡ (run stop heard (started setting r)).changes
   pub out : said ≡ taken_until stop (octets_of (run stop heard (started setting r)).outputs)
 
--- a session for which there was no memory, between two of its steps
+-- a session for which there was no memory, between two of its steps, or that was left there; each change that it answered is made
 pub record IsShort (setting : Setting) (heard said : List ℕ) (r : Register) (changes : List Change) : Type 0 where
   pub outs : List Output
   pub made : ℕ
   pub stopped : StopsBetween setting heard r outs made
   pub are : changes ≡ take made (whole setting heard r).changes
+  pub kept : answered outs (length (octets_of outs)) ≤ length changes
   pub out : said ≡ octets_of outs
 
 -- a session of this setting heard and said these octets, and made these changes, all of them accepted
