@@ -2,4 +2,4 @@
 
 /// The SHA-256 of the sources, but of this file, as `checks/lint/version.py` computes it.
 pub const SOURCES: &str =
-    "sources b12a39ae14d19f4d761c0f405531954dd7090e4048e1eb9b1af8049e0e9fa272";
+    "sources 462c16a6685e084bcfbd3eea5eea79979bd75c15a2908da1998d783ce41ed2b9";
