@@ -1,7 +1,7 @@
 //! Who carries out the requests of a command: the database, which is opened for it, or the station that has it open.
 
-use oftp_asking::Beside;
 use crate::recording::Recording;
+use oftp_asking::Beside;
 use oftp_channel::{Ending, Request};
 use oftp_command_line::Files;
 use oftp_database::{self as database, WatchedOffice};
@@ -36,11 +36,7 @@ pub(crate) struct Telling<'t> {
 
 impl<'t> Telling<'t> {
     /// Where those of a command go that names these files.
-    pub(crate) fn of(
-        rt: &'t HostRuntime,
-        files: &Files<'t>,
-        news: &'t News,
-    ) -> Telling<'t> {
+    pub(crate) fn of(rt: &'t HostRuntime, files: &Files<'t>, news: &'t News) -> Telling<'t> {
         Telling {
             rt,
             news,

@@ -136,7 +136,14 @@ fn listen_noting<'n>(
     let config = config_of_callers(line, &listener, events.as_ref(), recorded);
     let station = station_of(&book, &line.terms, trace.as_ref());
     let keeper = Opened::new(rt, line.files.database, noting(&line.files, news));
-    serve_recorded(rt, &config, &station, recorded, keeper, &mut EndLines { out, err })
+    serve_recorded(
+        rt,
+        &config,
+        &station,
+        recorded,
+        keeper,
+        &mut EndLines { out, err },
+    )
 }
 
 /// The settings of a service for callers who come to this listener.
@@ -257,7 +264,14 @@ pub fn http(
         book: NOBODY,
         recorder: None,
     };
-    serve_recorded(rt, &config, &bare_station(&book), recorded, keeper, &mut EndLines { out, err })
+    serve_recorded(
+        rt,
+        &config,
+        &bare_station(&book),
+        recorded,
+        keeper,
+        &mut EndLines { out, err },
+    )
 }
 
 /// Writes the end of each session to one output, and the error of each session or request to the other. That the error can't be written
