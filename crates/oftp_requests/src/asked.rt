@@ -1,6 +1,6 @@
 //! The requests of commands, and what is told and answered of each.
 
-ghost use Rattle.std.specs.Prelude.{◌≡◌, OnOk};
+ghost use Rattle.std.specs.Prelude.{◌≡◌, IfOk};
 ghost use Rattle.oftp_channel.specs.Asked.{words_of};
 ghost use Rattle.oftp_channel.specs.Requests.{spelled_request};
 
@@ -198,7 +198,7 @@ impl Asked {
 /// # Errors
 /// [`Fault::MEMORY`], also if the request is longer than one may be.
 pub fn request_octets(alloc: Global, request: &Request<'_>) -> Result<Vec<u8>, Fault>
-    ensures { OnOk result (λ octets. octets.items ≡ spelled_request (words_of request.now)) }
+    ensures { IfOk result (λ octets. octets.items ≡ spelled_request (words_of request.now)) }
 {
     let mut port = Port::new(Vec::new(alloc), 0);
     if fits(request) && write_request(&mut port, request) {

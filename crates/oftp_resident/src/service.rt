@@ -306,10 +306,11 @@ impl<'a> Shell<'a> {
         }
     }
 
-    /// The next action, after the schedule was told what the sockets have, and the time.
+    /// The next action, after the schedule was told the time and what the sockets have. What comes counts from the time at which it is told, and not from
+    /// before the wait for it.
     fn next_action(&mut self) -> Result<Option<Action>, Fault> {
-        self.attend_all()?;
         self.tell_time()?;
+        self.attend_all()?;
         Ok(self.schedule.poll_action()?)
     }
 
