@@ -1,5 +1,5 @@
 #!/usr/bin/env python3
-"""`run` with partners who are far away: each packet takes a tenth of a second there and back.
+"""`run` with partners who are far away: each packet takes a tenth of a second there and back, or nearly six seconds.
 
     checks/scenarios/far_partners.py
 
@@ -10,7 +10,8 @@ its own (checks/lib/far.py). The last line is `N passed, M failed`.
 
 Shows: where a network namespace can be made: `run` with partners at a distance of a tenth of a second. Those whom the clock has it call are
 connected one after another, each once and each with his SSID at once. That is while the session of the first lasts for seconds. Two whose clocks
-meet have each other's file. Reports are asked for beside a session with a far partner
+meet have each other's file. Reports are asked for beside a session with a far partner. A partner whose connection takes nearly six seconds is called
+once
 """
 
 import contextlib
@@ -33,6 +34,8 @@ from services import BOOK, CARMAKER, LONG, Resident, Wrong, expect, free_port
 
 # How long a packet takes in one direction, and what anything may take beside that on a loaded machine, in seconds.
 DELAY, LOADED = 0.05, 2
+# The same of a partner whose connection takes longer than the five seconds that a connected call waits for its session.
+SLOW = 2.8
 # How long the first of several sessions lasts.
 HOLDS = 6
 CODES = [CARMAKER, "O0042TRUCKS", "O0001BUSES"]
@@ -159,7 +162,17 @@ def send_slowly(caller, octets):
         pass
 
 
-CASES = [calls_behind_a_long_session, two_whose_clocks_meet, look_ups_beside_a_far_session]
+def call_that_takes_long(room):
+    """A partner whose connection takes longer than a connected call waits for its session, while nothing else happens, is called once."""
+    partner = Called(0.2)
+    book = book_of_many(room, {CARMAKER: partner})
+    with Resident(room, book=book) as service:
+        expect(give(service, book, "call", "--partner", CARMAKER), (0, "end: input\n", ""), "the call")
+    expect([has_ssid for _, has_ssid in partner.waited], [True], "whether each call had its session")
+
+
+# With each case, how long a packet takes in one direction, in seconds.
+CASES = [(calls_behind_a_long_session, DELAY), (two_whose_clocks_meet, DELAY), (look_ups_beside_a_far_session, DELAY), (call_that_takes_long, SLOW)]
 
 
 def main():
@@ -170,14 +183,13 @@ def main():
         print("0 passed, 0 failed")
         return 0
     failed = 0
-    with far.far_away(device, DELAY):
-        for case in CASES:
-            with tempfile.TemporaryDirectory() as room:
-                try:
-                    case(Path(room))
-                except (Wrong, OSError, subprocess.SubprocessError) as why:
-                    failed += 1
-                    print(f"{case.__name__.replace('_', ' ')}: {type(why).__name__}: {why}")
+    for case, delay in CASES:
+        with far.far_away(device, delay), tempfile.TemporaryDirectory() as room:
+            try:
+                case(Path(room))
+            except (Wrong, OSError, subprocess.SubprocessError) as why:
+                failed += 1
+                print(f"{case.__name__.replace('_', ' ')}: {type(why).__name__}: {why}")
     print(f"{len(CASES) - failed} passed, {failed} failed")
     return 1 if failed else 0
 
