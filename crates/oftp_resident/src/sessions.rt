@@ -79,6 +79,8 @@ impl<'a> Shell<'a> {
         let _ = peer.send();
         if goes_on(stage) && peer.ended.is_none() {
             let step = peer.step(&stage, heard);
+            // The patience with a partner begins once the step is done, however long that took.
+            self.tell_time()?;
             return self.tell(id, Signal::Waits(step));
         }
         peer.note(result_of(stage));

@@ -2,4 +2,4 @@
 
 /// The SHA-256 of the sources, but of this file, as `checks/lint/version.py` computes it.
 pub const SOURCES: &str =
-    "sources 38220030b021022016d2929c2a2f0afe831556da9c6274a9b928339da998228a";
+    "sources 7e7ecd31e26d369bb6ec3b8ae3cd0c85a4495a6a5bf9f0271f0dd376f4fe0296";
