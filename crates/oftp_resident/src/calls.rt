@@ -117,7 +117,7 @@ impl<'a> Shell<'a> {
             _ => Err(Fault::Socket),
         };
         match resolved {
-            Ok(()) => self.tell(id, Signal::Resolved),
+            Ok(()) => self.tell_now(id, Signal::Resolved),
             Err(fault) => {
                 peer.note(Err(Trouble::OfJob(fault)));
                 self.tell(id, Signal::Failed)

@@ -152,15 +152,14 @@ impl<'a> Shell<'a> {
         }
     }
 
-    /// Keeps an answer, and tells its length. The time is told before, so that the schedule knows how long a look-up took.
+    /// Keeps an answer, and tells its length.
     fn take_answer(&mut self, id: u64, made: Made) -> Result<(), Fault> {
         let Made { octets, office } = made;
         let length = octets.len() as u64;
         if let Some(peer) = peer_in(&mut self.peers, id) {
             peer.answer = Some(octets);
         }
-        self.tell_time()?;
-        self.tell(id, Signal::Done(length))?;
+        self.tell_now(id, Signal::Done(length))?;
         match office {
             OfficeState::Working => Ok(()),
             OfficeState::Failed => self.fail(Fault::Run(RunFault::Office)),

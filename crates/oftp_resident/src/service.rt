@@ -385,6 +385,15 @@ impl<'a> Shell<'a> {
         self.say(Event::Told(id, signal))
     }
 
+    /// Tells the schedule the time, and then something of a connection that took a while: whoever is waited for after it has all of that wait.
+    ///
+    /// # Errors
+    /// The clock can't be read; out of memory.
+    pub(crate) fn tell_now(&mut self, id: u64, signal: Signal) -> Result<(), Fault> {
+        self.tell_time()?;
+        self.tell(id, signal)
+    }
+
     /// Tells the schedule the time.
     ///
     /// # Errors

@@ -79,13 +79,11 @@ impl<'a> Shell<'a> {
         let _ = peer.send();
         if goes_on(stage) && peer.ended.is_none() {
             let step = peer.step(&stage, heard);
-            // The patience with a partner begins once the step is done, however long that took.
-            self.tell_time()?;
-            return self.tell(id, Signal::Waits(step));
+            return self.tell_now(id, Signal::Waits(step));
         }
         peer.note(result_of(stage));
         home.end();
-        self.tell(id, Signal::Ended(farewell_of(stage)))
+        self.tell_now(id, Signal::Ended(farewell_of(stage)))
     }
 
     /// Reports the end of a session that is over for this reason, unless it ended by itself.
