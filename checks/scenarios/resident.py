@@ -11,18 +11,20 @@ over one database, one that waits for it, and four that begin at once. Requests 
 commands and callers. 90 who ask by HTTP, of whom 64 are kept, and a reply that is longer than the buffers, and isn't read. The hosts that may be
 named, also at other addresses. At each of its three sockets: what is meant for another one, zeros, anything at all, halves and resets. There are 20
 who drip, and 80 who are silent. Callers who aren't let in, one who begins the longest of frames, and 140 with a partner behind them. One who is let
-in after the long session of another. A partner who falls silent, one whose pauses are long together, one who takes no octet of his file, partners who
-don't close. Look-ups between two halves of a frame, also of an outgoing file. What changes something, copies or calls waits for the end of a session,
-longer than ten seconds. A backup, what is done while its command copies, and one that copies too long or is gone. Calls of a partner who is there,
-leaves, is silent, isn't there, doesn't answer, or calls itself at the same moment. Two stations and three in a circle whose calls meet, by commands
-and by their clocks. Calls by the clock, of several partners and for a file that isn't confirmed; a trace. SIGKILL before each command is heard,
-within a call, and among 8 who submit and 8 who fetch, release and refuse; SIGTERM within a session. Answers that end at each octet or are none
+in after the long session of another. A partner who falls silent, one whose pauses are long together, one beside syncs that take long, one who takes
+no octet of his file, partners who don't close. Look-ups between two halves of a frame, also of an outgoing file. What changes something, copies or
+calls waits for the end of a session, longer than ten seconds. A backup, what is done while its command copies, and one that copies too long or is
+gone. Calls of a partner who is there, leaves, is silent, isn't there, doesn't answer, or calls itself at the same moment. Two stations and three in
+a circle whose calls meet, by commands and by their clocks. Calls by the clock, of several partners and for a file that isn't confirmed; a trace.
+SIGKILL before each command is heard, within a call, and among 8 who submit and 8 who fetch, release and refuse; SIGTERM within a session. Answers
+that end at each octet or are none
 """
 
 import contextlib
 import os
 import re
 import resource
+import shutil
 import signal
 import socket
 import stat
@@ -48,6 +50,7 @@ from passage import Passage
 from program import PROGRAM, ROOT
 from ready import ready_to_read
 from services import BOOK, CARMAKER, LONG, NotTried, Resident, Service, Wrong, answer_to, expect, free_port, port_of_ipv6, rest_of
+from shims import compile_library
 
 # What may be added to any time on a machine with other work.
 SOON = 25
@@ -472,6 +475,20 @@ def patience_of_each_wait(room):
                 caller.sendall(piece)
         expect(time.monotonic() - begin > PATIENT + 2, True, "whether all of it took longer than the patience")
         expect(rest_of(caller), ONE_OCTET.joined("out"), "the station sent")
+        expect(service.line() + "\n", f"session {CARMAKER} in: {ONE_OCTET.end[1]}", "the line")
+
+
+def slow_syncs(room):
+    """A partner who answers at once isn't given up where each sync takes longer than the patience with him."""
+    if not shutil.which("cc"):
+        raise NotTried("a C compiler: syncs that take long")
+    slow = {"LD_PRELOAD": str(compile_library(room, "slow_syncs")), "SYNC_TAKES": "3000000"}
+    with Resident(room, "--patience", "2", environment=slow) as service, service.caller() as caller:
+        for side, octets in ONE_OCTET.steps:
+            if side == "in":
+                caller.sendall(octets)
+            else:
+                expect(caller.recv(len(octets), socket.MSG_WAITALL), octets, "the station's answer")
         expect(service.line() + "\n", f"session {CARMAKER} in: {ONE_OCTET.end[1]}", "the line")
 
 
@@ -1953,6 +1970,7 @@ CASES = [
     strangers,
     silent_partner,
     patience_of_each_wait,
+    slow_syncs,
     time_of_another_session,
     longest_frame_of_a_stranger,
     more_callers_than_places,
