@@ -46,6 +46,21 @@ impl<'t> Telling<'t> {
         }
     }
 
+    /// Where the record of a command goes that has no book, and writes its own event.
+    pub(crate) fn of_record(
+        rt: &'t HostRuntime,
+        record: Option<&'t str>,
+        news: &'t News,
+    ) -> Telling<'t> {
+        Telling {
+            rt,
+            news,
+            path: None,
+            book: "",
+            record,
+        }
+    }
+
     /// Where events are noted, if they are told.
     fn noting(self) -> Option<&'t News> {
         match self.path {

@@ -33,14 +33,7 @@ pub fn back_up<'a>(
     out: &mut impl Write,
 ) -> Result<Outcome, Fault> {
     let news = News::new(rt.alloc());
-    let telling = Telling {
-        rt,
-        news: &news,
-        // It writes its own event, once the copy is finished.
-        path: None,
-        book: "",
-        record: line.record,
-    };
+    let telling = Telling::of_record(rt, line.record, &news);
     let backing = Backing::opened(rt, line.database, None, Some(telling))?;
     back_up_over(rt, line, backing, &news, out)
 }

@@ -2,4 +2,4 @@
 
 /// The SHA-256 of the sources, but of this file, as `checks/lint/version.py` computes it.
 pub const SOURCES: &str =
-    "sources a073b9cd5335dfbcc469945abd334f30e7a9fdfd17e74f4f75508148a60ec4bf";
+    "sources fae41fd601c9acacf46cbcded7bcfbd55f1fd308f58c88b6274e10283301f057";
