@@ -184,7 +184,7 @@ pub fn release<'a>(
     out: &mut impl Write,
 ) -> Result<Outcome, Fault> {
     let call = Operator::Release { no: release.no };
-    respond(rt, &release.files, call, out)
+    respond(rt, release.files, call, out)
 }
 
 /// Issues the Negative End Response of an incoming file, and writes its line. Returns its outcome.
@@ -201,19 +201,19 @@ pub fn refuse<'a>(
         reason: refuse.reason,
         text: refuse.text,
     };
-    respond(rt, &refuse.files, call, out)
+    respond(rt, refuse.files, call, out)
 }
 
 /// Issues a response, and writes the line of that.
 fn respond<'a>(
     rt: &'a HostRuntime,
-    files: &Files<'a>,
+    files: Files<'a>,
     call: Operator<'_>,
     out: &mut impl Write,
 ) -> Result<Outcome, Fault> {
     let (octets, book) = read_book_octets(rt, files.book)?;
     let news = News::new(rt.alloc());
-    let telling = Telling::of(rt, files, &news);
+    let telling = Telling::of(rt, &files, &news);
     let backing = Backing::opened(rt, files.database, Some(&book), Some(telling))?;
     let book = octets.as_slice();
     respond_over(backing, &Request::Operate { book, call }, out)

@@ -2,4 +2,4 @@
 
 /// The SHA-256 of the sources, but of this file, as `checks/lint/version.py` computes it.
 pub const SOURCES: &str =
-    "sources fae41fd601c9acacf46cbcded7bcfbd55f1fd308f58c88b6274e10283301f057";
+    "sources 5f282d6f460c8d5d58316f96613ff87043292d37843cd7406d7a146f0df56803";
