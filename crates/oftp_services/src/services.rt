@@ -13,7 +13,6 @@ use oftp_schedule::connection::Counted;
 use oftp_sockets::{Reporter, Station, bound};
 use oftp_watching::News;
 use std::io::Write;
-use std::net::TcpListener;
 
 /// The trace that the command line of a service asks for.
 ///
@@ -112,7 +111,7 @@ pub fn listen(
     err: &mut impl Write,
 ) -> Result<(), Fault> {
     let news = News::new(rt.alloc());
-    listen_noting(rt, line, &news, out, err)
+    listen_noting(rt, line, &news, &mut EndLines { out, err })
 }
 
 /// Serves the sessions of callers as [`listen`] says. Their events are noted here.
@@ -120,47 +119,50 @@ fn listen_noting<'n>(
     rt: &'n HostRuntime,
     line: &Listen<'_>,
     news: &'n News,
-    out: &mut impl Write,
-    err: &mut impl Write,
+    reporter: &mut impl Reporter,
 ) -> Result<(), Fault> {
     let (octets, book) = read_book_octets(rt, line.files.book)?;
     database::make(rt, line.files.database)?;
     let trace = trace_of(rt, &line.files, &line.terms)?;
     let events = events_of(rt, &line.files, news)?;
-    let listener = bound(rt, line.entrance.address, line.entrance.port)?;
     let recorder = recorder_of(rt, line.files.record, RecordSync::Synced)?;
     let recorded = Recorded {
         book: octets.as_slice(),
         recorder: recorder.as_ref(),
     };
-    let config = config_of_callers(line, &listener, events.as_ref(), recorded);
     let station = station_of(&book, &line.terms, trace.as_ref());
     let keeper = Opened::new(rt, line.files.database, noting(&line.files, news));
-    serve_recorded(
+    listen_over(
         rt,
-        &config,
+        line,
         &station,
+        events.as_ref(),
         recorded,
         keeper,
-        &mut EndLines { out, err },
+        reporter,
     )
 }
 
-/// The settings of a service for callers who come to this listener.
-fn config_of_callers<'c>(
+/// Serves the sessions of callers in lives over a database.
+fn listen_over(
+    rt: &HostRuntime,
     line: &Listen<'_>,
-    listener: &'c TcpListener,
-    events: Option<&'c EventFile<'c>>,
-    recorded: Recorded<'c>,
-) -> ServiceConfig<'c> {
-    ServiceConfig {
-        partners: Some(listener),
+    station: &Station<'_>,
+    events: Option<&EventFile<'_>>,
+    recorded: Recorded<'_>,
+    keeper: Opened<'_>,
+    reporter: &mut impl Reporter,
+) -> Result<(), Fault> {
+    let listener = bound(rt, line.entrance.address, line.entrance.port)?;
+    let config = ServiceConfig {
+        partners: Some(&listener),
         places: line.sessions,
         admission: admission_of(&line.entrance, &line.terms),
         events,
         recorder: recorded.recorder,
         ..idle_config(line.sessions)
-    }
+    };
+    serve_recorded(rt, &config, station, recorded, keeper, reporter)
 }
 
 /// Serves whoever comes, or calls, with a life over the database for each job. Records the register before and after that.
@@ -260,18 +262,20 @@ pub fn http(
     };
     let book = book_of(rt.alloc(), NOBODY)?;
     let keeper = Opened::new(rt, line.database, None);
-    let recorded = Recorded {
-        book: NOBODY,
-        recorder: None,
-    };
-    serve_recorded(
-        rt,
-        &config,
-        &bare_station(&book),
-        recorded,
-        keeper,
-        &mut EndLines { out, err },
-    )
+    serve_each(rt, &config, &bare_station(&book), keeper, out, err)
+}
+
+/// Serves whoever comes, with a life over the database for each job.
+fn serve_each(
+    rt: &HostRuntime,
+    config: &ServiceConfig<'_>,
+    station: &Station<'_>,
+    keeper: Opened<'_>,
+    out: &mut impl Write,
+    err: &mut impl Write,
+) -> Result<(), Fault> {
+    let mut keeper = keeper;
+    serve(rt, config, station, &mut keeper, &mut EndLines { out, err })
 }
 
 /// Writes the end of each session to one output, and the error of each session or request to the other. That the error can't be written
