@@ -13,6 +13,7 @@ use oftp_schedule::connection::Counted;
 use oftp_sockets::{Reporter, Station, bound};
 use oftp_watching::News;
 use std::io::Write;
+use std::net::TcpListener;
 
 /// The trace that the command line of a service asks for.
 ///
@@ -126,43 +127,34 @@ fn listen_noting<'n>(
     let trace = trace_of(rt, &line.files, &line.terms)?;
     let events = events_of(rt, &line.files, news)?;
     let recorder = recorder_of(rt, line.files.record, RecordSync::Synced)?;
+    let station = station_of(&book, &line.terms, trace.as_ref());
+    let listener = bound(rt, line.entrance.address, line.entrance.port)?;
+    let keeper = Opened::new(rt, line.files.database, noting(&line.files, news));
+    let config = config_of_callers(line, &listener, events.as_ref());
+    let config = ServiceConfig {
+        recorder: recorder.as_ref(),
+        ..config
+    };
     let recorded = Recorded {
         book: octets.as_slice(),
         recorder: recorder.as_ref(),
     };
-    let station = station_of(&book, &line.terms, trace.as_ref());
-    let keeper = Opened::new(rt, line.files.database, noting(&line.files, news));
-    listen_over(
-        rt,
-        line,
-        &station,
-        events.as_ref(),
-        recorded,
-        keeper,
-        reporter,
-    )
+    serve_recorded(rt, &config, &station, recorded, keeper, reporter)
 }
 
-/// Serves the sessions of callers in lives over a database.
-fn listen_over(
-    rt: &HostRuntime,
+/// The settings of a service for callers who come to this listener.
+fn config_of_callers<'c>(
     line: &Listen<'_>,
-    station: &Station<'_>,
-    events: Option<&EventFile<'_>>,
-    recorded: Recorded<'_>,
-    keeper: Opened<'_>,
-    reporter: &mut impl Reporter,
-) -> Result<(), Fault> {
-    let listener = bound(rt, line.entrance.address, line.entrance.port)?;
-    let config = ServiceConfig {
-        partners: Some(&listener),
+    listener: &'c TcpListener,
+    events: Option<&'c EventFile<'c>>,
+) -> ServiceConfig<'c> {
+    ServiceConfig {
+        partners: Some(listener),
         places: line.sessions,
         admission: admission_of(&line.entrance, &line.terms),
         events,
-        recorder: recorded.recorder,
         ..idle_config(line.sessions)
-    };
-    serve_recorded(rt, &config, station, recorded, keeper, reporter)
+    }
 }
 
 /// Serves whoever comes, or calls, with a life over the database for each job. Records the register before and after that.

@@ -2,4 +2,4 @@
 
 /// The SHA-256 of the sources, but of this file, as `checks/lint/version.py` computes it.
 pub const SOURCES: &str =
-    "sources 6204924668363956dbcce7c30673c1f1ca5d7134bd859816c8325b9f3a2ea0c1";
+    "sources fba08282f900b713e93db046f52b2130cf85aa2daff32be435c4af15440634ca";
