@@ -69,7 +69,7 @@ CHANGELOG = ROOT / "CHANGELOG.md"
 SERVICE = ROOT / "examples/service"
 # A report with its columns, and the sentence on further keys of the JSON objects.
 REPORT = re.compile(r"^\| `(\w+)` \| `([\w,]+)` \|$", re.M)
-MORE_KEYS = re.compile(r"Files also have ([^.]*), and responses that were received have (`\w+`)")
+MORE_KEYS = re.compile(r"Files also have ([^.]*),\s+and responses that were received have (`\w+`)")
 # A request of rows/listing whose reply has content.
 REPLY = re.compile(r"^ask GET /(\w+)[/\d]* HTTP/1\.1\n200 (.*)$", re.M)
 # A time or a rate.
