@@ -627,7 +627,7 @@ def hostile_record(room):
 
 
 def audits(room):
-    """An audit against the record: the last register, an earlier one, one that it hasn't, and a record that is cut off."""
+    """An audit against the record: the last register, an earlier one, one that it hasn't, a record that is cut off, and a killed station."""
     (room / "record").mkdir()
     (room / "file").write_bytes(b"ABC")
     for name in ("A", "B"):
@@ -644,11 +644,26 @@ def audits(room):
     expect(audit("A"), (1, "register: the record goes on behind it\n"), "an earlier database")
     done = subprocess.run([PROGRAM, "submit", "--db", room / "B", "--book", BOOK, *IDENTITY, "--dataset", "C", BOOK], capture_output=True, timeout=LONG, check=False)
     expect(done.returncode, 0, "a change that isn't recorded")
-    expect(audit("B"), (1, "register: not in the record\n"), "a database that the record hasn't")
+    expect(audit("B"), (1, "register: no entry of the record has it\n"), "a database that the record hasn't")
     file = file_of(room)
     file.write_bytes(file.read_bytes()[:-1])
     expect(audit("database"), (1, f"differs: {file.name}, entry 8: it is cut off\n"), "a record that is cut off")
     expect(subprocess.run([PROGRAM, "audit", "--db", room / "database", "--record", room / "nowhere"], capture_output=True, timeout=LONG, check=False).stderr, b"fault: 7 file\n", "no record")
+    killed_behind_the_copy(room / "killed")
+
+
+def killed_behind_the_copy(room):
+    """A station is killed behind an answered command. Neither its database nor a copy from before the command passes as the last register."""
+    room.mkdir()
+    (room / "file").write_bytes(b"ABC")
+    with recording(room) as service:
+        expect(submit(service, "A", room / "file"), "done: submit 1\n", "submit")
+        expect(service.give("backup", room / "copy").stdout, b"done: backup\n", "backup")
+        expect(submit(service, "B", room / "file"), "done: submit 2\n", "submit behind the copy")
+        service.program.kill()
+    for database, line in (("copy", "the record goes on behind it"), ("database", "no entry of the record has it")):
+        done = subprocess.run([PROGRAM, "audit", "--db", room / database, "--record", room / "record"], capture_output=True, timeout=LONG, check=False)
+        expect((done.returncode, done.stdout.decode()), (1, f"register: {line}\n"), f"{database} of a killed station")
 
 
 CASES = [commands, rows, two_stations, book_read_again, killed_at_moments, killed_beside_partners, changed_octet, cut_record, backup, days, two_in_one_folder, without_syncing, other_database, full_disk, full_disk_of_the_database, commands_alone, killed_commands, listen_and_call, backups_recorded, parts, marks, hostile_record, audits]

@@ -1,10 +1,24 @@
 -- How a register stands to those of which a record has the digests.
+use Rattle.std.specs.Prelude.{Option, None, Some}
 use Rattle.oftp_contents.specs.declared.standing.Likeness.{Likeness}
 use Rattle.oftp_contents.specs.declared.standing.Likeness.TheVariants as likenesses
 use Rattle.oftp_contents.specs.declared.standing.RegisterStanding.{RegisterStanding}
 use Rattle.oftp_contents.specs.declared.standing.RegisterStanding.TheVariants as standings
+use Rattle.oftp_record.specs.declared.kind.RecordKind.{RecordKind}
+use Rattle.oftp_record.specs.declared.kind.RecordKind.TheVariants as kinds
 
--- how a register stands once the record has one more digest
+-- what an entry without a digest tells of a register: a session and a call may change it
+abbrev pub likeness_behind : RecordKind → Option Likeness
+likeness_behind kinds.Session = Some likenesses.Other
+likeness_behind kinds.Call = Some likenesses.Other
+likeness_behind kinds.Opening = None
+likeness_behind kinds.OctetsIn = None
+likeness_behind kinds.OctetsOut = None
+likeness_behind kinds.End = None
+likeness_behind kinds.Backup = None
+likeness_behind kinds.Mark = None
+
+-- how a register stands once the record has one more entry that tells of it
 abbrev pub standing_after : RegisterStanding → Likeness → RegisterStanding
 standing_after standing likenesses.Same = standings.Last
 standing_after standings.Unknown likenesses.Other = standings.Unknown

@@ -1,7 +1,9 @@
 //! How a register stands to those of which a record has the digests.
 
 ghost use Rattle.std.specs.Prelude.{◌≡◌};
-ghost use Rattle.oftp_contents.specs.Standings.{standing_after};
+ghost use Rattle.oftp_contents.specs.Standings.{likeness_behind, standing_after};
+
+use oftp_record::RecordKind;
 
 /// How a register stands to those that a record has.
 #[derive(Clone, Copy, Debug, PartialEq, Eq, Drop)]
@@ -10,21 +12,38 @@ pub enum RegisterStanding {
     Unknown,
     /// It is the last one that the record has.
     Last,
-    /// The record had it, and others behind it.
+    /// The record has it, and goes on behind it.
     Earlier,
 }
 
-/// Whether a digest is that of the register.
+/// What an entry of a record tells of a register.
 #[derive(Clone, Copy, Debug, PartialEq, Eq, Drop)]
 pub enum Likeness {
-    /// It is.
+    /// It has its digest.
     Same,
-    /// It is that of another one.
+    /// It has that of another one, or behind it the register may be another one.
     Other,
 }
 
+impl Likeness {
+    /// What an entry without a digest tells: behind the beginning of a session or a call the register may be another one. `None` if it tells nothing.
+    pub fn behind(kind: RecordKind) -> Option<Likeness>
+        ensures { result ≡ likeness_behind kind }
+    {
+        match kind {
+            RecordKind::Session | RecordKind::Call => Some(Likeness::Other),
+            RecordKind::Opening
+            | RecordKind::OctetsIn
+            | RecordKind::OctetsOut
+            | RecordKind::End
+            | RecordKind::Backup
+            | RecordKind::Mark => None,
+        }
+    }
+}
+
 impl RegisterStanding {
-    /// How it stands once the record has one more digest.
+    /// How it stands once the record has one more entry that tells of it.
     pub fn after(self, likeness: Likeness) -> RegisterStanding
         ensures { result ≡ standing_after self likeness }
     {

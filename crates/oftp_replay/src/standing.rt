@@ -10,14 +10,14 @@ use std::io::Write;
 /// What came of comparing a register with a record.
 #[derive(Clone, Copy, Debug, PartialEq, Eq)]
 pub enum Compared {
-    /// The register is the last one of which the record has the digest, and the record is whole.
+    /// The record is whole, has the digest of the register, and behind it nothing that may have changed the register.
     Same,
     /// It isn't, which was told.
     Other,
 }
 
-/// Compares the register of an office with the digests of the record in a folder, and writes a line unless it is the last of these. A record that is cut
-/// off or was changed is told of.
+/// Compares the register of an office with the digests of the record in a folder. Writes a line if it has none of them, or if behind its digest the
+/// register may have become another one. A record that is cut off or was changed is told of.
 ///
 /// # Errors
 /// [`Fault::File`] if the record can't be read; [`Fault::Run`] if the office failed, or `out` returned an error; [`Fault::MEMORY`].
@@ -38,7 +38,7 @@ pub fn compare_with_record<O: Office>(
     match standing {
         RegisterStanding::Last => return Ok(Compared::Same),
         RegisterStanding::Earlier => write_line(out, &"register: the record goes on behind it")?,
-        RegisterStanding::Unknown => write_line(out, &"register: not in the record")?,
+        RegisterStanding::Unknown => write_line(out, &"register: no entry of the record has it")?,
     }
     Ok(Compared::Other)
 }
@@ -50,19 +50,20 @@ fn standing_of(tape: &mut Tape<'_>, register: &Digest) -> Result<RegisterStandin
         let At::Entry(_) = tape.at() else {
             break;
         };
-        if let Some(digest) = tape.register() {
-            standing = standing.after(likeness_of(&digest, register));
+        if let Some(likeness) = likeness_at(tape, register) {
+            standing = standing.after(likeness);
         }
         tape.advance()?;
     }
     Ok(standing)
 }
 
-/// Whether a digest is that of a register.
-fn likeness_of(digest: &Digest, register: &Digest) -> Likeness {
-    if digest == register {
-        Likeness::Same
-    } else {
-        Likeness::Other
+/// What the entry at which a tape stands tells of a register.
+fn likeness_at(tape: &Tape<'_>, register: &Digest) -> Option<Likeness> {
+    match (tape.register(), tape.at()) {
+        (Some(digest), _) if digest == *register => Some(Likeness::Same),
+        (Some(_), _) => Some(Likeness::Other),
+        (None, At::Entry(kind)) => Likeness::behind(kind),
+        (None, At::End | At::Broken(_)) => None,
     }
 }

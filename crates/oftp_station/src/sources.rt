@@ -2,4 +2,4 @@
 
 /// The SHA-256 of the sources, but of this file, as `checks/lint/version.py` computes it.
 pub const SOURCES: &str =
-    "sources fba08282f900b713e93db046f52b2130cf85aa2daff32be435c4af15440634ca";
+    "sources 3797ca11350733e8ed3199c648d4f949aabbcadb42a2f6743cd4d5ccf28ead88";
