@@ -70,11 +70,11 @@ class Service:
     # The time limit in seconds for anything.
     patience = LONG
 
-    def __init__(self, room, command, *words, book=BOOK, port=None, output=subprocess.PIPE, faults=subprocess.PIPE, environment=None, **how):
+    def __init__(self, room, command, *words, book=BOOK, port=None, program=PROGRAM, output=subprocess.PIPE, faults=subprocess.PIPE, environment=None, **how):
         self.port = port or free_port()
         self.database = room / "database"
         of_book = ["--book", book] if command in ("listen", "run") else []
-        words = [PROGRAM, command, "--db", self.database, *of_book, "--port", str(self.port), *words]
+        words = [program, command, "--db", self.database, *of_book, "--port", str(self.port), *words]
         environment = {**os.environ, **(environment or {})}
         self.program = subprocess.Popen(words, stdout=output, stderr=faults, env=environment, **how)
         # The octets of each output that aren't a requested line yet.
@@ -173,17 +173,19 @@ class Resident(Service):
         expect(self.either(), "ready", "the first line")
         return self
 
-    def client(self):
-        """A connection to its socket for commands, with the octet by which it says that it will read a request."""
+    def client(self, name=None):
+        """A connection to its socket for commands, with the octet by which it says that it will read a request. Its end may have a name."""
         client = socket.socket(socket.AF_UNIX)
         client.settimeout(LONG)
         with Short(self.socket) as path:
             client.connect(path)
+        if name:
+            client.bind(str(name))
         return client
 
-    def asked(self, *words, book=b"", content=b""):
+    def asked(self, *words, book=b"", content=b"", name=None):
         """A connection through which a command has asked, by the octets of its book and of its file."""
-        client = self.client()
+        client = self.client(name)
         expect(client.recv(1), READY, "the first octet to a command")
         client.sendall(request_of(*words, book=book, content=content))
         return client

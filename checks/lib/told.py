@@ -6,6 +6,7 @@ made, and what the line of each has. This was written from the table of events, 
 
 import contextlib
 import json
+import os
 import re
 import tomllib
 
@@ -174,6 +175,8 @@ class Life:
             found |= {"format": file["format"], "rows": len(file["rows"])}
             found["units"] = model.units(file["rows"]) if event in MEASURED else None
         found |= said
+        # What is in no session a command has asked for over the socket, as this process.
+        found["uid"] = os.geteuid() if self.number is None else None
         self.events.append({key: found[key] for key in KEYS if found.get(key) is not None})
         if event in ("came", "response received"):
             self.counts["received"] += 1

@@ -8,7 +8,7 @@ Each row of rows/ in which partners call is lived over one `run`. So are lives o
 them. The file of events has exactly what the model's changes give (checks/lib/told.py), with the keys in their order. Two stations call each
 other: what left one came to the other. The station is killed at any moment. Each line that is there is whole, the lines are a beginning of those
 of the unbroken life, and the database has what they tell. Each line is one write, behind the write of the answer. A full device stops nothing, and
-a file that is cut goes on from its beginning. Two commands append at once. The last line is `N passed, M failed`.
+a file that is cut goes on from its beginning. Two commands append at once. A change tells the user whose command asked for it. The last line is `N passed, M failed`.
 
 Shows: the events of `run`, `listen`, `call` and the commands that have the database. They are compared with those of the model's changes, in the
 rows of sessions and in random lives. Each line, which is one write behind that of the answer; a kill, a full device, a file that is cut, a pipe.
@@ -52,6 +52,8 @@ SWALLOWING = " && ".join(
         "ip neighbour add 192.0.2.1 lladdr 02:00:00:00:00:01 dev far",
     ]
 )
+# Another user, where the superuser runs this.
+USER = 54_321
 # How long a partner keeps still in a session, in seconds.
 PAUSE = 2
 # The EFPA that agrees, with its header.
@@ -522,6 +524,62 @@ def beside(room):
     expect([event["event"] for event in lines_in(path)], ["started", "submitted", "stopped"], "those of the station")
 
 
+class Shared:
+    """A folder with the program, a book, a database and a file. Where the superuser runs this, it is another user's, as is the station."""
+
+    def __init__(self, room):
+        self.room, self.book, self.file, self.program = room, room / "book.toml", room / "file", PROGRAM
+        self.how, self.users = {}, [os.geteuid()]
+        shutil.copyfile(BOOK, self.book)
+        self.file.write_bytes(b"abc")
+        subprocess.run([PROGRAM, "init", "--db", room / "database"], capture_output=True, check=True)
+        if os.geteuid() == 0:
+            self.how, self.users = {"user": USER, "group": USER, "extra_groups": []}, [0, USER]
+            self.program = room / "program"
+            # By a process of its own: another thread's child would hold the copy open for writing, and it couldn't be run meanwhile.
+            subprocess.run(["cp", PROGRAM, self.program], check=True)
+            for path in (room, *room.iterdir()):
+                os.chown(path, USER, USER)
+
+    def station(self):
+        return Resident(self.room, "--events", self.room / "events", book=self.book, program=self.program, **self.how)
+
+    def submit(self, dataset, user):
+        words = [self.program, "submit", "--db", self.room / "database", "--book", self.book, *IDENTITY[2:], "--dataset", dataset, self.file]
+        done = subprocess.run(words, capture_output=True, timeout=LONG, check=False, **(self.how if user == USER else {}))
+        expect((done.returncode, done.stderr), (0, b""), "submit")
+
+    def submit_as(self, station, dataset, name):
+        """The same by a client whose end has this name, and which then leaves it."""
+        asked = station.asked("submit", *IDENTITY[2:], "--dataset", dataset, book=self.book.read_bytes(), content=b"abc", name=self.room / name)
+        with asked:
+            rest_of(asked)
+
+    def ends(self):
+        """The names of commands' ends that are left."""
+        return sorted(path.name for path in self.room.iterdir() if "-station." in path.name)
+
+
+def whose(room):
+    """A change that a command asks for over the socket has the command's user, also the superuser at another user's station. The name of its end is
+    removed, also if the command leaves it. Of a client without such a name, or with that of another file, no user is told, and the file stays."""
+    shared = Shared(room)
+    (room / "database-station.7").write_bytes(b"")
+    with shared.station() as station:
+        for number, user in enumerate(shared.users):
+            shared.submit(f"N{number}", user)
+        expect(shared.ends(), ["database-station.7"], "the names of ends")
+        shared.submit_as(station, "LEFT", "database-station.99999999")
+        expect(shared.ends(), ["database-station.7"], "the names of ends behind one that was left")
+        for name in ("other.7", "other", "database-station.x"):
+            shared.submit_as(station, name.upper(), name)
+        subprocess.run([PROGRAM, "stop", "--db", station.database], capture_output=True, timeout=LONG, check=False)
+        station.ends()
+    expect(shared.ends(), ["database-station.7", "database-station.x"], "the names of ends at the end")
+    wanted = [None, *shared.users, os.geteuid(), None, None, None, None]
+    expect([event.get("uid") for event in lines_in(room / "events")], wanted, "the users")
+
+
 def strangers(room):
     """Callers who aren't let in: by a wrong password, by an unknown code, and one who says nothing. No line has a password."""
     path = room / "events"
@@ -608,7 +666,7 @@ def model_code(book):
 
 
 CASES = {case.__name__: case for case in (rows, writes, cut, left_cut, full_device, full_disk, lasting, at_once)}
-CASES |= {case.__name__: case for case in (commands, beside, strangers, unreached, pipe, two_stations)}
+CASES |= {case.__name__: case for case in (commands, beside, whose, strangers, unreached, pipe, two_stations)}
 SEEDED = {case.__name__: case for case in (lives, kills)}
 
 

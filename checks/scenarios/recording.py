@@ -97,6 +97,7 @@ def commands(room):
         expect(service.give("refuse", "1", "12", "no").stdout, b"refused: 3 state\n", "refuse")
         service.ends()
     expect([oct(file.stat().st_mode)[-3:] for file in (room / "record").iterdir()], ["600"], "the modes")
+    expect(list(users_in(room)), [str(os.geteuid())] * 5, "the users of the calls")
     expect_same(room, 1, 5)
     # It goes on from its end, too.
     expect_same(room, 0, 0)
@@ -449,6 +450,14 @@ def entries_of(file):
         at += 22 + count + 32
 
 
+def users_in(room):
+    """The users of the operators' calls: each is the first text of its entry, behind a number, a code and its length."""
+    for kind, content in entries_of(file_of(room)):
+        if kind == CALL:
+            (count,) = struct.unpack(">I", content[9:13])
+            yield content[13 : 13 + count].decode()
+
+
 def kinds_in(room):
     return [kind for kind, _ in entries_of(file_of(room))]
 
@@ -555,6 +564,7 @@ def parts(room):
         alone(room, "submit", *IDENTITY, "--dataset", name, room / "file")
     day, kinds = file_of(room).stem, kinds_in(room)
     expect(kinds, [OPENING, CALL, 5, MARK] * 3, "the entries")
+    expect(list(users_in(room)), [str(os.geteuid())] * 3, "the users of the calls")
 
     def part(database, *words):
         named = [PROGRAM, "replay", "--record", room / "record", "--db", room / database, "--book", BOOK, *words]

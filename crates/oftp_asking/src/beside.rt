@@ -7,7 +7,7 @@ use oftp_channel::{
 use oftp_engine::{Port, RunFault};
 use oftp_outcomes::Fault;
 use oftp_requests::{Backend, GONE};
-use oftp_sockets::SocketPlace;
+use oftp_sockets::{Connection, SocketPlace};
 use std::alloc::Global;
 use std::io::{Read, Write};
 use std::net::Shutdown;
@@ -19,24 +19,24 @@ pub struct Beside<'a> {
     rt: &'a HostRuntime,
     database: &'a str,
     // The connection for the first request.
-    stream: Option<UnixStream>,
+    connection: Option<Connection<'a>>,
 }
 
 impl<'a> Beside<'a> {
     /// The station that runs over a database, if one does.
     pub fn reached(rt: &'a HostRuntime, database: &'a str) -> Option<Beside<'a>> {
-        let stream = connected(rt, database)?;
+        let connection = connected(rt, database)?;
         Some(Beside {
             rt,
             database,
-            stream: Some(stream),
+            connection: Some(connection),
         })
     }
 
     /// A connection for one request.
-    fn connection(&mut self) -> Result<UnixStream, Fault> {
-        match self.stream.take() {
-            Some(stream) => Ok(stream),
+    fn connection(&mut self) -> Result<Connection<'a>, Fault> {
+        match self.connection.take() {
+            Some(connection) => Ok(connection),
             None => connected(self.rt, self.database).ok_or(GONE),
         }
     }
@@ -44,14 +44,23 @@ impl<'a> Beside<'a> {
 
 impl Backend for Beside<'_> {
     fn ask(&mut self, request: &Request<'_>, out: &mut impl Write) -> Result<Ending, Fault> {
-        let stream = self.connection()?;
-        exchange(self.rt, self.database, &stream, request, out)
+        let mut connection = self.connection()?;
+        if is_change(request) {
+            connection.sign();
+        }
+        exchange(self.rt, self.database, connection.stream(), request, out)
     }
 }
 
 /// A connection to the station that runs over a database, if one does.
-fn connected(rt: &HostRuntime, database: &str) -> Option<UnixStream> {
-    SocketPlace::beside(rt, database).ok()?.connect(rt).ok()
+fn connected<'a>(rt: &'a HostRuntime, database: &str) -> Option<Connection<'a>> {
+    let place = SocketPlace::beside(rt, database).ok()?;
+    Connection::open(rt, place).ok()
+}
+
+/// Whether a request asks for a change of the register. The station tells and records whose it is.
+fn is_change(request: &Request<'_>) -> bool {
+    matches!(request, Request::Operate { .. } | Request::Resend { .. })
 }
 
 /// Sends a request over a connection, and receives its answer.

@@ -12,7 +12,7 @@ use oftp_outcomes::{Fault, Outcome};
 use oftp_partners::Book;
 use oftp_requests::{Again, Backend, look_up, operate, resend};
 use oftp_store::StoreFault;
-use oftp_watching::News;
+use oftp_watching::{News, Occasion};
 use std::alloc::Global;
 use std::io::Write;
 use std::mem;
@@ -229,7 +229,7 @@ impl Own<'_, '_> {
     /// Notes the events of a request.
     fn note(&mut self) {
         if let Some(events) = &self.events {
-            events.note_all(None, events.take(), &mut self.noted);
+            events.note_all(Occasion::Command, events.take(), &mut self.noted);
         }
     }
 

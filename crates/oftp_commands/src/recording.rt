@@ -5,6 +5,7 @@ use oftp_channel::{Ending, Request};
 use oftp_command_line::VERSION;
 use oftp_contents::EndCause;
 use oftp_engine::RunFault;
+use oftp_files::own_user;
 use oftp_outcomes::Fault;
 use oftp_recording::{Recorder, Syncing};
 use oftp_register::Office;
@@ -43,7 +44,8 @@ impl<'t> Recording<'t> {
     pub(crate) fn ask(&mut self, alloc: Global, request: &Request<'_>) -> Result<(), Fault> {
         let octets = request_octets(alloc, request)?;
         self.calls = self.calls.saturating_add(1);
-        self.recorder.called(self.calls, octets.as_slice())
+        self.recorder
+            .called(self.calls, Some(own_user()), octets.as_slice())
     }
 
     /// Records the answer to the last call, unless the office failed: then nothing more is recorded, as after a kill.

@@ -16,7 +16,7 @@
 //! | opening | the salt of the passwords | 0 | the program's version | the digest of its register | its book; none of a command |
 //! | session | of the session | [`RecordSide`] | the partner's code | the partner's address | |
 //! | octets in, octets out | of the session | 0 | | | the octets |
-//! | call | of the call | 0 | | | the request |
+//! | call | of the call | 0 | the number of the user who asked, in digits; none where that isn't known | | the request |
 //! | end | of the session or the call | [`EndCause`] | its line | | |
 //! | backup | 0 | 0 | the path of the copy | the digest of its register | |
 //! | mark | 0 | [`Marked`] | the digest | | |

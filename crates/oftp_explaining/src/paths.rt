@@ -5,7 +5,7 @@ use crate::places::{
 };
 use crate::teller::system_error;
 use oftp_command_line::Line;
-use oftp_files::{is_beside_database, is_of_database};
+use oftp_files::{is_beside_database, is_of_database, own_user};
 use oftp_notes::{PathCause, SystemError};
 use std::alloc::AllocError;
 use std::fs::{self, Metadata, OpenFile, OpenOptions};
@@ -177,7 +177,7 @@ fn parent_cause(rt: &HostRuntime, path: &str) -> PathCause {
 
 /// Whether this process may write in a folder, as far as its mode says. Root may.
 fn may_write(about: &Metadata) -> bool {
-    let user = libc::geteuid();
+    let user = own_user();
     let mode = about.mode();
     let [owner, group, others] = WRITE;
     if user == 0 {

@@ -5,7 +5,7 @@ use jiff::Timestamp;
 use oftp_events::{Event, EventLine};
 use oftp_outcomes::Fault;
 use oftp_register::Office;
-use oftp_watching::{Account, Known, Moment, News, backed_up, known_in, measured};
+use oftp_watching::{Account, Known, Moment, News, Occasion, backed_up, known_in, measured};
 use std::alloc::Global;
 use std::cell::Cell;
 use std::fs::{self, File};
@@ -22,11 +22,11 @@ pub struct EventFile<'a> {
     is_cut: Cell<bool>,
 }
 
-/// What happened to a file, and when, in a session with this number if it was in one.
+/// What happened to a file, when, and in what.
 #[derive(Drop)]
 pub struct Noted {
     at: String,
-    session: Option<u64>,
+    occasion: Occasion,
     moment: Moment,
 }
 
@@ -111,18 +111,18 @@ impl<'a> EventFile<'a> {
     }
 
     /// What happened now to a file.
-    pub fn noted(&self, session: Option<u64>, moment: Moment) -> Option<Noted> {
+    pub fn noted(&self, occasion: Occasion, moment: Moment) -> Option<Noted> {
         Some(Noted {
             at: self.time()?,
-            session,
+            occasion,
             moment,
         })
     }
 
     /// Appends what happened now to files. What there is no memory for is lost.
-    pub fn note_all(&self, session: Option<u64>, moments: Vec<Moment>, noted: &mut Vec<Noted>) {
+    pub fn note_all(&self, occasion: Occasion, moments: Vec<Moment>, noted: &mut Vec<Noted>) {
         for moment in moments {
-            if let Some(one) = self.noted(session, moment)
+            if let Some(one) = self.noted(occasion, moment)
                 && noted.push(one).is_err()
             {
                 self.lose();
@@ -142,12 +142,12 @@ impl<'a> EventFile<'a> {
     pub fn tell(&self, noted: Noted, found: Found) {
         let Noted {
             at,
-            session,
+            occasion,
             moment,
         } = noted;
         let (file, units) = found;
         let alloc = self.rt.alloc();
-        match line_of(alloc, at.as_str(), session, moment, &file, units) {
+        match line_of(alloc, at.as_str(), occasion, moment, &file, units) {
             Some(line) => self.write(line),
             None => self.news.lose(),
         }
@@ -213,11 +213,11 @@ impl<'a> EventFile<'a> {
 fn line_of(
     alloc: Global,
     at: &str,
-    session: Option<u64>,
+    occasion: Occasion,
     moment: Moment,
     file: &Option<Known>,
     units: Option<u64>,
 ) -> Option<Vec<u8>> {
-    let account = Account::new(alloc, session, moment, file, units).ok()?;
+    let account = Account::new(alloc, occasion, moment, file, units).ok()?;
     account.to_line(alloc, at).ok()
 }

@@ -84,7 +84,7 @@ fn is_not_written(error: &io::Error) -> bool {
 
 /// Whether a file belongs to the user as whom the program runs.
 pub fn is_ours(about: &Metadata) -> bool {
-    about.uid() == libc::geteuid()
+    about.uid() == own_user()
 }
 
 /// Whether two files are the same, whatever their names are.
@@ -136,6 +136,11 @@ pub fn is_beside_database(rt: &HostRuntime, path: &str, database: &str) -> Resul
     };
     let socket = socket_name(rt, real.as_str(), own).map_err(|error| file_fault(&error))?;
     Ok(is_behind(name, own) || socket.as_str() == name)
+}
+
+/// The number of the user for whom this process acts.
+pub fn own_user() -> u32 {
+    libc::geteuid()
 }
 
 /// The name of the socket beside a database with this path and name, neither of which is a link's.

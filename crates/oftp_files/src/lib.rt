@@ -26,7 +26,7 @@ pub use events::{EventFile, Found, Noted, open_events};
 pub use explaining::{explain, explained};
 pub use files::{
     are_of_one_file, file_fault, is_at, is_beside_database, is_of_database, is_ours, open_at_once,
-    open_input, open_regular, socket_name,
+    open_input, open_regular, own_user, socket_name,
 };
 pub use follower::{Follower, UnderWay};
 pub use limits::LIMITS;

@@ -7,7 +7,7 @@ use std::fs::File;
 use std::io::Read;
 
 /// How many octets are read at once.
-const STEP: usize = 16_384;
+const STEP: usize = 65_536;
 
 /// What was found behind the last entry.
 #[derive(Clone, Copy, Debug, PartialEq, Eq)]

@@ -2,6 +2,7 @@
 
 use crate::days::{day_of, file_of, record_files};
 use crate::hiding::hidden;
+use crate::moments::moment_text;
 use crate::reading::{Found, RecordReader, refuse_others};
 use crate::registers::{Digest, register_digest};
 use jiff::Timestamp;
@@ -23,6 +24,9 @@ pub enum Syncing {
     /// It isn't.
     Unsynced,
 }
+
+/// The microseconds of a day.
+const DAY: u64 = 86_400_000_000;
 
 /// The fields of a content that has none.
 const NOTHING: ContentFields<'static> = ContentFields {
@@ -47,6 +51,8 @@ pub struct Recorder<'a> {
 #[derive(Drop)]
 struct Day {
     name: String,
+    // How many days after the first one of 1970 its last entry was written, as far as that is known.
+    number: Option<u64>,
     file: File,
     // That of its last entry.
     digest: Digest,
@@ -163,12 +169,13 @@ impl<'a> Recorder<'a> {
         self.sync()
     }
 
-    /// Records an operator's call that is to be made.
+    /// Records an operator's call that is to be made, and the number of the user who asks, if that is known.
     ///
     /// # Errors
     /// Those of [`Recorder::begin`].
-    pub fn called(&self, number: u64, request: &[u8]) -> Result<(), Fault> {
-        self.put(RecordKind::Call, &octets_of(number, request))
+    pub fn called(&self, number: u64, user: Option<u32>, request: &[u8]) -> Result<(), Fault> {
+        let user = user_text(self.rt, user)?;
+        self.put(RecordKind::Call, &call_of(number, user.as_str(), request))
     }
 
     /// Records how a session or an operator's call ended.
@@ -191,15 +198,27 @@ impl<'a> Recorder<'a> {
         let Ok(Some(day)) = self.day.try_replace(None) else {
             return Err(Fault::File);
         };
-        let day = self.day_now(day)?;
-        let day = day.put(self.rt, kind, fields)?;
+        let moment = moment_now(self.rt)?;
+        let day = self.day_at(day, moment)?;
+        let day = day.put(self.rt, moment, kind, fields)?;
         let _ = self.day.try_replace(Some(day));
         Ok(())
     }
 
-    /// The file of the day that it is. A day that is earlier than the last one goes on as that.
-    fn day_now(&self, day: Day) -> Result<Day, Fault> {
-        let name = day_of(self.rt, now_text(self.rt)?.as_str())?;
+    /// The file of the day of a moment. A day that is earlier than the last one goes on as that.
+    fn day_at(&self, day: Day, moment: u64) -> Result<Day, Fault> {
+        let number = Some(moment / DAY);
+        if day.number == number {
+            return Ok(day);
+        }
+        let mut day = self.turned(day, moment)?;
+        day.number = number;
+        Ok(day)
+    }
+
+    /// The file of a day, or of the day of a moment if that is a later one.
+    fn turned(&self, day: Day, moment: u64) -> Result<Day, Fault> {
+        let name = day_of(self.rt, moment_text(self.rt.alloc(), moment)?.as_str())?;
         if name.as_str() <= day.name.as_str() {
             return Ok(day);
         }
@@ -253,9 +272,17 @@ impl Day {
             return Err(Fault::File);
         }
         let digest = ChainDigest::first().0;
-        let day = Day { name, file, digest };
+        let day = Day {
+            name,
+            number: None,
+            file,
+            digest,
+        };
         match before {
-            Some(before) => day.put(rt, RecordKind::Mark, &mark_of(Marked::DayBefore, &before)),
+            Some(before) => {
+                let fields = mark_of(Marked::DayBefore, &before);
+                day.put(rt, moment_now(rt)?, RecordKind::Mark, &fields)
+            }
             None => Ok(day),
         }
     }
@@ -274,14 +301,19 @@ impl Day {
         let ended = ended_at(rt, path)?;
         file.set_len(ended.whole)
             .map_err(|error| file_fault(&error))?;
-        let digest = ended.digest;
-        Ok(Day { name, file, digest })
+        Ok(Day {
+            name,
+            number: None,
+            file,
+            digest: ended.digest,
+        })
     }
 
-    /// Appends an entry, with one write.
+    /// Appends an entry of a moment, with one write.
     fn put(
         mut self,
         rt: &HostRuntime,
+        moment: u64,
         kind: RecordKind,
         fields: &ContentFields<'_>,
     ) -> Result<Day, Fault> {
@@ -289,7 +321,7 @@ impl Day {
         let mut octets = Vec::new(rt.alloc());
         let entry = RecordEntry {
             kind,
-            moment: moment_now(rt)?,
+            moment,
             content: content.as_slice(),
         };
         let digest = append_entry(&mut octets, &entry, &ChainDigest(self.digest)).map_err(
@@ -375,11 +407,29 @@ fn sync_folder(rt: &HostRuntime, folder: &str) {
     }
 }
 
-/// The fields of what a session hears or says, or of a request.
+/// The fields of what a session hears or says.
 fn octets_of(number: u64, octets: &[u8]) -> ContentFields<'_> {
     ContentFields {
         number,
         rest: octets,
+        ..NOTHING
+    }
+}
+
+/// The number of a user in digits; empty if it isn't known.
+fn user_text(rt: &HostRuntime, user: Option<u32>) -> Result<String, Fault> {
+    match user {
+        Some(user) => Ok(format!(in rt.alloc(); "{user}")?),
+        None => Ok(String::new(rt.alloc())),
+    }
+}
+
+/// The fields of an operator's call.
+fn call_of<'f>(number: u64, user: &'f str, request: &'f [u8]) -> ContentFields<'f> {
+    ContentFields {
+        number,
+        first: user.as_bytes(),
+        rest: request,
         ..NOTHING
     }
 }

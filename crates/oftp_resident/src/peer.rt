@@ -99,6 +99,8 @@ pub(crate) struct Peer<'a> {
     is_ended: bool,
     /// What it asks for of the station itself, if it does.
     pub(crate) sought: Option<Sought>,
+    /// The number of the user whose command it is, once that makes a change, if it is known.
+    pub(crate) user: Option<u32>,
     /// The answer to its request, once that is made.
     pub(crate) answer: Option<Vec<u8>>,
     /// The partner's code, once it is known.
@@ -138,6 +140,7 @@ impl<'a> Peer<'a> {
             sent: 0,
             is_ended: false,
             sought: None,
+            user: None,
             answer: None,
             code: None,
             ended: None,

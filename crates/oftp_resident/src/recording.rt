@@ -126,7 +126,7 @@ impl Shell<'_> {
         match (self.config.recorder, self.asked_by(id)) {
             (Some(recorder), Some(asked)) => {
                 let request = asked.octets(self.rt.alloc())?;
-                recorder.called(id, request.as_slice())
+                recorder.called(id, self.user_of(id), request.as_slice())
             }
             _ => Ok(()),
         }

@@ -67,6 +67,7 @@ impl<'a> Shell<'a> {
         let rt = self.rt;
         let alloc = rt.alloc();
         let opened = home.open(rt, keeper);
+        self.know_user(id);
         self.record_call(id)?;
         let made = match peer_in(&mut self.peers, id) {
             Some(peer) => peer.change(alloc, home),
@@ -75,6 +76,22 @@ impl<'a> Shell<'a> {
         self.record_answer(id, &made)?;
         self.take_answer(id, made)?;
         self.settle_opening(opened)
+    }
+
+    /// Takes in whose command it is, if that can be known.
+    fn know_user(&mut self, id: u64) {
+        let rt = self.rt;
+        if let Some(place) = self.config.place
+            && let Some(peer) = peer_in(&mut self.peers, id)
+            && let Some(name) = peer.stream.name()
+        {
+            peer.user = place.user_of(rt, &name);
+        }
+    }
+
+    /// The user whose command it is, if that is known.
+    pub(crate) fn user_of(&self, id: u64) -> Option<u32> {
+        self.peers.iter().find(|peer| peer.id == id)?.user
     }
 
     /// What a command asks of the station itself, if it does.

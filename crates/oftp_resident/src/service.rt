@@ -20,7 +20,7 @@ use oftp_schedule::connection::{Action, Counted, Event, Limits, Signal, Status};
 use oftp_schedule::durations::{millis, wait_of};
 use oftp_schedule::schedule::Schedule;
 use oftp_schedule::sizes::SIZES;
-use oftp_sockets::{Keeper, Reporter, Station, socket_fault};
+use oftp_sockets::{Keeper, Reporter, SocketPlace, Station, socket_fault};
 use oftp_status::Tallies;
 use std::alloc::Global;
 use std::io;
@@ -59,6 +59,8 @@ pub struct ServiceConfig<'a> {
     pub partners: Option<&'a TcpListener>,
     /// The listener for commands, if there is one.
     pub commands: Option<&'a UnixListener>,
+    /// Where that is, beside the database.
+    pub place: Option<&'a SocketPlace>,
     /// The listener for HTTP, if there is one.
     pub requests: Option<&'a TcpListener>,
     /// What requests over HTTP are answered.

@@ -2,8 +2,8 @@
 
 use std::io::{self, ErrorKind, Read, Write};
 use std::net::{IpAddr, Shutdown, SocketAddr, TcpStream};
-use std::os::fd::{AsRawFd, OwnedFd, RawFd};
-use std::os::unix::net::UnixStream;
+use std::os::fd::{AsFd, AsRawFd, OwnedFd, RawFd};
+use std::os::unix::net::{self as unix, UnixStream};
 
 /// The socket of a connection, if it has one. The system's calls are the same for each kind of stream, so a command's socket is held as one of
 /// the internet.
@@ -85,6 +85,12 @@ impl Stream {
     /// The address and the port at the other end.
     pub(crate) fn peer_address(&self) -> Option<SocketAddr> {
         self.socket().ok()?.peer_addr().ok()
+    }
+
+    /// The name of a command's end.
+    pub(crate) fn name(&self) -> Option<unix::SocketAddr> {
+        let again = self.socket().ok()?.as_fd().try_clone_to_owned().ok()?;
+        UnixStream::from(again).peer_addr().ok()
     }
 
     /// Its descriptor.

@@ -12,7 +12,7 @@ use oftp_progress::Extent;
 use oftp_register::Office;
 use oftp_schedule::connection::Action;
 use oftp_sockets::Keeper;
-use oftp_watching::{Cause, Dismissal, Farewell, Moment, Talk, not_let_in, not_reached};
+use oftp_watching::{Cause, Dismissal, Farewell, Moment, Occasion, Talk, not_let_in, not_reached};
 use std::alloc::Global;
 use std::mem;
 
@@ -52,8 +52,18 @@ impl Shell<'_> {
             _ => None,
         };
         let (session, others) = self.noticed(id, moments.as_slice(), progress);
-        self.note_all(events, session, moments);
-        self.note_all(events, session, others);
+        let occasion = self.occasion_of(action, session);
+        self.note_all(events, occasion, moments);
+        self.note_all(events, occasion, others);
+    }
+
+    /// In what an action was done: in a session, if it has one, or for a command.
+    fn occasion_of(&self, action: Action, session: Option<u64>) -> Occasion {
+        match (session, action) {
+            (Some(number), _) => Occasion::Session(number),
+            (None, Action::Change(id)) => Occasion::of_command(self.user_of(id)),
+            (None, _) => Occasion::Command,
+        }
     }
 
     /// Takes in what changes of a session told, if there is one, as [`Peer::noticed`] does.
@@ -73,9 +83,9 @@ impl Shell<'_> {
     }
 
     /// Notes what happened to files.
-    fn note_all(&mut self, events: &EventFile<'_>, session: Option<u64>, moments: Vec<Moment>) {
+    fn note_all(&mut self, events: &EventFile<'_>, occasion: Occasion, moments: Vec<Moment>) {
         for moment in moments {
-            if let Some(noted) = events.noted(session, moment) {
+            if let Some(noted) = events.noted(occasion, moment) {
                 self.wait_with(events, Waiting::OfFile(noted));
             }
         }

@@ -105,6 +105,7 @@ fn run_over(
     let config = ServiceConfig {
         partners: Some(&partners),
         commands: Some(&commands),
+        place: Some(&place),
         requests: requests.as_ref(),
         site: Site::Page(text_of(&host)),
         places: u64::MAX,

@@ -71,6 +71,7 @@ fn idle_config<'a>(jobs: u64) -> ServiceConfig<'a> {
     ServiceConfig {
         partners: None,
         commands: None,
+        place: None,
         requests: None,
         site: Site::Register,
         places: 0,

@@ -2,12 +2,14 @@
 #![tactic(auto)]
 
 mod addresses;
+mod connection;
 mod place;
 mod ports;
 mod station;
 mod talking;
 
 pub use addresses::{bound, is_short, passes, socket_fault};
+pub use connection::Connection;
 pub use place::SocketPlace;
 pub use ports::ports_of;
 pub use station::{Keeper, Reporter, Station};

@@ -9,7 +9,7 @@ use std::os::unix::fs::FileTypeExt;
 use std::os::unix::net::{SocketAddr, UnixListener, UnixStream};
 
 /// The mode of the socket's file: whoever may write it may connect.
-const MODE: u32 = 0o600;
+pub(crate) const MODE: u32 = 0o600;
 
 /// As many connections may wait to be accepted as the system allows.
 const BACKLOG: i32 = -1;
@@ -66,6 +66,11 @@ impl SocketPlace {
         UnixStream::connect(rt, self.path.as_str())
     }
 
+    /// The path of the name with this number, which a command's end may have.
+    pub(crate) fn path_of_end(&self, rt: &HostRuntime, number: u32) -> io::Result<String> {
+        Ok(format!(in rt.alloc(); "{}.{number}", self.path)?)
+    }
+
     /// Removes the socket's file. Another file with its name stays.
     ///
     /// # Errors
@@ -80,7 +85,7 @@ impl SocketPlace {
 }
 
 /// The system's error, if a C function returned a negative number.
-fn checked(status: i32) -> io::Result<()> {
+pub(crate) fn checked(status: i32) -> io::Result<()> {
     if status < 0 {
         Err(io::Error::from_raw_os_error(os::errno()))
     } else {

@@ -2,4 +2,4 @@
 
 /// The SHA-256 of the sources, but of this file, as `checks/lint/version.py` computes it.
 pub const SOURCES: &str =
-    "sources 3797ca11350733e8ed3199c648d4f949aabbcadb42a2f6743cd4d5ccf28ead88";
+    "sources 20e4ada114ee8da28d6e515a9cf4bbf9fdfe05fbc8a9d3b598e573b68111d996";

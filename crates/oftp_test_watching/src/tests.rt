@@ -6,8 +6,8 @@ use oftp_register::{
 };
 use oftp_vfile::{Format, Limits, Row, Rows};
 use oftp_watching::{
-    Account, Answer, Cause, Dismissal, Farewell, Following, Moment, News, Speaker, Subject, Talk,
-    Watched, backed_up, known_in, measured, not_let_in, not_reached,
+    Account, Answer, Cause, Dismissal, Farewell, Following, Moment, News, Occasion, Speaker,
+    Subject, Talk, Watched, backed_up, known_in, measured, not_let_in, not_reached,
 };
 use oftp_wire::{Command, Count, Digits, Efid, Efna, Efpa, Layout, Sfid, Sfna, Sfpa, Text, X};
 use std::alloc::Global;
@@ -79,7 +79,7 @@ fn submit(alloc: Global) -> Result<Change<'static>, OfficeFault> {
 fn line_of<O: Office>(
     alloc: Global,
     office: &mut O,
-    session: Option<u64>,
+    occasion: Occasion,
     moment: Moment,
 ) -> Result<Vec<u8>, OfficeFault> {
     let known = known_in(office, &moment.subject)?;
@@ -87,7 +87,7 @@ fn line_of<O: Office>(
         Some(file) => measured(office, moment.event, file)?,
         None => None,
     };
-    let account = Account::new(alloc, session, moment, &known, units)?;
+    let account = Account::new(alloc, occasion, moment, &known, units)?;
     Ok(account.to_line(alloc, AT)?)
 }
 
@@ -102,7 +102,7 @@ fn tells(
     let moments = news.take(alloc);
     assert_eq!(rt; moments.len(), lines.len());
     for (moment, line) in moments.into_iter().zip(lines.iter()) {
-        let told = line_of(alloc, office, Some(3), moment)?;
+        let told = line_of(alloc, office, Occasion::Session(3), moment)?;
         assert!(rt; told.as_slice() == line.as_bytes());
     }
     Ok(())
@@ -157,7 +157,7 @@ fn file_that_comes(rt: HostRuntime) -> Result<(), OfficeFault> {
     assert_eq!(&rt; moments.len(), 2);
     for moment in moments {
         let is_last = moment.event == Event::Came;
-        let told = line_of(alloc, &mut office, Some(3), moment)?;
+        let told = line_of(alloc, &mut office, Occasion::Session(3), moment)?;
         assert!(&rt; told.as_slice() == (if is_last { came } else { COMES[0] }).as_bytes());
     }
     office.commit(Change::Issue {
@@ -189,6 +189,31 @@ fn file_that_goes(rt: HostRuntime) -> Result<(), OfficeFault> {
     assert_eq!(&rt; news.lost(), 0);
     news.lose();
     assert_eq!(&rt; news.lost(), 1);
+    Ok(())
+}
+
+// A command that came over the station's socket: its line ends with its user.
+#[test]
+fn file_of_a_user(rt: HostRuntime) -> Result<(), OfficeFault> {
+    let alloc = rt.alloc();
+    let news = News::new(alloc);
+    let office = PlainOffice::new(alloc, LIMITS);
+    let mut office = Watched::new(alloc, office, Some(&news));
+    office.commit(submit(alloc)?)?;
+    let Some(moment) = news.take(alloc).pop() else {
+        return Err(BAD);
+    };
+    let line = line_of(
+        alloc,
+        &mut office,
+        Occasion::of_command(Some(1_000)),
+        moment,
+    )?;
+    let wanted =
+        "{\"at\":\"2026-11-29T07:26:46.000123Z\",\"event\":\"submitted\",\"partner\":\"O1\",\"way\":\"out\",\"no\":1,\
+         \"dataset\":\"B\",\"date\":\"20240131\",\"time\":\"1015300001\",\"originator\":\"O2\",\"destination\":\"O1\",\
+         \"format\":\"U\",\"rows\":1,\"units\":2,\"uid\":1000}\n";
+    assert!(&rt; line.as_slice() == wanted.as_bytes());
     Ok(())
 }
 
@@ -245,7 +270,7 @@ fn refused_by_the_station(rt: HostRuntime) -> Result<(), OfficeFault> {
     assert_eq!(&rt; moment.event, Event::RefusedFile);
     assert!(&rt; matches!(moment.answer, Some(Answer::Sfna(_))));
     let mut office = PlainOffice::new(rt.alloc(), LIMITS);
-    let line = line_of(rt.alloc(), &mut office, None, moment)?;
+    let line = line_of(rt.alloc(), &mut office, Occasion::of_command(None), moment)?;
     let wanted =
         "{\"at\":\"2026-11-29T07:26:46.000123Z\",\"event\":\"refused file\",\"partner\":\"O1\",\"way\":\"in\",\"dataset\":\"A\",\
          \"date\":\"20240131\",\"time\":\"1015300001\",\"originator\":\"O1\",\"destination\":\"O2\",\"reason\":\"13\",\

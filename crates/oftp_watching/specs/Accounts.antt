@@ -17,6 +17,7 @@ use Rattle.oftp_events.specs.declared.direction.Direction.{Direction}
 use Rattle.oftp_events.specs.declared.direction.Direction.TheVariants.{In, Out}
 use Rattle.oftp_events.specs.declared.event.Event.{Event}
 use Rattle.oftp_events.specs.declared.event.Event.TheVariants as event
+use Rattle.oftp_watching.specs.Occasions.{session_of, user_of}
 use Rattle.oftp_watching.specs.Answers.{answer_reason, answer_text, answer_words, kind_text, response_answer}
 use Rattle.oftp_watching.specs.declared.account.Account.{Account}
 use Rattle.oftp_watching.specs.declared.answer.Answer.{Answer}
@@ -24,6 +25,7 @@ use Rattle.oftp_watching.specs.declared.known.Known.{Known}
 use Rattle.oftp_watching.specs.declared.known.Known.TheVariants as known
 use Rattle.oftp_watching.specs.declared.moment.Moment.{Moment}
 use Rattle.oftp_watching.specs.declared.moment.Subject.{Subject}
+use Rattle.oftp_watching.specs.declared.occasion.Occasion.{Occasion}
 use Rattle.oftp_watching.specs.declared.moment.Subject.TheVariants.{Numbered, Named, Offered}
 
 -- ---- what is known of the file
@@ -78,10 +80,10 @@ abbrev pub answer_known : Event → Option Answer → Option Known → Option An
 answer_known event.ResponseSent noted (Some (known.Incoming e)) = response_or noted e.response
 answer_known _ noted _ = noted
 
--- what was noted, in a session with this number, of a file of which the register has so much
-abbrev pub account_of : Option ℕ → Moment → Option Known → Option ℕ → Account
-account_of session moment found units = record {
-  session = session;
+-- what was noted on an occasion, of a file of which the register has so much
+abbrev pub account_of : Occasion → Moment → Option Known → Option ℕ → Account
+account_of occasion moment found units = record {
+  occasion = occasion;
   event = moment.event;
   side = side_of moment.subject;
   no = number_known moment.subject found;
@@ -122,7 +124,7 @@ abbrev pub account_members : List ℕ → Option (List ℕ) → Account → List
 account_members at reason a =
     (codes "at", Some (string at))
     ∷ (codes "event", Some (string (event_text a.event)))
-    ∷ (codes "session", number_data a.session)
+    ∷ (codes "session", number_data (session_of a.occasion))
     ∷ (codes "partner", text_value (partner_told a))
     ∷ (codes "way", Some (string (direction_text (way_of a.side))))
     ∷ (codes "peer", None)
@@ -144,7 +146,7 @@ account_members at reason a =
     ∷ (codes "octets_in", None)
     ∷ (codes "octets_out", None)
     ∷ (codes "seconds", None)
-    ∷ (codes "uid", None)
+    ∷ (codes "uid", number_data (user_of a.occasion))
     ∷ (codes "end", None)
     ∷ []
 

@@ -4,4 +4,5 @@ pub mod Followed
 pub mod Knowns
 pub mod Moments
 pub mod Notices
+pub mod Occasions
 pub mod Talks

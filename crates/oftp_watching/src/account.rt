@@ -9,6 +9,7 @@ ghost use Rattle.oftp_watching.specs.Answers.{answer_reason, answer_text, answer
 use crate::answer::{Answer, response_answer};
 use crate::known::Known;
 use crate::moment::{Moment, Subject};
+use crate::occasion::Occasion;
 use oftp_events::{Direction, Event, EventLine};
 use oftp_register::{DigitString, Identity, IncomingState, Name, Side};
 use oftp_vfile::Format;
@@ -18,7 +19,7 @@ use std::alloc::{AllocError, Global};
 /// All that is told of what happened to a file.
 #[derive(Drop)]
 pub struct Account {
-    session: Option<u64>,
+    occasion: Occasion,
     event: Event,
     side: Side,
     no: Option<u64>,
@@ -180,19 +181,19 @@ fn lent(text: &Option<String>) -> Option<&str>
 }
 
 impl Account {
-    /// The account of what was noted of a file of which the register has so much. It was noted in a session with this number, if it was in one.
+    /// The account of what was noted of a file of which the register has so much, and in what that was.
     ///
     /// # Errors
     ///
     /// Out of memory.
     pub fn new(
         alloc: Global,
-        session: Option<u64>,
+        occasion: Occasion,
         moment: Moment,
         known: &Option<Known>,
         units: Option<u64>,
     ) -> Result<Account, AllocError>
-        ensures { IfOk result (λ account. account ≡ account_of session moment known.now units) }
+        ensures { IfOk result (λ account. account ≡ account_of occasion moment known.now units) }
     {
         let Moment {
             event,
@@ -202,7 +203,7 @@ impl Account {
             answer,
         } = moment;
         Ok(Account {
-            session,
+            occasion,
             event,
             side: side_of(&subject),
             no: number_known(&subject, known),
@@ -292,7 +293,7 @@ impl Account {
         ensures { line_members result ≡ account_members at.entry.now (option_map string_bytes reason.now) self.now }
     {
         EventLine {
-            session: self.session,
+            session: self.occasion.session(),
             partner: self.partner(),
             way: Some(way_of(self.side)),
             no: self.no,
@@ -308,6 +309,7 @@ impl Account {
             reason: lent(reason),
             words: self.words(),
             text: self.text(),
+            uid: self.occasion.user(),
             ..EventLine::new(at, self.event)
         }
     }

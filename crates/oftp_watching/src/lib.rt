@@ -10,6 +10,7 @@ mod known;
 mod moment;
 mod news;
 mod notices;
+mod occasion;
 mod talk;
 mod watched;
 
@@ -21,5 +22,6 @@ pub use known::{Known, known_in, measured};
 pub use moment::{Moment, Subject, moment_of};
 pub use news::News;
 pub use notices::{Dismissal, backed_up, not_let_in, not_reached};
+pub use occasion::Occasion;
 pub use talk::{Farewell, Talk};
 pub use watched::Watched;

@@ -1,0 +1,100 @@
+//! A command's connection to the station, and the name of its end. By the owner of that name's file the station knows who asks.
+
+use crate::place::{MODE, SocketPlace, checked};
+use std::fs::{self, Files};
+use std::io;
+use std::os::fd::{AsFd, AsRawFd};
+use std::os::unix::fs::{FileTypeExt, MetadataExt};
+use std::os::unix::net::{SocketAddr, UnixStream};
+
+/// A connection to the station that listens at a place.
+pub struct Connection<'a> {
+    rt: &'a HostRuntime,
+    place: SocketPlace,
+    stream: UnixStream,
+    // The number of its name, once it has one.
+    number: Option<u32>,
+}
+
+impl Drop for Connection<'_> {
+    fn drop(self) {
+        let Connection {
+            rt,
+            place,
+            stream: _stream,
+            number,
+        } = self;
+        if let Some(number) = number {
+            place.forget(rt, number);
+        }
+    }
+}
+
+impl<'a> Connection<'a> {
+    /// Connects to the station that listens at a place.
+    ///
+    /// # Errors
+    /// No process listens there, or this one may not connect.
+    pub fn open(rt: &'a HostRuntime, place: SocketPlace) -> io::Result<Connection<'a>> {
+        let stream = place.connect(rt)?;
+        Ok(Connection {
+            rt,
+            place,
+            stream,
+            number: None,
+        })
+    }
+
+    /// Gives this end a name until the connection is let go of, by which the station knows who asks. If none can be given, it isn't known.
+    pub fn sign(&mut self) {
+        let number = libc::getpid().unsigned_abs();
+        if self.place.sign(self.rt, &self.stream, number).is_ok() {
+            self.number = Some(number);
+        }
+    }
+
+    /// Its socket.
+    pub fn stream(&self) -> &UnixStream {
+        &self.stream
+    }
+}
+
+impl SocketPlace {
+    /// Gives a command's end of a connection the name with this number. One that a killed process left is replaced.
+    fn sign(&self, rt: &HostRuntime, stream: &UnixStream, number: u32) -> io::Result<()> {
+        let path = self.path_of_end(rt, number)?;
+        let address = SocketAddr::from_pathname(path.as_str())?;
+        checked(libc::fchmod(stream.as_raw_fd(), MODE))?;
+        self.forget(rt, number);
+        rt.bind_unix(stream.as_fd(), &address)
+    }
+
+    /// Removes the name with this number, if it is a socket's.
+    fn forget(&self, rt: &HostRuntime, number: u32) {
+        if let Ok(path) = self.path_of_end(rt, number)
+            && let Ok(found) = fs::symlink_metadata(rt, path.as_str())
+            && found.file_type().is_socket()
+        {
+            let _ = fs::remove_file(rt, path.as_str());
+        }
+    }
+
+    /// The user whose command's end has this address, and removes its name. `None` if it has no name, or another one.
+    pub fn user_of(&self, rt: &HostRuntime, address: &SocketAddr) -> Option<u32> {
+        let name = address.as_pathname()?;
+        let number = number_of_end(name.as_str())?;
+        let path = self.path_of_end(rt, number).ok()?;
+        let found = fs::symlink_metadata(rt, path.as_str()).ok()?;
+        if !found.file_type().is_socket() {
+            return None;
+        }
+        let _ = fs::remove_file(rt, path.as_str());
+        Some(found.uid())
+    }
+}
+
+/// The number behind the last point of a name.
+fn number_of_end(name: &str) -> Option<u32> {
+    let (_, digits) = name.rsplit_once('.')?;
+    digits.parse::<u32>().ok()
+}
