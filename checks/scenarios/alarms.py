@@ -86,9 +86,29 @@ def rules_ask_for_metrics_that_exist():
     expect(sorted(asked - told()), [], "the rules' metrics that the station doesn't tell")
 
 
+def panels_of_dashboard():
+    return json.loads(DASHBOARD.read_text())["panels"]
+
+
+def asked_by(panels):
+    """The expressions of panels."""
+    return [target["expr"] for panel in panels for target in panel["targets"]]
+
+
+def dashboard_asks_in_the_language_of_prometheus():
+    """Each expression is accepted as that of a rule, and one with a bracket too many isn't."""
+    expressions = asked_by(panels_of_dashboard())
+    for number, expression in enumerate([*expressions, f"{expressions[0]})"]):
+        with tempfile.TemporaryDirectory() as folder:
+            rules = {"groups": [{"name": "asked", "rules": [{"record": "asked", "expr": expression}]}]}
+            (Path(folder) / "rules.yml").write_text(json.dumps(rules))
+            done = promtool("check", "rules", "rules.yml", folder=folder)
+            expect(done.returncode == 0, number < len(expressions), f"{expression}: {done.stdout}{done.stderr}")
+
+
 def dashboard_asks_for_metrics_that_exist():
-    panels = json.loads(DASHBOARD.read_text())["panels"]
-    expressions = [target["expr"] for panel in panels for target in panel["targets"]]
+    panels = panels_of_dashboard()
+    expressions = asked_by(panels)
     asked = {metric for expression in expressions for metric in METRIC.findall(expression)}
     expect(sorted(asked - told()), [], "the dashboard's metrics that the station doesn't tell")
     expect(len({panel["id"] for panel in panels}), len(panels), "how many panels have a number of their own")
@@ -231,6 +251,7 @@ CASES = [
     a_limit_that_is_lower_fails,
     rules_ask_for_metrics_that_exist,
     dashboard_asks_for_metrics_that_exist,
+    dashboard_asks_in_the_language_of_prometheus,
     each_change_is_mailed,
     metrics_are_written_to_a_file,
     units_are_confined,
