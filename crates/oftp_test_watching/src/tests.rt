@@ -278,6 +278,7 @@ fn refused_by_the_station(rt: HostRuntime) -> Result<(), OfficeFault> {
     assert!(&rt; line.as_slice() == wanted.as_bytes());
     let _ = following.hear(Speaker::Partner, &offer()?);
     let _ = following.hear(Speaker::Station, &acceptance());
+    let _ = following.hear(Speaker::Partner, &end_of_file());
     let Some(moment) = following.hear(Speaker::Station, &end_refusal()?) else {
         return Err(BAD);
     };
@@ -286,7 +287,20 @@ fn refused_by_the_station(rt: HostRuntime) -> Result<(), OfficeFault> {
     Ok(())
 }
 
-// A file that the partner has accepted is broken off, until EFPA has come. What the partner refuses is no event of these.
+fn end_of_file() -> Command<'static> {
+    Command::Efid(Efid {
+        records: Count::new(0),
+        units: Count::new(2),
+    })
+}
+
+fn end_acceptance() -> Command<'static> {
+    Command::Efpa(Efpa {
+        change_direction: false,
+    })
+}
+
+// A file that the partner has accepted is broken off, until EFPA has come behind EFID. What the partner refuses is no event of these.
 #[test]
 fn broken_off(rt: HostRuntime) -> Result<(), OfficeFault> {
     let mut following = Following::Idle;
@@ -294,22 +308,32 @@ fn broken_off(rt: HostRuntime) -> Result<(), OfficeFault> {
     assert!(&rt; following.hear(Speaker::Partner, &refusal()?).is_none());
     let _ = following.hear(Speaker::Station, &offer()?);
     let _ = following.hear(Speaker::Partner, &acceptance());
-    let ends = Command::Efid(Efid {
-        records: Count::new(0),
-        units: Count::new(2),
-    });
-    let _ = following.hear(Speaker::Station, &ends);
+    let _ = following.hear(Speaker::Station, &end_of_file());
     let Some(moment) = following.end() else {
         return Err(BAD);
     };
     assert_eq!(&rt; moment.event, Event::BrokenOff);
     assert!(&rt; matches!(moment.subject, Subject::Named(Side::Outgoing, _)));
-    let mut following = Following::Going(Side::Outgoing, file(b"B", Side::Outgoing)?);
-    let through = Command::Efpa(Efpa {
-        change_direction: false,
-    });
-    assert!(&rt; following.hear(Speaker::Partner, &through).is_none());
+    let mut following = Following::Closing(Side::Outgoing, file(b"B", Side::Outgoing)?);
+    assert!(&rt;
+        following
+            .hear(Speaker::Partner, &end_acceptance())
+            .is_none()
+    );
     assert!(&rt; following.end().is_none());
+    Ok(())
+}
+
+// An EFPA before EFID is out of its place: the file is broken off.
+#[test]
+fn answered_too_early(rt: HostRuntime) -> Result<(), OfficeFault> {
+    let mut following = Following::Going(Side::Outgoing, file(b"B", Side::Outgoing)?);
+    assert!(&rt;
+        following
+            .hear(Speaker::Partner, &end_acceptance())
+            .is_none()
+    );
+    assert!(&rt; following.end().is_some());
     Ok(())
 }
 

@@ -21,8 +21,8 @@ use Rattle.oftp_watching.specs.declared.moment.Subject.TheVariants.{Named, Offer
 abbrev pub identity_of : Sfid → Identity
 identity_of sfid = record { dataset = sfid.dataset; date = sfid.date; time = sfid.time; originator = sfid.originator; destination = sfid.destination }
 
--- the file after a command: SFID offers it, SFPA accepts it, SFNA, EFPA and EFNA end its way. The station answers files that come, the partner
--- those that go.
+-- the file after a command: SFID offers it, SFPA accepts it, EFID tells its end; SFNA before that, and EFPA and EFNA behind it, end its way. The
+-- station answers files that come, the partner those that go. An answer out of its place changes nothing.
 abbrev pub followed : Following → Speaker → Command → Following
 followed f Partner (command.Sfid sfid) = following.Offered Incoming (identity_of sfid)
 followed f Station (command.Sfid sfid) = following.Offered Outgoing (identity_of sfid)
@@ -30,10 +30,12 @@ followed (following.Offered Incoming i) Station (command.Sfpa sfpa) = following.
 followed (following.Offered Outgoing i) Partner (command.Sfpa sfpa) = following.Going Outgoing i
 followed (following.Offered Incoming i) Station (command.Sfna sfna) = following.Idle
 followed (following.Offered Outgoing i) Partner (command.Sfna sfna) = following.Idle
-followed (following.Going Incoming i) Station (command.Efpa efpa) = following.Idle
-followed (following.Going Outgoing i) Partner (command.Efpa efpa) = following.Idle
-followed (following.Going Incoming i) Station (command.Efna efna) = following.Idle
-followed (following.Going Outgoing i) Partner (command.Efna efna) = following.Idle
+followed (following.Going Incoming i) Partner (command.Efid efid) = following.Closing Incoming i
+followed (following.Going Outgoing i) Station (command.Efid efid) = following.Closing Outgoing i
+followed (following.Closing Incoming i) Station (command.Efpa efpa) = following.Idle
+followed (following.Closing Outgoing i) Partner (command.Efpa efpa) = following.Idle
+followed (following.Closing Incoming i) Station (command.Efna efna) = following.Idle
+followed (following.Closing Outgoing i) Partner (command.Efna efna) = following.Idle
 followed f _ _ = f
 
 -- what happened to a file without a change of the register
@@ -43,10 +45,11 @@ unchanged event subject answer = record { event = event; subject = subject; form
 -- what a command tells: that the station refuses a file, or its end. What the partner refuses is a change of the register.
 abbrev pub told_of : Following → Speaker → Command → Option Moment
 told_of (following.Offered Incoming i) Station (command.Sfna sfna) = Some (unchanged RefusedFile (Offered i) (Some (Sfna sfna.reason)))
-told_of (following.Going Incoming i) Station (command.Efna efna) = Some (unchanged RefusedEnd (Named Incoming i) (Some (Efna efna.reason)))
+told_of (following.Closing Incoming i) Station (command.Efna efna) = Some (unchanged RefusedEnd (Named Incoming i) (Some (Efna efna.reason)))
 told_of _ _ _ = None
 
 -- what the end of the session tells: a file that was accepted isn't through
 abbrev pub broken_off : Following → Option Moment
 broken_off (following.Going which i) = Some (unchanged BrokenOff (Named which i) None)
+broken_off (following.Closing which i) = Some (unchanged BrokenOff (Named which i) None)
 broken_off _ = None

@@ -28,6 +28,8 @@ pub enum Following {
     Offered(Side, Identity),
     /// It was accepted.
     Going(Side, Identity),
+    /// Its end was told, and isn't answered yet.
+    Closing(Side, Identity),
 }
 
 // The identity of an offered file.
@@ -91,22 +93,28 @@ impl Following {
                 let moment = unchanged(Event::RefusedFile, Subject::Offered(i), Some(answer));
                 (Following::Idle, Some(moment))
             }
-            (Following::Going(Side::Incoming, i), Speaker::Station, Command::Efna(efna)) => {
+            (Following::Going(Side::Incoming, i), Speaker::Partner, Command::Efid(_)) => {
+                (Following::Closing(Side::Incoming, i), None)
+            }
+            (Following::Going(Side::Outgoing, i), Speaker::Station, Command::Efid(_)) => {
+                (Following::Closing(Side::Outgoing, i), None)
+            }
+            (Following::Closing(Side::Incoming, i), Speaker::Station, Command::Efna(efna)) => {
                 let answer = Answer::Efna(efna.reason);
                 let file = Subject::Named(Side::Incoming, i);
                 let moment = unchanged(Event::RefusedEnd, file, Some(answer));
                 (Following::Idle, Some(moment))
             }
-            (Following::Going(Side::Incoming, _), Speaker::Station, Command::Efpa(_)) => {
+            (Following::Closing(Side::Incoming, _), Speaker::Station, Command::Efpa(_)) => {
                 (Following::Idle, None)
             }
             (Following::Offered(Side::Outgoing, _), Speaker::Partner, Command::Sfna(_)) => {
                 (Following::Idle, None)
             }
-            (Following::Going(Side::Outgoing, _), Speaker::Partner, Command::Efpa(_)) => {
+            (Following::Closing(Side::Outgoing, _), Speaker::Partner, Command::Efpa(_)) => {
                 (Following::Idle, None)
             }
-            (Following::Going(Side::Outgoing, _), Speaker::Partner, Command::Efna(_)) => {
+            (Following::Closing(Side::Outgoing, _), Speaker::Partner, Command::Efna(_)) => {
                 (Following::Idle, None)
             }
             (before, _, _) => (before, None),
@@ -118,7 +126,7 @@ impl Following {
         ensures { result ≡ broken_off self }
     {
         match self {
-            Following::Going(side, identity) => {
+            Following::Going(side, identity) | Following::Closing(side, identity) => {
                 let file = Subject::Named(side, identity);
                 Some(unchanged(Event::BrokenOff, file, None))
             }
