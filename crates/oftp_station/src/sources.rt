@@ -2,4 +2,4 @@
 
 /// The SHA-256 of the sources, but of this file, as `checks/lint/version.py` computes it.
 pub const SOURCES: &str =
-    "sources 38d1163c276f711f15d29ac73b938053a760b273efcfdbab4fefc76fb5bfa237";
+    "sources de63ecceda1c79ce3aefcad165457df7f1fdfa91bad26978e33c69e8e6227291";

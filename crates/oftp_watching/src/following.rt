@@ -105,16 +105,10 @@ impl Following {
                 let moment = unchanged(Event::RefusedEnd, file, Some(answer));
                 (Following::Idle, Some(moment))
             }
-            (Following::Closing(Side::Incoming, _), Speaker::Station, Command::Efpa(_)) => {
-                (Following::Idle, None)
-            }
-            (Following::Offered(Side::Outgoing, _), Speaker::Partner, Command::Sfna(_)) => {
-                (Following::Idle, None)
-            }
-            (Following::Closing(Side::Outgoing, _), Speaker::Partner, Command::Efpa(_)) => {
-                (Following::Idle, None)
-            }
-            (Following::Closing(Side::Outgoing, _), Speaker::Partner, Command::Efna(_)) => {
+            (Following::Closing(Side::Incoming, _), Speaker::Station, Command::Efpa(_))
+            | (Following::Offered(Side::Outgoing, _), Speaker::Partner, Command::Sfna(_))
+            | (Following::Closing(Side::Outgoing, _), Speaker::Partner, Command::Efpa(_))
+            | (Following::Closing(Side::Outgoing, _), Speaker::Partner, Command::Efna(_)) => {
                 (Following::Idle, None)
             }
             (before, _, _) => (before, None),
