@@ -38,7 +38,7 @@ import row_files
 import told
 from pairs import book_of
 from program import PROGRAM
-from services import BOOK, CARMAKER, LONG, NotTried, Resident, Service, Wrong, expect, free_port, rest_of
+from services import BOOK, CARMAKER, LONG, READY, NotTried, Resident, Service, Wrong, expect, free_port, rest_of
 
 LIVES, MOST_LIVES, ACTS = 40, 400, 12
 IDENTITY = ["--dataset", "INV.1", "--date", "20240201", "--time", "0800000001", "--to", CARMAKER, "--format", "U"]
@@ -557,25 +557,31 @@ class Shared:
 
     def ends(self):
         """The names of commands' ends that are left."""
-        return sorted(path.name for path in self.room.iterdir() if "-station." in path.name)
+        return sorted(path.name for path in self.room.iterdir() if path.name.startswith(".oftp_command_"))
 
 
 def whose(room):
     """A change that a command asks for over the socket has the command's user, also the superuser at another user's station. The name of its end is
-    removed, also if the command leaves it. Of a client without such a name, or with that of another file, no user is told, and the file stays."""
+    removed, also if the command leaves it, or was killed before it asked. Of a client without such a name, or with that of another file, no user is told, and the file stays."""
     shared = Shared(room)
-    (room / "database-station.7").write_bytes(b"")
+    (room / ".oftp_command_7").write_bytes(b"")
     with shared.station() as station:
         for number, user in enumerate(shared.users):
             shared.submit(f"N{number}", user)
-        expect(shared.ends(), ["database-station.7"], "the names of ends")
-        shared.submit_as(station, "LEFT", "database-station.99999999")
-        expect(shared.ends(), ["database-station.7"], "the names of ends behind one that was left")
-        for name in ("other.7", "other", "database-station.x"):
+        expect(shared.ends(), [".oftp_command_7"], "the names of ends")
+        shared.submit_as(station, "LEFT", ".oftp_command_99999999")
+        expect(shared.ends(), [".oftp_command_7"], "the names of ends behind one that was left")
+        with station.client(room / ".oftp_command_8") as killed:
+            expect(killed.recv(1), READY, "the first octet to a command")
+        until = time.monotonic() + LONG
+        while len(shared.ends()) > 1 and time.monotonic() < until:
+            time.sleep(0.02)
+        expect(shared.ends(), [".oftp_command_7"], "the names of ends behind a command that asked nothing")
+        for name in ("other_7", "other", ".oftp_command_x"):
             shared.submit_as(station, name.upper(), name)
         subprocess.run([PROGRAM, "stop", "--db", station.database], capture_output=True, timeout=LONG, check=False)
         station.ends()
-    expect(shared.ends(), ["database-station.7", "database-station.x"], "the names of ends at the end")
+    expect(shared.ends(), [".oftp_command_7", ".oftp_command_x"], "the names of ends at the end")
     wanted = [None, *shared.users, os.geteuid(), None, None, None, None]
     expect([event.get("uid") for event in lines_in(room / "events")], wanted, "the users")
 

@@ -67,7 +67,7 @@ impl<'a> Shell<'a> {
         let rt = self.rt;
         let alloc = rt.alloc();
         let opened = home.open(rt, keeper);
-        self.know_user(id);
+        self.take_name(id);
         self.record_call(id)?;
         let made = match peer_in(&mut self.peers, id) {
             Some(peer) => peer.change(alloc, home),
@@ -78,11 +78,12 @@ impl<'a> Shell<'a> {
         self.settle_opening(opened)
     }
 
-    /// Takes in whose command it is, if that can be known.
-    fn know_user(&mut self, id: u64) {
+    /// Takes the name of a command's end away, if it has one. Whose command it is, is known by that.
+    pub(crate) fn take_name(&mut self, id: u64) {
         let rt = self.rt;
         if let Some(place) = self.config.place
             && let Some(peer) = peer_in(&mut self.peers, id)
+            && let Task::Command(_) = &peer.task
             && let Some(name) = peer.stream.name()
         {
             peer.user = place.user_of(rt, &name);

@@ -352,6 +352,8 @@ impl<'a> Shell<'a> {
             Some(peer) => peer.trouble(),
             None => None,
         };
+        // A command that was killed within its request has left its name.
+        self.take_name(id);
         self.peers.retain(|peer| peer.id != id);
         match closing_of(trouble, term) {
             Closing::Nothing => Ok(()),

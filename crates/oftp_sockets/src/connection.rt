@@ -1,6 +1,6 @@
 //! A command's connection to the station, and the name of its end. By the owner of that name's file the station knows who asks.
 
-use crate::place::{MODE, SocketPlace, checked};
+use crate::place::{END, MODE, SocketPlace, checked};
 use std::fs::{self, Files};
 use std::io;
 use std::os::fd::{AsFd, AsRawFd};
@@ -93,8 +93,8 @@ impl SocketPlace {
     }
 }
 
-/// The number behind the last point of a name.
-fn number_of_end(name: &str) -> Option<u32> {
-    let (_, digits) = name.rsplit_once('.')?;
-    digits.parse::<u32>().ok()
+/// The number in the path of a command's end, whatever its folder is.
+fn number_of_end(path: &str) -> Option<u32> {
+    let (_, name) = path.rsplit_once('/')?;
+    name.strip_prefix(END)?.parse::<u32>().ok()
 }

@@ -2,4 +2,4 @@
 
 /// The SHA-256 of the sources, but of this file, as `checks/lint/version.py` computes it.
 pub const SOURCES: &str =
-    "sources de63ecceda1c79ce3aefcad165457df7f1fdfa91bad26978e33c69e8e6227291";
+    "sources 0e1be954411802449ecf6e68ca275827fe05f8d1075de068b271eae381bb36da";
