@@ -577,8 +577,8 @@ def whose(room):
         while len(shared.ends()) > 1 and time.monotonic() < until:
             time.sleep(0.02)
         expect(shared.ends(), [".oftp_command_7"], "the names of ends behind a command that asked nothing")
-        for name in ("other_7", "other", ".oftp_command_x"):
-            shared.submit_as(station, name.upper(), name)
+        for number, name in enumerate(("other_7", "other", ".oftp_command_x")):
+            shared.submit_as(station, f"M{number}", name)
         subprocess.run([PROGRAM, "stop", "--db", station.database], capture_output=True, timeout=LONG, check=False)
         station.ends()
     expect(shared.ends(), [".oftp_command_7", ".oftp_command_x"], "the names of ends at the end")
