@@ -176,7 +176,7 @@ def pass_on(room, size):
     taken.append(car_maker.feed(answers, out, "end: partner 00", *car_maker.called()))
     taken.append(supplier.feed(out, back, "end: own 00"))
     if back.read_bytes() != answers.read_bytes():
-        raise Failed("the one station has out something else than the other read")
+        raise Failed("one station has out something else than the other read")
     taken.append(supplier.give("fetch", "1", fetched, line="done: fetch 1", book=False))
     if subprocess.run(["cmp", "-s", file, fetched], check=False).returncode:
         raise Failed("what is fetched isn't what was submitted")
