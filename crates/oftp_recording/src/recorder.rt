@@ -301,11 +301,12 @@ impl Day {
         let ended = ended_at(rt, path)?;
         file.set_len(ended.whole)
             .map_err(|error| file_fault(&error))?;
+        let digest = ended.digest;
         Ok(Day {
             name,
             number: None,
             file,
-            digest: ended.digest,
+            digest,
         })
     }
 
@@ -324,12 +325,12 @@ impl Day {
             moment,
             content: content.as_slice(),
         };
-        let digest = append_entry(&mut octets, &entry, &ChainDigest(self.digest)).map_err(
-            append_fault,
-        )?;
+        let before = self.digest;
+        let digest = append_entry(&mut octets, &entry, &ChainDigest(before)).map_err(append_fault)?;
         match self.file.write_all(octets.as_slice()) {
             Ok(()) => {
-                self.digest = digest.0;
+                let digest = digest.0;
+                self.digest = digest;
                 Ok(self)
             }
             Err(error) => Err(file_fault(&error)),
