@@ -8,7 +8,8 @@ Each row of rows/ in which partners call is lived over one `run`. So are lives o
 them. The file of events has exactly what the model's changes give (checks/lib/told.py), with the keys in their order. Two stations call each
 other: what left one came to the other. The station is killed at any moment. Each line that is there is whole, the lines are a beginning of those
 of the unbroken life, and the database has what they tell. Each line is one write, behind the write of the answer. A full device stops nothing, and
-a file that is cut goes on from its beginning. Two commands append at once. A change tells the user whose command asked for it. The last line is `N passed, M failed`.
+a file that is cut goes on from its beginning. Two commands append at once. A change tells the user whose command asked for it. The last line is
+`N passed, M failed`.
 
 Shows: the events of `run`, `listen`, `call` and the commands that have the database. They are compared with those of the model's changes, in the
 rows of sessions and in random lives. Each line, which is one write behind that of the answer; a kill, a full device, a file that is cut, a pipe.
@@ -560,9 +561,16 @@ class Shared:
         return sorted(path.name for path in self.room.iterdir() if path.name.startswith(".oftp_command_"))
 
 
-def whose(room):
+def whose(_room):
     """A change that a command asks for over the socket has the command's user, also the superuser at another user's station. The name of its end is
-    removed, also if the command leaves it, or was killed before it asked. Of a client without such a name, or with that of another file, no user is told, and the file stays."""
+    removed, also if the command leaves it, or was killed before it asked. Of a client without such a name no user is told. Of one with that of another
+    file neither, and the file stays."""
+    # Another user has to get there.
+    with tempfile.TemporaryDirectory(dir="/tmp") as path:
+        expect_users(Path(path))
+
+
+def expect_users(room):
     shared = Shared(room)
     (room / ".oftp_command_7").write_bytes(b"")
     with shared.station() as station:
