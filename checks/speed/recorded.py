@@ -136,7 +136,7 @@ def replays(room):
     per_gigabyte = read / size * 1e9
     told = [
         (f"a session of 64 MiB: {fed:.2f} s by `feed`, {replayed:.2f} s by `replay`, {replayed / fed:.2f} times", replayed <= fed + OFF),
-        (f"a record of {size / 1e6:.0f} MB is read in {read:.2f} s, {per_gigabyte:.1f} s for 1 GB", per_gigabyte <= 10),
+        (f"a record of {size / 1e6:.0f} MB is read in {read:.2f} s, {per_gigabyte:.1f} s for 1 GB", 0 < per_gigabyte <= 10),
     ]
     for line, is_well in told:
         print(f"  {line}{'' if is_well else ': TOO MUCH'}", flush=True)
