@@ -6,14 +6,14 @@
 
 The pages have what each check shows, from the head of each script. They have which wrong bodies a promise names and what refuses each, from the
 edits. Then come each statement about `run` with what shows it, each sentence of what an operator is promised, and two ways through the code. The
-last are the breaks that checks have noticed, the bounds, what a tool's wrong bodies found, and what was measured. What no script knows is in tables
-beside the pages, docs/evidence/*.csv and docs/measured/*.csv. A wrong body that isn't there, a check without a script and a table that no page
-shows fail.
+last are the breaks that checks have noticed, the bounds, what a tool's wrong bodies found, what was measured, and walks through the documents. What
+no script knows is in tables beside the pages, docs/evidence/*.csv and docs/measured/*.csv. A wrong body that isn't there, a check without a script
+and a table that no page shows fail.
 
 In operations.csv `shown_by` has places with ` | ` between them. A place is a file, or a file with names of it: `FILE: NAME + NAME`. A name is a
 function of a check that something calls, a row or a line, or a test. It may be a function with a contract, or a clause of one (`FUNCTION.CLAUSE`).
 In another file it is a line. `nothing: WHY` stands where nothing shows a sentence. `--check` fails where a file or a name isn't there. The last
-line is `N passed, M failed`, in pages and in places of that table.
+line is `N passed, M failed`, in pages, in places of that table and in walks.
 """
 
 import ast
@@ -29,6 +29,7 @@ sys.path.insert(0, str(Path(__file__).resolve().parent))
 import charts
 from program import ROOT
 from run_checks import CHECKS
+from walks import MOST_MINUTES, walks_of
 
 EVIDENCE = ROOT / "docs/evidence"
 MEASURED = ROOT / "docs/measured"
@@ -227,6 +228,24 @@ def page_of_edges():
     )
 
 
+def judged_walks():
+    """The walks through the documents, with what each lacks."""
+    return walks_of(table(EVIDENCE / "walks.csv")[1:])
+
+
+def page_of_walks():
+    """How long readers take to what they look for."""
+    rows = [["Question", "What is read", "Words", "Links", "Minutes", "Answer"]]
+    for walk in judged_walks():
+        way = " > ".join(f"{path}: `{begin}` to `{end}`".replace("|", "\\|") for path, begin, end in walk.stretches)
+        rows.append([walk.question, way, str(walk.words), str(walk.links), f"{walk.minutes:.1f}", walk.answer])
+    return (
+        f"# Walks to nine answers\n\n{WRITTEN}\nOn 30 November 2026 they were walked by a reader who knew none of these documents. Each begins at the first line of "
+        f"README.md, and\ngoes on by reading and by links. A minute is 200 words, or six links. `checks/evidence.py --check` fails where a walk takes more\n"
+        f"than {MOST_MINUTES} minutes, or nothing leads on.\n\n{markdown(rows)}"
+    )
+
+
 def page_of_measurements():
     """What was measured: each table of docs/measured, with when, where and of what."""
     parts = [f"# What was measured\n\n{WRITTEN}"]
@@ -270,6 +289,7 @@ MADE = {
     EVIDENCE / "operations.md": page_of_operations,
     EVIDENCE / "ways.md": page_of_ways,
     EVIDENCE / "edges.md": page_of_edges,
+    EVIDENCE / "walks.md": page_of_walks,
     EVIDENCE / "measured.md": page_of_measurements,
     MEASURED / "gate.svg": chart_of_gate,
     MEASURED / "growth.svg": chart_of_growth,
@@ -294,8 +314,12 @@ def check():
     astray = [it for it in places if it[1]]
     for sentence, why in astray:
         print(f"operations.csv: {sentence}: {why}")
-    failed = len(stale) + len(lost) + len(astray)
-    print(f"{len(MADE) - len(stale) + len(places) - len(astray)} passed, {failed} failed")
+    walks = judged_walks()
+    strays = [it for it in walks if it.lacks]
+    for walk in strays:
+        print(f"walks.csv: {walk.question} {'; '.join(walk.lacks)}")
+    failed = len(stale) + len(lost) + len(astray) + len(strays)
+    print(f"{len(MADE) - len(stale) + len(places) - len(astray) + len(walks) - len(strays)} passed, {failed} failed")
     return 1 if failed else 0
 
 
