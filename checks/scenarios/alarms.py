@@ -4,8 +4,8 @@
     checks/scenarios/alarms.py
 
 promtool of Debian's prometheus tries the rules: each has a test, and a rule without its comparison fails its test. The metrics are those that
-crates/oftp_status/src/prometheus.rt names. The mail goes by curl to a server that keeps it, of stations that run, are killed and start again. The
-last line is `N passed, M failed`; what lacks its program is NOT TRIED.
+crates/oftp_status/src/prometheus.rt names. The dashboard has the form of Grafana's JSON model; there is no Grafana to open it. The mail goes by curl to
+a server that keeps it, of stations that run, are killed and start again. The last line is `N passed, M failed`; what lacks its program is NOT TRIED.
 """
 
 import json
@@ -26,6 +26,12 @@ from program import PROGRAM, ROOT
 from services import NotTried, Resident, Wrong, expect, free_port
 
 FOLDER = ROOT / "examples/monitoring"
+# Grafana's JSON model: the members of a dashboard, and those of a panel of this one; a dashboard has 24 columns.
+OF_DASHBOARD = set(
+    "annotations description editable graphTooltip id links panels refresh schemaVersion tags templating time timepicker timezone title uid version".split()
+)
+OF_PANEL = set("datasource fieldConfig gridPos id options targets title type".split())
+COLUMNS = 24
 RULES, TESTS, DASHBOARD = (FOLDER / name for name in ("oftp.rules.yml", "oftp.rules.test.yml", "dashboard.json"))
 METRIC = re.compile(r"\boftp_[a-z_]+\b")
 
@@ -112,6 +118,44 @@ def dashboard_asks_for_metrics_that_exist():
     asked = {metric for expression in expressions for metric in METRIC.findall(expression)}
     expect(sorted(asked - told()), [], "the dashboard's metrics that the station doesn't tell")
     expect(len({panel["id"] for panel in panels}), len(panels), "how many panels have a number of their own")
+
+
+def has_place(panel):
+    """Whether a panel lies within the 24 columns."""
+    at = panel["gridPos"]
+    return at["x"] >= 0 and at["y"] >= 0 and at["w"] > 0 and at["h"] > 0 and at["x"] + at["w"] <= COLUMNS
+
+
+def cells_of(panel):
+    at = panel["gridPos"]
+    return {(x, y) for x in range(at["x"], at["x"] + at["w"]) for y in range(at["y"], at["y"] + at["h"])}
+
+
+def form_of(dashboard):
+    """What is wrong with the form of a dashboard, by Grafana's JSON model."""
+    wrong = sorted(set(dashboard) - OF_DASHBOARD) + sorted({"title", "schemaVersion", "time", "panels"} - set(dashboard))
+    sources = {it["name"] for it in dashboard["templating"]["list"] if it["type"] == "datasource"}
+    taken = set()
+    for panel in dashboard["panels"]:
+        wrong += sorted(set(panel) ^ OF_PANEL)
+        if not has_place(panel) or taken & cells_of(panel):
+            wrong.append(f"the place of {panel['title']}")
+        taken |= cells_of(panel)
+        if panel["datasource"] not in [{"type": "prometheus", "uid": f"${{{name}}}"} for name in sources]:
+            wrong.append(f"the source of {panel['title']}")
+        queries = [target["refId"] for target in panel["targets"]]
+        if not queries or len(set(queries)) < len(queries):
+            wrong.append(f"the queries of {panel['title']}")
+    return wrong
+
+
+def dashboard_has_the_form_of_grafana():
+    """Its form is right, and isn't if a panel is moved onto another one, or asks another source."""
+    expect(form_of(json.loads(DASHBOARD.read_text())), [], "what is wrong with the dashboard's form")
+    for name, value in (("gridPos", {"x": 1, "y": 0, "w": 4, "h": 4}), ("datasource", {"type": "prometheus", "uid": "other"}), ("targets", [])):
+        dashboard = json.loads(DASHBOARD.read_text())
+        dashboard["panels"][1][name] = value
+        expect(len(form_of(dashboard)) > 0, True, f"whether another {name} is noticed")
 
 
 class MailServer:
@@ -252,6 +296,7 @@ CASES = [
     rules_ask_for_metrics_that_exist,
     dashboard_asks_for_metrics_that_exist,
     dashboard_asks_in_the_language_of_prometheus,
+    dashboard_has_the_form_of_grafana,
     each_change_is_mailed,
     metrics_are_written_to_a_file,
     units_are_confined,
