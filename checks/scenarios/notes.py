@@ -392,6 +392,7 @@ def reached_late(room, library):
 def explained(room):
     """All that a faulty book has, with the line of `check`; and warnings alone, beside which it is ok."""
     text = USUAL.replace("buffer = 128", "buffer = 1").replace("sends = 'SUPPW'", "sent = 'SUPPW'").replace("127.0.0.1:3305", "127.0.0.1")
+    text = text.replace("mode = 'B'", "mode = 'B'\noverdue = '24h'")
     (room / "faulty").write_text(text)
     (room / "faulty").chmod(0o644)
     ran = run(["check", "--book", "faulty", "--explain", "--notes"], subprocess.PIPE, room, {})
@@ -399,7 +400,7 @@ def explained(room):
         "note: faulty:4: station: buffer: has to be 128 to 16384",
         "warning: faulty:11: sent: is ignored; sends is the nearest",
         "note: faulty:8: partner O0177CARMAKER: sends: is missing",
-        "warning: faulty:13: partner O0177CARMAKER: address: can't be called: HOST:PORT, with a port of 1 to 65535",
+        "warning: faulty:14: partner O0177CARMAKER: address: can't be called: HOST:PORT, with a port of 1 to 65535",
         "warning: faulty:1: the text: may be read by others than its owner, with its passwords",
     ]
     expect(ran.stdout.decode().splitlines(), lines, "a faulty book, explained")

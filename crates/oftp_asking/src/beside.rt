@@ -6,7 +6,7 @@ use oftp_channel::{
 };
 use oftp_engine::{Port, RunFault};
 use oftp_outcomes::Fault;
-use oftp_requests::{Backend, GONE};
+use oftp_requests::{Backend, GONE, changes_register};
 use oftp_sockets::{Connection, SocketPlace};
 use std::alloc::Global;
 use std::io::{Read, Write};
@@ -45,7 +45,7 @@ impl<'a> Beside<'a> {
 impl Backend for Beside<'_> {
     fn ask(&mut self, request: &Request<'_>, out: &mut impl Write) -> Result<Ending, Fault> {
         let mut connection = self.connection()?;
-        if is_change(request) {
+        if changes_register(request) {
             connection.sign();
         }
         exchange(self.rt, self.database, connection.stream(), request, out)
@@ -56,11 +56,6 @@ impl Backend for Beside<'_> {
 fn connected<'a>(rt: &'a HostRuntime, database: &str) -> Option<Connection<'a>> {
     let place = SocketPlace::beside(rt, database).ok()?;
     Connection::open(rt, place).ok()
-}
-
-/// Whether a request asks for a change of the register. The station tells and records whose it is.
-fn is_change(request: &Request<'_>) -> bool {
-    matches!(request, Request::Operate { .. } | Request::Resend { .. })
 }
 
 /// Sends a request over a connection, and receives its answer.

@@ -6,7 +6,7 @@ use Rattle.oftp_wire.specs.declared.command.Efid.{Efid}
 use Rattle.oftp_wire.specs.declared.command.Sfid.{Sfid}
 use Rattle.oftp_session.specs.Phases.{Phase, Offer, Transfer, ResponderOpening, InitiatorOpening, AwaitingSsid, ListenerIdle, Receiving, SpeakerIdle, GivingWay, AwaitingRtr, AwaitingStart, Sending, AwaitingEnd, EndedHere, EndedThere}
 use Rattle.oftp_session.specs.declared.state.Contact.{Contact}
-use Rattle.oftp_session.specs.Listener.{offered_identity}
+use Rattle.oftp_register.specs.Verdicts.{offered_identity}
 use Rattle.oftp_session.specs.Sending.{payloads_in}
 use Rattle.oftp_engine.proofs.Standing.{SsrmGoes, SsidComes, ResponseGoes, RtrComes, SfidGoes, SfpaComes, SfnaComes, EfidGoes, AnswerComes, IsTold, IsTaking, IsCredit, IsResponseCommand, OpensWith, Speaks, Talk}
 

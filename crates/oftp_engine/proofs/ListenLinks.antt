@@ -25,7 +25,7 @@ use Rattle.oftp_register.specs.declared.verdicts.EndVerdict.{EndVerdict}
 use Rattle.oftp_register.specs.declared.verdicts.EndVerdict.TheVariants as «end»
 use Rattle.oftp_register.specs.Register.{Register, Received}
 use Rattle.oftp_register.specs.Changes.{apply}
-use Rattle.oftp_register.specs.Verdicts.{end_verdict}
+use Rattle.oftp_register.specs.Verdicts.{end_verdict, offered_identity}
 use Rattle.oftp_register.specs.LookUps.{files_full}
 use Rattle.oftp_register.specs.Soundness.{IsSound}
 use Rattle.oftp_session.specs.Settings.{Setting}
@@ -33,7 +33,7 @@ use Rattle.oftp_session.specs.Phases.{unexpected, Phase, Receipt, Transfer, Init
 use Rattle.oftp_session.specs.declared.state.Contact.{Contact}
 use Rattle.oftp_session.specs.Opening.{calling_step}
 use Rattle.oftp_session.specs.Opening.{Agreement, came_initiator_opening, came_awaiting_ssid, opened_step, open_step, ssid_verdict, contact_of, answering_ssid, calling_ssid}
-use Rattle.oftp_session.specs.Listener.{came_listener_idle, response_step, filing, is_between, end_response, negative_end_response, terms_within, offer_step, on_start_verdict, offered_identity, receipt_of, verdict_on}
+use Rattle.oftp_session.specs.Listener.{came_listener_idle, response_step, filing, is_between, end_response, negative_end_response, terms_within, offer_step, on_start_verdict, receipt_of, verdict_on}
 use Rattle.oftp_vfile.specs.Reading.{taken}
 use Rattle.oftp_session.specs.Receiving.{carried_by, rows_to_keep, keeping, with_payload, with_rows, on_taken, data_step, on_end_verdict, end_step, came_receiving, is_window_full, asks_to_speak}
 use Rattle.oftp_session.specs.Sending.{payloads_in}

@@ -20,7 +20,7 @@ use Rattle.oftp_register.specs.declared.verdicts.EndVerdict.TheVariants as «end
 use Rattle.oftp_register.specs.declared.entries.Item.{Item}
 use Rattle.oftp_register.specs.declared.entries.Item.TheVariants as item
 use Rattle.oftp_register.specs.Register.{Register, Outgoing, Received}
-use Rattle.oftp_register.specs.Verdicts.{end_verdict}
+use Rattle.oftp_register.specs.Verdicts.{end_verdict, offered_identity}
 use Rattle.oftp_register.specs.LookUps.{entry_at, next_item}
 use Rattle.oftp_session.specs.declared.link.WhenDone.{WhenDone}
 use Rattle.oftp_session.specs.declared.link.WhenDone.TheVariants.{ChangeDirection, EndSession}
@@ -29,7 +29,7 @@ use Rattle.oftp_session.specs.Phases.{Phase, Receipt, Offer, Transfer, Step, Res
 use Rattle.oftp_session.specs.declared.state.Contact.{Contact}
 use Rattle.oftp_session.specs.Opening.{calling_step}
 use Rattle.oftp_session.specs.Opening.{Agreement, came_initiator_opening, came_awaiting_ssid, opened_step, open_step, ssid_verdict}
-use Rattle.oftp_session.specs.Listener.{came_listener_idle, response_step, filing, is_between, end_response, negative_end_response, offer_step, on_start_verdict, offered_identity, verdict_on}
+use Rattle.oftp_session.specs.Listener.{came_listener_idle, response_step, filing, is_between, end_response, negative_end_response, offer_step, on_start_verdict, verdict_on}
 use Rattle.oftp_vfile.specs.Reading.{taken}
 use Rattle.oftp_session.specs.Receiving.{carried_by, rows_to_keep, keeping, with_payload, with_rows, on_taken, data_step, on_end_verdict, end_step, came_receiving, is_window_full}
 use Rattle.oftp_session.specs.Speaker.{came_awaiting_rtr, on_item, offers, speaks}

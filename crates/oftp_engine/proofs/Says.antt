@@ -25,7 +25,7 @@ use Rattle.oftp_register.specs.declared.verdicts.StartVerdict.{StartVerdict}
 use Rattle.oftp_register.specs.declared.verdicts.StartVerdict.TheVariants as start
 use Rattle.oftp_register.specs.Register.{Register, Incoming, Outgoing, same_identity}
 use Rattle.oftp_register.specs.Changes.{at_number, closed, on_incoming}
-use Rattle.oftp_register.specs.Verdicts.{start_verdict, format_of, longest_of, has_length, is_plain, is_empty, is_received, is_whole, restart_position}
+use Rattle.oftp_register.specs.Verdicts.{start_verdict, format_of, longest_of, has_length, is_plain, is_empty, is_received, is_whole, restart_position, offered_identity}
 use Rattle.oftp_register.specs.LookUps.{entry_at, incoming_entry, numbered, look_in, next_item, next_response}
 use Rattle.oftp_register.specs.Soundness.{IsSound, IsSoundOutgoing, AreNamedOnce}
 use Rattle.oftp_register.proofs.NumberLemmas.{at_number_same, mapped_ok}
@@ -35,7 +35,7 @@ use Rattle.oftp_session.specs.declared.link.WhenDone.TheVariants.{ChangeDirectio
 use Rattle.oftp_session.specs.Settings.{Setting}
 use Rattle.oftp_session.specs.declared.state.Contact.{Contact}
 use Rattle.oftp_session.specs.Phases.{Receipt}
-use Rattle.oftp_session.specs.Listener.{end_response, negative_end_response, offered_identity}
+use Rattle.oftp_session.specs.Listener.{end_response, negative_end_response}
 use Rattle.oftp_session.specs.Speaker.{nothing_next, layout_of, sfid_of, response_of, on_item, offers, speaks, offered_from}
 use Rattle.oftp_session.specs.Steps.{IsReceived}
 use Rattle.oftp_session.proofs.Items.{a_response}

@@ -38,7 +38,7 @@ use Rattle.oftp_register.specs.Register.{Incoming, Outgoing, Received, Register,
 use Rattle.oftp_register.specs.Changes.{is_closing}
 use Rattle.oftp_register.specs.LookUps.{entry_at, next_item, next_response}
 use Rattle.oftp_register.specs.Soundness.{IsSound, IsSoundIncoming, IsSoundOutgoing}
-use Rattle.oftp_register.specs.Verdicts.{end_verdict}
+use Rattle.oftp_register.specs.Verdicts.{end_verdict, offered_identity}
 use Rattle.oftp_register.proofs.EntryLemmas.{all_at}
 use Rattle.oftp_register.proofs.KeepLemmas.{apply_keeps}
 use Rattle.oftp_session.specs.Links.{LinkData}
@@ -49,7 +49,7 @@ use Rattle.oftp_session.specs.Settings.{Setting}
 use Rattle.oftp_session.specs.Phases.{Offer, Phase, Receipt, Step, Transfer, answers, changes, esid_of, fails, quiet, register_after, says, unexpected}
 use Rattle.oftp_session.specs.Phases.{AwaitingEnd, AwaitingRtr, AwaitingSsid, AwaitingStart, EndedHere, EndedThere, GivingWay, InitiatorOpening, ListenerIdle, Receiving, ResponderOpening, Sending, SpeakerIdle}
 use Rattle.oftp_session.specs.Opening.{Agreement, answered_mode, called_as, calling_step, came_awaiting_ssid, came_initiator_opening, open_step, opened_step, ssid_verdict}
-use Rattle.oftp_session.specs.Listener.{came_listener_idle, end_response, file_of, filing, is_between, negative_end_response, offer_step, offered_identity, on_start_verdict, response_step, verdict_on}
+use Rattle.oftp_session.specs.Listener.{came_listener_idle, end_response, file_of, filing, is_between, negative_end_response, offer_step, on_start_verdict, response_step, verdict_on}
 use Rattle.oftp_session.specs.Receiving.{came_receiving, carried_by, data_step, end_step, is_window_full, keeping, on_end_verdict, on_taken, rows_to_keep, with_payload, with_rows}
 use Rattle.oftp_session.specs.Speaker.{came_awaiting_rtr, nothing_next, offered_from, offers, on_item, response_of, speaks}
 use Rattle.oftp_session.specs.Sending.{came_awaiting_end, came_awaiting_start, came_sending, credit_left, credited, new_mark, payload_size, payloads_in, refusal, reopening, rows_from, sends_next, transfer_of, turned_sending}

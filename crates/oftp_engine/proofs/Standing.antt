@@ -14,12 +14,12 @@ use Rattle.oftp_register.specs.declared.entry.OutgoingState.TheVariants.{Deliver
 use Rattle.oftp_register.specs.declared.entry.ResponseKind.TheVariants.{EndResponse, NegativeEndResponse}
 use Rattle.oftp_register.specs.Register.{Register, Outgoing, Incoming, Received}
 use Rattle.oftp_register.specs.Changes.{apply_all}
-use Rattle.oftp_register.specs.Verdicts.{format_of, longest_of}
+use Rattle.oftp_register.specs.Verdicts.{format_of, longest_of, offered_identity}
 use Rattle.oftp_register.specs.Soundness.{IsSound}
 use Rattle.oftp_session.specs.Phases.{Phase, Receipt, Offer, Transfer, ResponderOpening, InitiatorOpening, AwaitingSsid, ListenerIdle, Receiving, SpeakerIdle, GivingWay, AwaitingRtr, AwaitingStart, Sending, AwaitingEnd, EndedHere, EndedThere, is_over}
 use Rattle.oftp_session.specs.declared.state.Contact.{Contact}
 use Rattle.oftp_session.specs.Steps.{Holds}
-use Rattle.oftp_session.specs.Listener.{end_response, negative_end_response, offered_identity}
+use Rattle.oftp_session.specs.Listener.{end_response, negative_end_response}
 use Rattle.oftp_session.specs.Sending.{payloads_in}
 use Rattle.oftp_engine.specs.Progress.{Counted}
 use Rattle.oftp_engine.specs.Runs.{Course}

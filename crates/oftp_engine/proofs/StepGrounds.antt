@@ -22,7 +22,7 @@ use Rattle.oftp_register.specs.declared.verdicts.EndVerdict.{EndVerdict}
 use Rattle.oftp_register.specs.declared.verdicts.EndVerdict.TheVariants as «end»
 use Rattle.oftp_register.specs.Register.{Register, Incoming, Outgoing, Received, has_received}
 use Rattle.oftp_register.specs.Changes.{is_closing}
-use Rattle.oftp_register.specs.Verdicts.{end_verdict, format_of, longest_of}
+use Rattle.oftp_register.specs.Verdicts.{end_verdict, format_of, longest_of, offered_identity}
 use Rattle.oftp_register.specs.LookUps.{entry_at, next_item}
 use Rattle.oftp_register.specs.Soundness.{IsSound, IsSoundOutgoing}
 use Rattle.oftp_session.specs.Settings.{Setting}
@@ -34,7 +34,7 @@ use Rattle.oftp_wire.specs.declared.command.Mode.{Mode}
 use Rattle.oftp_partners.specs.declared.partner.Partner.{Partner}
 use Rattle.oftp_session.specs.Opening.{calling_step}
 use Rattle.oftp_session.specs.Opening.{Agreement, came_initiator_opening, came_awaiting_ssid, opened_step, open_step, ssid_verdict}
-use Rattle.oftp_session.specs.Listener.{came_listener_idle, response_step, filing, file_of, is_between, end_response, negative_end_response, offer_step, on_start_verdict, offered_identity, verdict_on}
+use Rattle.oftp_session.specs.Listener.{came_listener_idle, response_step, filing, file_of, is_between, end_response, negative_end_response, offer_step, on_start_verdict, verdict_on}
 use Rattle.oftp_vfile.specs.Reading.{taken}
 use Rattle.oftp_session.specs.Receiving.{carried_by, rows_to_keep, keeping, with_payload, with_rows, on_taken, data_step, on_end_verdict, end_step, came_receiving, is_window_full}
 use Rattle.oftp_session.specs.Speaker.{came_awaiting_rtr, on_item, offers, speaks}

@@ -16,11 +16,10 @@ use Rattle.oftp_register.specs.declared.entry.IncomingState.TheVariants.{Open, W
 use Rattle.oftp_register.specs.Register.{Register, Incoming}
 use Rattle.oftp_register.specs.ByIdentity.{in_at}
 use Rattle.oftp_register.specs.Changes.{apply, apply_all}
-use Rattle.oftp_register.specs.Verdicts.{format_of, longest_of}
+use Rattle.oftp_register.specs.Verdicts.{format_of, longest_of, offered_identity}
 use Rattle.oftp_register.specs.Soundness.{IsSound}
 use Rattle.oftp_session.specs.Settings.{Setting}
 use Rattle.oftp_session.specs.Phases.{Phase, ListenerIdle, Receiving, is_over}
-use Rattle.oftp_session.specs.Listener.{offered_identity}
 use Rattle.oftp_session.specs.Calls.{Makes}
 use Rattle.oftp_codec.specs.declared.limits.TheConstants.{LONGEST_FRAME}
 use Rattle.oftp_engine.specs.declared.operating.Operator.{Operator}

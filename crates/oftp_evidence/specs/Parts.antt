@@ -1,6 +1,5 @@
 -- What a command says of a file.
 use Rattle.std.specs.Prelude.{ℕ, List, if◌then◌else◌, Option, None, Some, Result, Ok, Err, codes}
-use Rattle.oftp_wire.specs.declared.command.Sfid.{Sfid}
 use Rattle.oftp_wire.specs.declared.command.Eerp.{Eerp}
 use Rattle.oftp_wire.specs.declared.command.Nerp.{Nerp}
 use Rattle.oftp_wire.specs.declared.command.Command.{Command}
@@ -9,6 +8,7 @@ use Rattle.oftp_wire.specs.declared.fault.WireFault.{WireFault}
 use Rattle.oftp_codec.specs.Kinds.{command_of}
 use Rattle.oftp_register.specs.declared.entry.Identity.{Identity}
 use Rattle.oftp_register.specs.Register.{same_identity}
+use Rattle.oftp_register.specs.Verdicts.{offered_identity}
 use Rattle.oftp_evidence.specs.declared.part.Part.{Part}
 use Rattle.oftp_evidence.specs.declared.part.Part.TheVariants.{Offer, Response, Refusal}
 
@@ -18,11 +18,7 @@ part_word Offer = codes "SFID"
 part_word Response = codes "EERP"
 part_word Refusal = codes "NERP"
 
--- the file that an SFID offers (RFC 5024, section 5.3.3)
-abbrev pub offer_identity : Sfid → Identity
-offer_identity s = record { dataset = s.dataset; date = s.date; time = s.time; originator = s.originator; destination = s.destination }
-
--- the file that an EERP answers: the response goes from its destination to its originator (section 5.3.13)
+-- the file that an EERP answers: the response goes from its destination to its originator (RFC 5024, section 5.3.13)
 abbrev pub response_identity : Eerp → Identity
 response_identity s = record { dataset = s.dataset; date = s.date; time = s.time; originator = s.destination; destination = s.originator }
 
@@ -36,7 +32,7 @@ part_about file other part = if same_identity file other then Some part else Non
 
 -- what a command says of a file
 abbrev pub part_by : Identity → Command → Option Part
-part_by file (commands.Sfid s) = part_about file (offer_identity s) Offer
+part_by file (commands.Sfid s) = part_about file (offered_identity s) Offer
 part_by file (commands.Eerp s) = part_about file (response_identity s) Response
 part_by file (commands.Nerp s) = part_about file (refusal_identity s) Refusal
 part_by file _ = None

@@ -1,11 +1,11 @@
 //! What a command says of a file.
 
 ghost use Rattle.std.specs.Prelude.{◌≡◌};
-ghost use Rattle.oftp_evidence.specs.Parts.{offer_identity, part_about, part_by, part_in, part_word, refusal_identity, response_identity};
+ghost use Rattle.oftp_evidence.specs.Parts.{part_about, part_by, part_in, part_word, refusal_identity, response_identity};
 
 use oftp_codec::parse;
-use oftp_register::{DigitString, Identity, Name};
-use oftp_wire::{Command, Eerp, Nerp, Sfid};
+use oftp_register::{DigitString, Identity, Name, identity_of};
+use oftp_wire::{Command, Eerp, Nerp};
 
 /// What a command says of a file.
 #[derive(Clone, Copy, Debug, Drop, PartialEq, Eq)]
@@ -28,19 +28,6 @@ impl Part {
             Part::Response => "EERP",
             Part::Refusal => "NERP",
         }
-    }
-}
-
-// The identity of the file that an SFID offers.
-fn offer_identity(sfid: &Sfid<'_>) -> Identity
-    ensures { result ≡ offer_identity sfid.now }
-{
-    Identity {
-        dataset: Name::of(&sfid.dataset),
-        date: DigitString::of(&sfid.date),
-        time: DigitString::of(&sfid.time),
-        originator: Name::of(&sfid.originator),
-        destination: Name::of(&sfid.destination),
     }
 }
 
@@ -82,7 +69,7 @@ fn part_by(file: &Identity, command: &Command<'_>) -> Option<Part>
     ensures { result ≡ part_by file.now command.now }
 {
     match command {
-        Command::Sfid(sfid) => part_about(file, &offer_identity(sfid), Part::Offer),
+        Command::Sfid(sfid) => part_about(file, &identity_of(sfid), Part::Offer),
         Command::Eerp(eerp) => part_about(file, &response_identity(eerp), Part::Response),
         Command::Nerp(nerp) => part_about(file, &refusal_identity(nerp), Part::Refusal),
         _ => None,

@@ -2,7 +2,7 @@
 
 use crate::addresses::{has_name, is_called};
 use crate::judging::{
-    PARTNER_KEYS, STATION_KEYS, TOP_KEYS, Table, is_among, line_at, line_in, nearest,
+    PARTNER_KEYS, STATION_KEYS, TOP_KEYS, Table, is_read, line_at, line_in, nearest,
 };
 use crate::teller::Teller;
 use oftp_notes::{BookNote, Finding, Key, Note, Place, Wrong, wrong_with};
@@ -238,7 +238,7 @@ impl<W: Write> Reading<'_, '_, W> {
             return;
         }
         for (key, _) in members {
-            if !is_among(keys, key.as_str()) {
+            if !is_read(table, keys, key.as_str()) {
                 self.tell_ignored(table, keys, key.as_str());
             }
         }

@@ -16,6 +16,9 @@ pub(crate) const PARTNER_KEYS: [Key; 5] = [
     Key::Address,
 ];
 
+/// The key of a partner that `health` alone reads.
+const OVERDUE: &str = "overdue";
+
 /// The keys outside of all tables.
 pub(crate) const TOP_KEYS: [Key; 2] = [Key::Station, Key::Partner];
 
@@ -84,13 +87,21 @@ pub(crate) fn line_at(text: &str, octet: usize) -> u64 {
 }
 
 /// Whether a key is among these.
-pub(crate) fn is_among(keys: &[Key], word: &str) -> bool {
+fn is_among(keys: &[Key], word: &str) -> bool {
     for key in keys {
         if key.word() == word {
             return true;
         }
     }
     false
+}
+
+/// Whether something reads a key of a table: the station, or `health`.
+pub(crate) fn is_read(table: Table, keys: &[Key], key: &str) -> bool {
+    match table {
+        Table::Partner(_) if key == OVERDUE => true,
+        _ => is_among(keys, key),
+    }
 }
 
 /// The key among these that looks most like a word.

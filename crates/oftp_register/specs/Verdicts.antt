@@ -9,6 +9,7 @@ use Rattle.oftp_wire.specs.declared.command.Layout.{Layout}
 use Rattle.oftp_wire.specs.declared.command.Layout.TheVariants as layout
 use Rattle.oftp_wire.specs.declared.reason.StartReason.TheVariants.{InvalidFilename, InvalidDestination, InvalidOrigin, MaximumRecordLengthNotSupported, FileSizeTooBig, DuplicateFile, FileDirectionRefused, Unspecified}
 use Rattle.oftp_wire.specs.declared.reason.EndReason.TheVariants.{InvalidRecordCount, InvalidByteCount}
+use Rattle.oftp_register.specs.declared.entry.Identity.{Identity}
 use Rattle.oftp_register.specs.declared.entry.IncomingState.{IncomingState}
 use Rattle.oftp_register.specs.declared.entry.IncomingState.TheVariants.{Open, Whole}
 use Rattle.oftp_register.specs.declared.entries.IncomingEntry.{IncomingEntry}
@@ -20,7 +21,11 @@ use Rattle.oftp_register.specs.declared.verdicts.EndVerdict.{EndVerdict}
 use Rattle.oftp_register.specs.declared.verdicts.EndVerdict.TheVariants as «end»
 use Rattle.oftp_vfile.specs.declared.format.TheConstants.{LONGEST_RECORD}
 
--- the format of an offered file
+-- the identity of an offered file
+abbrev pub offered_identity : Sfid → Identity
+offered_identity sfid = record { dataset = sfid.dataset; date = sfid.date; time = sfid.time; originator = sfid.originator; destination = sfid.destination }
+
+-- its format
 abbrev pub format_of : Layout → Format
 format_of (layout.Fixed longest) = Fixed
 format_of (layout.Variable longest) = Variable

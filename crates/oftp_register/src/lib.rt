@@ -29,5 +29,6 @@ pub use office::{Office, OfficeFault};
 pub use plain::PlainOffice;
 pub use prefix::commit_all;
 pub use verdicts::{
-    EndVerdict, SIZE_UNIT, StartVerdict, Terms, end_verdict, format_of, longest_of, start_verdict,
+    EndVerdict, SIZE_UNIT, StartVerdict, Terms, end_verdict, format_of, identity_of, longest_of,
+    start_verdict,
 };

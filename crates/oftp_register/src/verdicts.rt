@@ -2,11 +2,11 @@
 
 ghost use Rattle.std.specs.Prelude.{◌≡◌, ◌<◌, ◌^◌, false};
 ghost use Rattle.std.specs.Option.{option_copied};
-ghost use Rattle.oftp_register.specs.Verdicts.{end_verdict, format_of, has_length, is_plain, is_received, longest_of, restart_position, start_verdict};
+ghost use Rattle.oftp_register.specs.Verdicts.{end_verdict, format_of, has_length, is_plain, is_received, longest_of, offered_identity, restart_position, start_verdict};
 
 use crate::entries::IncomingEntry;
-use crate::entry::IncomingState;
-use crate::name::Name;
+use crate::entry::{Identity, IncomingState};
+use crate::name::{DigitString, Name};
 use oftp_vfile::{Format, LONGEST_RECORD, Limits};
 use oftp_wire::{Count, Efid, EndReason, Layout, Sfid, StartReason};
 
@@ -51,7 +51,20 @@ pub enum EndVerdict {
     Refuse(EndReason),
 }
 
-/// The format of an offered file.
+/// The identity of an offered file.
+pub fn identity_of(sfid: &Sfid<'_>) -> Identity
+    ensures { result ≡ offered_identity sfid.now }
+{
+    Identity {
+        dataset: Name::of(&sfid.dataset),
+        date: DigitString::of(&sfid.date),
+        time: DigitString::of(&sfid.time),
+        originator: Name::of(&sfid.originator),
+        destination: Name::of(&sfid.destination),
+    }
+}
+
+/// Its format.
 pub fn format_of(layout: Layout) -> Format
     ensures { result ≡ format_of layout }
 {

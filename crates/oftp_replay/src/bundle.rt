@@ -2,7 +2,7 @@
 
 use oftp_files::{file_fault, make_private, make_private_folder, open_input};
 use oftp_outcomes::Fault;
-use oftp_recording::Digest;
+use oftp_recording::{Digest, file_of, record_files};
 use sha2::{Digest as Hashing, Sha256};
 use std::alloc::{AllocError, Global};
 use std::fs::{self, File};
@@ -83,6 +83,11 @@ impl<'a> Bundle<'a> {
         })
     }
 
+    /// Where its memory is from.
+    pub(crate) fn alloc(&self) -> Global {
+        self.rt.alloc()
+    }
+
     /// Makes a folder in it.
     ///
     /// # Errors
@@ -139,6 +144,21 @@ impl<'a> Bundle<'a> {
         let mut file = self.begin(name)?;
         copy_octets(&mut from, &mut file)?;
         self.end(name, file)?;
+        Ok(())
+    }
+
+    /// Copies the first days of a record, this many.
+    ///
+    /// # Errors
+    /// [`Fault::File`] if one can't be read or written; [`Fault::MEMORY`].
+    pub(crate) fn copy_days(&mut self, record: &str, count: usize) -> Result<(), Fault> {
+        self.make_inner("record")?;
+        let days = record_files(self.rt, record)?;
+        for day in days.iter().take(count) {
+            let path = file_of(self.rt, record, day.as_str())?;
+            let name = file_of(self.rt, "record", day.as_str())?;
+            self.copy(path.as_str(), name.as_str())?;
+        }
         Ok(())
     }
 

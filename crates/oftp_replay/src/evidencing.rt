@@ -7,7 +7,7 @@ use oftp_engine::{Port, Refusal, RunFault, write_content};
 use oftp_events::Direction;
 use oftp_evidence::{FileFacts, ResponseFacts, SessionFacts, StationFacts, readme, verify_script};
 use oftp_outcomes::{DONE, FAILED, Fault, Outcome, tell, write_line};
-use oftp_recording::{file_of, moment_text, record_files};
+use oftp_recording::moment_text;
 use oftp_register::{
     Identity, IncomingEntry, Office, OutgoingEntry, OutgoingState, ResponseKind, Side,
 };
@@ -74,15 +74,7 @@ pub fn write_evidence<O: Office>(
         bundle.remove();
         return tell(Outcome::Refused(Refusal::Unknown), out);
     }
-    fill(
-        rt,
-        line.folder,
-        sources,
-        office,
-        &filed,
-        &search,
-        &mut bundle,
-    )?;
+    fill(line.folder, sources, office, &filed, &search, &mut bundle)?;
     tell_done(rt.alloc(), line.no, out)
 }
 
@@ -101,7 +93,6 @@ fn tell_done(alloc: Global, no: u64, out: &mut impl Write) -> Result<u8, Fault> 
 
 /// Writes what the folder has beside its sessions.
 fn fill<O: Office>(
-    rt: &HostRuntime,
     record: &str,
     sources: &str,
     office: &mut O,
@@ -109,9 +100,10 @@ fn fill<O: Office>(
     search: &Search,
     bundle: &mut Bundle<'_>,
 ) -> Result<(), Fault> {
-    let sum = write_local(rt.alloc(), office, filed, bundle)?;
-    copy_days(rt, record, search.days, bundle)?;
-    write_texts(rt.alloc(), sources, filed, search, sum.as_str(), bundle)?;
+    let alloc = bundle.alloc();
+    let sum = write_local(alloc, office, filed, bundle)?;
+    bundle.copy_days(record, search.days)?;
+    write_texts(alloc, sources, filed, search, sum.as_str(), bundle)?;
     bundle.seal()
 }
 
@@ -298,23 +290,6 @@ fn unwritten(fault: Fault) -> Fault {
         Fault::Run(RunFault::Write) => Fault::File,
         other => other,
     }
-}
-
-/// Copies the first days of a record.
-fn copy_days(
-    rt: &HostRuntime,
-    record: &str,
-    count: usize,
-    bundle: &mut Bundle<'_>,
-) -> Result<(), Fault> {
-    bundle.make_inner("record")?;
-    let days = record_files(rt, record)?;
-    for day in days.iter().take(count) {
-        let path = file_of(rt, record, day.as_str())?;
-        let name = file_of(rt, "record", day.as_str())?;
-        bundle.copy(path.as_str(), name.as_str())?;
-    }
-    Ok(())
 }
 
 /// Writes what tells of the folder, and what checks it.

@@ -56,6 +56,12 @@ asking_of (request.Status form) = asking.For wanted.Query
 asking_of (request.Health warn critical) = asking.For wanted.Query
 asking_of request.Settled = asking.For wanted.Query
 
+-- a request for a change of the register, of which the station tells whose it is
+abbrev pub changes_register : Request → Bool
+changes_register (request.Operate book call) = true
+changes_register (request.Resend book n date time) = true
+changes_register asked = false
+
 -- What the schedule is told of a request that asks for this, and whose call would be one of this partner. A call that can't be made is a look-up.
 abbrev pub signal_of : Asking → Option Partner → Signal
 signal_of (asking.For kind) partner = signal.Asked kind

@@ -1,7 +1,7 @@
 //! What a request asks of the schedule, how a session ended, and what becomes of an error.
 
 ghost use Rattle.std.specs.Prelude.{◌≡◌};
-ghost use Rattle.oftp_requests.specs.Judged.{asking_of, closing_of, declined, ended_for, farewell_of, goes_on, office_after, office_within, told_reason, result_at, result_of, signal_of, last_status, told_status, trouble_of, trouble_within};
+ghost use Rattle.oftp_requests.specs.Judged.{asking_of, changes_register, closing_of, declined, ended_for, farewell_of, goes_on, office_after, office_within, told_reason, result_at, result_of, signal_of, last_status, told_status, trouble_of, trouble_within};
 
 use oftp_channel::{Ending as Answered, Haste, Request};
 use oftp_engine::{End, RunFault};
@@ -37,6 +37,13 @@ pub(crate) fn asking_of(request: &Request<'_>) -> Asking
         Request::Status(_) | Request::Health { .. } => Asking::For(schedule::Request::Query),
         Request::Settled => Asking::For(schedule::Request::Query),
     }
+}
+
+/// Whether a request is for a change of the register. The station tells and records whose it is.
+pub fn changes_register(request: &Request<'_>) -> bool
+    ensures { result ≡ changes_register request.now }
+{
+    matches!(request, Request::Operate { .. } | Request::Resend { .. })
 }
 
 /// What the schedule is told of a request that asks for this, and whose call would be one of this partner. A call that can't be made is a

@@ -31,8 +31,8 @@ pub use ended::{GONE, number_in, outcome_in, refusal_in, stopped_in};
 pub use entries::{FileEntry, FileList};
 pub use fetched::entry_to_fetch;
 pub use judging::{
-    Closing, closing_of, declined, ended_for, farewell_of, goes_on, last_status, office_within,
-    result_at, result_of, told_reason, told_status, trouble_of,
+    Closing, changes_register, closing_of, declined, ended_for, farewell_of, goes_on, last_status,
+    office_within, result_at, result_of, told_reason, told_status, trouble_of,
 };
 pub use lines::{line_of_answer, line_of_ending};
 pub use made::{Made, stopping};

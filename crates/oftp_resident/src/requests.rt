@@ -86,7 +86,7 @@ impl<'a> Shell<'a> {
             && let Task::Command(_) = &peer.task
             && let Some(name) = peer.stream.name()
         {
-            peer.user = place.user_of(rt, &name);
+            peer.user = place.take_user(rt, &name);
         }
     }
 

@@ -57,13 +57,13 @@ impl Shell<'_> {
         self.note_all(events, occasion, others);
     }
 
-    /// In what an action was done: in a session, if it has one, or for a command.
+    /// In what an action was done, which has this session.
     fn occasion_of(&self, action: Action, session: Option<u64>) -> Occasion {
-        match (session, action) {
-            (Some(number), _) => Occasion::Session(number),
-            (None, Action::Change(id)) => Occasion::of_command(self.user_of(id)),
-            (None, _) => Occasion::Command,
-        }
+        let user = match action {
+            Action::Change(id) => self.user_of(id),
+            _ => None,
+        };
+        Occasion::of(session, user)
     }
 
     /// Takes in what changes of a session told, if there is one, as [`Peer::noticed`] does.

@@ -26,6 +26,15 @@ const DIALING: u64 = 15;
 /// How many commands wait to be accepted at most, as the system is set up by itself.
 const MOST_WAITING: u32 = 4_096;
 
+/// What is written beside the database.
+#[derive(Clone, Copy)]
+struct Written<'a> {
+    /// The file of events, if there is one.
+    events: Option<&'a EventFile<'a>>,
+    /// The record, if there is one.
+    recorded: Recorded<'a>,
+}
+
 /// Serves partners and commands over the database, which stays open. Writes a line to `out` when it is ready, and one for each session.
 ///
 /// # Errors
@@ -54,7 +63,11 @@ fn run_noting<'n>(
         book: octets.as_slice(),
         recorder: recorder.as_ref(),
     };
-    run_over(rt, line, &station, events.as_ref(), recorded, life, out)
+    let written = Written {
+        events: events.as_ref(),
+        recorded,
+    };
+    run_over(rt, line, &station, written, life, out)
 }
 
 /// A copy of a name, if there is one.
@@ -86,11 +99,11 @@ fn run_over(
     rt: &HostRuntime,
     line: &Run<'_>,
     station: &Station<'_>,
-    events: Option<&EventFile<'_>>,
-    recorded: Recorded<'_>,
+    written: Written<'_>,
     life: Life<WatchedOffice<'_>>,
     out: &mut impl Write,
 ) -> Result<(), Fault> {
+    let Written { events, recorded } = written;
     let codes = codes_of(rt.alloc(), recorded.book)?;
     let limits = overdues_of(rt.alloc(), recorded.book)?;
     let host = name_of(rt.alloc(), line.host)?;

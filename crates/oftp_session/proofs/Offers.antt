@@ -15,7 +15,7 @@ use Rattle.oftp_register.specs.declared.verdicts.StartVerdict.TheVariants as sta
 use Rattle.oftp_register.specs.Register.{Register, Incoming}
 use Rattle.oftp_register.specs.Changes.{apply}
 use Rattle.oftp_register.specs.LookUps.{entry_at, files_full, incoming_entry, look_in, units_of}
-use Rattle.oftp_register.specs.Verdicts.{format_of, longest_of, start_verdict}
+use Rattle.oftp_register.specs.Verdicts.{format_of, longest_of, start_verdict, offered_identity}
 use Rattle.oftp_register.specs.Soundness.{IsFit, IsSound}
 use Rattle.oftp_register.specs.Offices.{LooksUp, View}
 use Rattle.oftp_register.proofs.EntryLemmas.{rows_of_incoming}
@@ -28,7 +28,7 @@ use Rattle.oftp_session.specs.declared.state.State.TheVariants as state
 use Rattle.oftp_session.specs.Settings.{Setting}
 use Rattle.oftp_session.specs.Phases.{Receipt, Step, frame_of}
 use Rattle.oftp_session.specs.Receiving.{carried_by, kept_of, window}
-use Rattle.oftp_session.specs.Listener.{offer_step, offered_identity, on_start_verdict, receipt_of, sfpa_of, start_of, terms_within, verdict_on}
+use Rattle.oftp_session.specs.Listener.{offer_step, on_start_verdict, receipt_of, sfpa_of, start_of, terms_within, verdict_on}
 use Rattle.oftp_session.specs.Steps.{IsReceived}
 use Rattle.oftp_session.specs.Standings.{Tracks}
 use Rattle.oftp_session.specs.InsideListener.{IsFound, MayBegin, Starts, incoming_of}

@@ -30,14 +30,14 @@ use Rattle.oftp_register.specs.declared.verdicts.StartVerdict.{StartVerdict}
 use Rattle.oftp_register.specs.declared.verdicts.StartVerdict.TheVariants as start
 use Rattle.oftp_register.specs.Register.{Register, Received, Outgoing}
 use Rattle.oftp_register.specs.LookUps.{entry_at, next_item}
-use Rattle.oftp_register.specs.Verdicts.{end_verdict, format_of, longest_of}
+use Rattle.oftp_register.specs.Verdicts.{end_verdict, format_of, longest_of, offered_identity}
 use Rattle.oftp_session.specs.declared.link.WhenDone.{WhenDone}
 use Rattle.oftp_session.specs.declared.link.WhenDone.TheVariants.{ChangeDirection, EndSession}
 use Rattle.oftp_session.specs.declared.state.Contact.{Contact}
 use Rattle.oftp_session.specs.Settings.{Setting}
 use Rattle.oftp_session.specs.Phases.{Phase, Receipt, Offer, Transfer, ResponderOpening, InitiatorOpening, AwaitingSsid, ListenerIdle, Receiving, SpeakerIdle, GivingWay, AwaitingRtr, AwaitingStart, Sending, AwaitingEnd, EndedHere, EndedThere, Step, esid_of, fails, unexpected}
 use Rattle.oftp_session.specs.Opening.{Agreement, agreement, came_awaiting_ssid, came_initiator_opening, calling_step, is_initiator, is_opposed, open_step, opened_step, partner_for, ssid_verdict}
-use Rattle.oftp_session.specs.Listener.{came_listener_idle, end_response, is_between, negative_end_response, offer_step, offered_identity, on_start_verdict, response_step, start_of, verdict_on}
+use Rattle.oftp_session.specs.Listener.{came_listener_idle, end_response, is_between, negative_end_response, offer_step, on_start_verdict, response_step, start_of, verdict_on}
 use Rattle.oftp_session.specs.Receiving.{came_receiving, carried_by, data_step, end_step, is_window_full, on_end_verdict, on_taken, reason_of, with_payload}
 use Rattle.oftp_session.specs.Speaker.{came_awaiting_rtr, nothing_next, offers, on_item, response_of, speaks}
 use Rattle.oftp_session.specs.Sending.{came_awaiting_end, came_awaiting_start, came_sending, credit_left, payloads_in, sends_next, turned_sending}

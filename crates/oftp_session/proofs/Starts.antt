@@ -9,14 +9,14 @@ use Rattle.oftp_register.specs.declared.verdicts.StartVerdict.TheVariants as sta
 use Rattle.oftp_register.specs.Register.{Register}
 use Rattle.oftp_register.specs.Changes.{apply, started_in}
 use Rattle.oftp_register.specs.ByIdentity.{IsStarted}
-use Rattle.oftp_register.specs.Verdicts.{format_of, longest_of}
+use Rattle.oftp_register.specs.Verdicts.{format_of, longest_of, offered_identity}
 use Rattle.oftp_register.specs.LookUps.{file_rows}
 use Rattle.oftp_register.specs.Soundness.{IsSound}
 use Rattle.oftp_register.proofs.FileRowLemmas.{few_rows}
 use Rattle.oftp_register.proofs.StartLemmas.{accepted_starts, starts_are_found}
 use Rattle.oftp_session.specs.declared.state.Contact.{Contact}
 use Rattle.oftp_session.specs.Settings.{Setting}
-use Rattle.oftp_session.specs.Listener.{offered_file, offered_identity, receipt_of, start_of, terms_within, verdict_on}
+use Rattle.oftp_session.specs.Listener.{offered_file, receipt_of, start_of, terms_within, verdict_on}
 use Rattle.oftp_session.specs.Steps.{IsReceived}
 use Rattle.oftp_session.specs.InsideListener.{MayBegin}
 use Rattle.oftp_session.proofs.Receipts.{files_limits}

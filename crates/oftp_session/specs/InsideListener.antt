@@ -14,7 +14,8 @@ use Rattle.oftp_session.specs.Links.{LinkData}
 use Rattle.oftp_session.specs.declared.receiving.IncomingTransfer.{IncomingTransfer}
 use Rattle.oftp_session.specs.declared.session.SessionFault.{SessionFault}
 use Rattle.oftp_session.specs.Receiving.{keeping}
-use Rattle.oftp_session.specs.Listener.{offered_identity, receipt_of, start_of}
+use Rattle.oftp_register.specs.Verdicts.{offered_identity}
+use Rattle.oftp_session.specs.Listener.{receipt_of, start_of}
 use Rattle.oftp_session.specs.Steps.{IsReceived}
 use Rattle.oftp_session.specs.Calls.{IsMade, DoesNot}
 use Rattle.oftp_session.specs.Inside.{Finds, IsAccepted, MakesChange}

@@ -22,7 +22,7 @@ use Rattle.oftp_register.specs.Register.{Register, Incoming, Received, has_recei
 use Rattle.oftp_register.specs.Changes.{new_incoming}
 use Rattle.oftp_register.specs.ByIdentity.{number_of, started_file}
 use Rattle.oftp_register.specs.LookUps.{look_in, files_full}
-use Rattle.oftp_register.specs.Verdicts.{start_verdict, format_of, longest_of}
+use Rattle.oftp_register.specs.Verdicts.{start_verdict, format_of, longest_of, offered_identity}
 use Rattle.oftp_register.specs.declared.entry.ResponseKind.TheVariants.{EndResponse, NegativeEndResponse}
 use Rattle.oftp_session.specs.declared.state.Contact.{Contact}
 use Rattle.oftp_session.specs.Settings.{Setting}
@@ -31,11 +31,7 @@ use Rattle.oftp_session.specs.declared.link.WhenDone.TheVariants.{EndSession}
 
 -- SFID and its answers (RFC 5024, sections 5.3.3 to 5.3.5)
 
--- the identity of an offered file
-abbrev pub offered_identity : Sfid → Identity
-offered_identity sfid = record { dataset = sfid.dataset; date = sfid.date; time = sfid.time; originator = sfid.originator; destination = sfid.destination }
-
--- its entry, without rows
+-- the entry of an offered file, without rows
 abbrev pub offered_file : Sfid → Incoming
 offered_file sfid = new_incoming (offered_identity sfid) (format_of sfid.layout) (longest_of sfid.layout) sfid.description
 

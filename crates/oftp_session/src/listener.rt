@@ -5,7 +5,7 @@ ghost use Rattle.oftp_register.specs.Soundness.{IsSoundReceived};
 ghost use Rattle.oftp_vfile.specs.Taking.{new_taking};
 ghost use Rattle.oftp_vfile.specs.declared.format.TheConstants.{MOST_ROWS};
 ghost use Rattle.oftp_session.specs.Settings.{setting_of};
-ghost use Rattle.oftp_session.specs.Listener.{came_listener_idle, end_response, filing, is_between, negative_end_response, offer_step, offered_identity, response_step, terms_within, verdict_on};
+ghost use Rattle.oftp_session.specs.Listener.{came_listener_idle, end_response, filing, is_between, negative_end_response, offer_step, response_step, terms_within, verdict_on};
 ghost use Rattle.oftp_session.specs.Receiving.{asks_to_speak};
 ghost use Rattle.oftp_session.specs.Recalling.{RecallsOf};
 ghost use Rattle.oftp_session.specs.InsideListener.{FindsStarted, KeepsFit, StartsFit, as_received};
@@ -20,7 +20,7 @@ use crate::session::{SessionFault, make};
 use crate::state::{Contact, State};
 use oftp_register::{
     Change, DigitString, Identity, IncomingEntry, Name, Office, ResponseKind, Side, StartVerdict,
-    Terms, format_of, longest_of, start_verdict,
+    Terms, format_of, identity_of, longest_of, start_verdict,
 };
 use oftp_vfile::{Limits, Row, Rows, Taker};
 use oftp_wire::{Command, Count, Eerp, Nerp, SessionReason, Sfid, Text};
@@ -154,19 +154,6 @@ impl<O: Office> ListenerPart for O {
         let given = item.is_some();
         *response_due = Some(given);
         Ok(given)
-    }
-}
-
-// The identity of an offered file.
-fn identity_of(sfid: &Sfid<'_>) -> Identity
-    ensures { result ≡ offered_identity sfid.now }
-{
-    Identity {
-        dataset: Name::of(&sfid.dataset),
-        date: DigitString::of(&sfid.date),
-        time: DigitString::of(&sfid.time),
-        originator: Name::of(&sfid.originator),
-        destination: Name::of(&sfid.destination),
     }
 }
 

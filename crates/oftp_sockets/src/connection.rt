@@ -79,8 +79,9 @@ impl SocketPlace {
         }
     }
 
-    /// The user whose command's end has this address, and removes its name. `None` if it has no name, or another one.
-    pub fn user_of(&self, rt: &HostRuntime, address: &SocketAddr) -> Option<u32> {
+    /// Takes the name of a command's end with this address away. Returns its owner, the user whose command it is. `None` if it has no name, or
+    /// another one.
+    pub fn take_user(&self, rt: &HostRuntime, address: &SocketAddr) -> Option<u32> {
         let name = address.as_pathname()?;
         let number = number_of_end(name.as_str())?;
         let path = self.path_of_end(rt, number).ok()?;

@@ -2,4 +2,4 @@
 
 /// The SHA-256 of the sources, but of this file, as `checks/lint/version.py` computes it.
 pub const SOURCES: &str =
-    "sources 1d77f997fb66630e571bb011c0adcd53ccf241bd8075e71cdb6c28c3ad0bcc8c";
+    "sources 412cb7e9df5a91dc347878d4baec83e67ba92f46267874f6797714c54ade3dc5";

@@ -205,8 +205,7 @@ fn samples_of_a_picture(rt: HostRuntime) -> Result<(), Fail> {
 fn judge(
     rt: &impl Abort,
     alloc: Global,
-    warn: u64,
-    critical: u64,
+    (warn, critical): (u64, u64),
     overdues: &[Overdue<'_>],
     grade: Grade,
     line: &str,
@@ -229,8 +228,7 @@ fn grades_at_the_limits(rt: HostRuntime) -> Result<(), Fail> {
     judge(
         &rt,
         rt.alloc(),
-        49,
-        60,
+        (49, 60),
         &[],
         Grade::Fine,
         concat!(
@@ -241,8 +239,7 @@ fn grades_at_the_limits(rt: HostRuntime) -> Result<(), Fail> {
     judge(
         &rt,
         rt.alloc(),
-        48,
-        49,
+        (48, 49),
         &[],
         Grade::Warning,
         concat!(
@@ -253,8 +250,7 @@ fn grades_at_the_limits(rt: HostRuntime) -> Result<(), Fail> {
     judge(
         &rt,
         rt.alloc(),
-        47,
-        48,
+        (47, 48),
         &[],
         Grade::Critical,
         concat!(
@@ -276,7 +272,7 @@ fn limits_of_a_partner(rt: HostRuntime) -> Result<(), Fail> {
         "0;180000;0 send=176400s;176400;180000;0 confirm=0s;176400;180000;0 session=86400s;176400;180000;0 backup=36000",
         "s;176400;180000;0",
     );
-    judge(&rt, rt.alloc(), 49, 50, &own, Grade::Critical, line)
+    judge(&rt, rt.alloc(), (49, 50), &own, Grade::Critical, line)
 }
 
 #[test]

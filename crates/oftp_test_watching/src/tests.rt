@@ -203,12 +203,7 @@ fn file_of_a_user(rt: HostRuntime) -> Result<(), OfficeFault> {
     let Some(moment) = news.take(alloc).pop() else {
         return Err(BAD);
     };
-    let line = line_of(
-        alloc,
-        &mut office,
-        Occasion::of_command(Some(1_000)),
-        moment,
-    )?;
+    let line = line_of(alloc, &mut office, Occasion::of(None, Some(1_000)), moment)?;
     let wanted =
         "{\"at\":\"2026-11-29T07:26:46.000123Z\",\"event\":\"submitted\",\"partner\":\"O1\",\"way\":\"out\",\"no\":1,\
          \"dataset\":\"B\",\"date\":\"20240131\",\"time\":\"1015300001\",\"originator\":\"O2\",\"destination\":\"O1\",\
@@ -270,7 +265,7 @@ fn refused_by_the_station(rt: HostRuntime) -> Result<(), OfficeFault> {
     assert_eq!(&rt; moment.event, Event::RefusedFile);
     assert!(&rt; matches!(moment.answer, Some(Answer::Sfna(_))));
     let mut office = PlainOffice::new(rt.alloc(), LIMITS);
-    let line = line_of(rt.alloc(), &mut office, Occasion::of_command(None), moment)?;
+    let line = line_of(rt.alloc(), &mut office, Occasion::of(None, None), moment)?;
     let wanted =
         "{\"at\":\"2026-11-29T07:26:46.000123Z\",\"event\":\"refused file\",\"partner\":\"O1\",\"way\":\"in\",\"dataset\":\"A\",\
          \"date\":\"20240131\",\"time\":\"1015300001\",\"originator\":\"O1\",\"destination\":\"O2\",\"reason\":\"13\",\

@@ -17,16 +17,16 @@ use Rattle.oftp_events.specs.declared.direction.Direction.{Direction}
 use Rattle.oftp_events.specs.declared.direction.Direction.TheVariants.{In, Out}
 use Rattle.oftp_events.specs.declared.event.Event.{Event}
 use Rattle.oftp_events.specs.declared.event.Event.TheVariants as event
-use Rattle.oftp_watching.specs.Occasions.{session_of, user_of}
 use Rattle.oftp_watching.specs.Answers.{answer_reason, answer_text, answer_words, kind_text, response_answer}
+use Rattle.oftp_watching.specs.Occasions.{session_of, user_of}
 use Rattle.oftp_watching.specs.declared.account.Account.{Account}
 use Rattle.oftp_watching.specs.declared.answer.Answer.{Answer}
 use Rattle.oftp_watching.specs.declared.known.Known.{Known}
 use Rattle.oftp_watching.specs.declared.known.Known.TheVariants as known
 use Rattle.oftp_watching.specs.declared.moment.Moment.{Moment}
 use Rattle.oftp_watching.specs.declared.moment.Subject.{Subject}
-use Rattle.oftp_watching.specs.declared.occasion.Occasion.{Occasion}
 use Rattle.oftp_watching.specs.declared.moment.Subject.TheVariants.{Numbered, Named, Offered}
+use Rattle.oftp_watching.specs.declared.occasion.Occasion.{Occasion}
 
 -- ---- what is known of the file
 

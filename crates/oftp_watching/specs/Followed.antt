@@ -2,9 +2,8 @@
 use Rattle.std.specs.Prelude.{Option, None, Some}
 use Rattle.oftp_wire.specs.declared.command.Command.{Command}
 use Rattle.oftp_wire.specs.declared.command.Command.TheVariants as command
-use Rattle.oftp_wire.specs.declared.command.Sfid.{Sfid}
 use Rattle.oftp_register.specs.declared.entries.Side.TheVariants.{Incoming, Outgoing}
-use Rattle.oftp_register.specs.declared.entry.Identity.{Identity}
+use Rattle.oftp_register.specs.Verdicts.{offered_identity}
 use Rattle.oftp_events.specs.declared.event.Event.{Event}
 use Rattle.oftp_events.specs.declared.event.Event.TheVariants.{BrokenOff, RefusedEnd, RefusedFile}
 use Rattle.oftp_watching.specs.declared.answer.Answer.{Answer}
@@ -17,15 +16,11 @@ use Rattle.oftp_watching.specs.declared.moment.Moment.{Moment}
 use Rattle.oftp_watching.specs.declared.moment.Subject.{Subject}
 use Rattle.oftp_watching.specs.declared.moment.Subject.TheVariants.{Named, Offered}
 
--- the identity of an offered file
-abbrev pub identity_of : Sfid → Identity
-identity_of sfid = record { dataset = sfid.dataset; date = sfid.date; time = sfid.time; originator = sfid.originator; destination = sfid.destination }
-
 -- the file after a command: SFID offers it, SFPA accepts it, EFID tells its end; SFNA before that, and EFPA and EFNA behind it, end its way. The
 -- station answers files that come, the partner those that go. An answer out of its place changes nothing.
 abbrev pub followed : Following → Speaker → Command → Following
-followed f Partner (command.Sfid sfid) = following.Offered Incoming (identity_of sfid)
-followed f Station (command.Sfid sfid) = following.Offered Outgoing (identity_of sfid)
+followed f Partner (command.Sfid sfid) = following.Offered Incoming (offered_identity sfid)
+followed f Station (command.Sfid sfid) = following.Offered Outgoing (offered_identity sfid)
 followed (following.Offered Incoming i) Station (command.Sfpa sfpa) = following.Going Incoming i
 followed (following.Offered Outgoing i) Partner (command.Sfpa sfpa) = following.Going Outgoing i
 followed (following.Offered Incoming i) Station (command.Sfna sfna) = following.Idle

@@ -14,3 +14,9 @@ abbrev pub user_of : Occasion → Option ℕ
 user_of (User user) = Some user
 user_of (Session number) = None
 user_of Command = None
+
+-- What is done in a session is the session's, whoever asks meanwhile. Else it is a command's.
+abbrev pub occasion_of : Option ℕ → Option ℕ → Occasion
+occasion_of (Some number) user = Session number
+occasion_of None (Some user) = User user
+occasion_of None None = Command

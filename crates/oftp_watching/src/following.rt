@@ -1,13 +1,13 @@
 //! What becomes of the files of a session, by the commands of both sides: what no change of the register tells.
 
 ghost use Rattle.std.specs.Prelude.{◌≡◌};
-ghost use Rattle.oftp_watching.specs.Followed.{broken_off, followed, identity_of, told_of, unchanged};
+ghost use Rattle.oftp_watching.specs.Followed.{broken_off, followed, told_of, unchanged};
 
 use crate::answer::Answer;
 use crate::moment::{Moment, Subject};
 use oftp_events::Event;
-use oftp_register::{DigitString, Identity, Name, Side};
-use oftp_wire::{Command, Sfid};
+use oftp_register::{Identity, Side, identity_of};
+use oftp_wire::Command;
 use std::mem;
 
 /// Who said a command.
@@ -30,19 +30,6 @@ pub enum Following {
     Going(Side, Identity),
     /// Its end was told, and isn't answered yet.
     Closing(Side, Identity),
-}
-
-// The identity of an offered file.
-fn identity_of(sfid: &Sfid<'_>) -> Identity
-    ensures { result ≡ identity_of sfid.now }
-{
-    Identity {
-        dataset: Name::of(&sfid.dataset),
-        date: DigitString::of(&sfid.date),
-        time: DigitString::of(&sfid.time),
-        originator: Name::of(&sfid.originator),
-        destination: Name::of(&sfid.destination),
-    }
 }
 
 // What happened to a file without a change of the register.

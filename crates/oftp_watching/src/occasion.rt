@@ -1,7 +1,7 @@
 //! In what something happened to a file.
 
-ghost use Rattle.std.specs.Prelude.{◌≡◌, None};
-ghost use Rattle.oftp_watching.specs.Occasions.{session_of, user_of};
+ghost use Rattle.std.specs.Prelude.{◌≡◌};
+ghost use Rattle.oftp_watching.specs.Occasions.{occasion_of, session_of, user_of};
 
 /// In what something happened to a file.
 #[derive(Clone, Copy, Debug, PartialEq, Eq, Drop)]
@@ -15,14 +15,15 @@ pub enum Occasion {
 }
 
 impl Occasion {
-    /// That of a command, with its user if it came over the station's socket.
-    pub fn of_command(user: Option<u32>) -> Occasion
-        ensures session { session_of result ≡ None }
-        ensures user { user_of result ≡ user }
+    /// That of what was done in the session with this number, if there is one. Else it was done for a command, whose user is known if it came
+    /// over the station's socket.
+    pub fn of(session: Option<u64>, user: Option<u32>) -> Occasion
+        ensures { result ≡ occasion_of session user }
     {
-        match user {
-            Some(user) => Occasion::User(user),
-            None => Occasion::Command,
+        match (session, user) {
+            (Some(number), _) => Occasion::Session(number),
+            (None, Some(user)) => Occasion::User(user),
+            (None, None) => Occasion::Command,
         }
     }
 
