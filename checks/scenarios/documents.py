@@ -152,7 +152,7 @@ def reasons_are_told():
     given = {line[0][:2] for line in lines_of(text, "SFNA") if line[1]}
     expect(given, numbers_of("start_number"), "the reasons of SFNA that this station gives in docs/COMMANDS.md")
     ends = [line[1] for line in lines_of(part_of(COMMANDS, "Lines"), "Line") if line[0] == "`end: own RR`"]
-    given = {"00", *re.findall(r"(?<=[:,] )\d\d\b", "".join(ends))}
+    given = {"00", *re.findall(r"(?<=\. )\d\d(?=:)", "".join(ends))}
     expect(given, numbers_of("session_number"), "the reasons of ESID that this station gives in docs/COMMANDS.md")
     # EFNA has the reasons of SFNA and a few more. The text names these, and those that this station gives.
     told = " ".join(text.partition("(EFNA, section 5.3.10)")[2].partition("\n\n")[0].split())
