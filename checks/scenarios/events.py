@@ -375,6 +375,17 @@ def small_disk(path, size):
         subprocess.run(["umount", "--lazy", path], timeout=LONG, check=True)
 
 
+def all_told(station, path, count):
+    """Waits until so many events were written or lost, or for as long as anything takes."""
+    until = time.monotonic() + 10
+    while time.monotonic() < until:
+        counters = json.loads(station.give("status", "--json").stdout)["counters"]
+        lost = sum(it["count"] for it in counters if it["kind"] == "event lost")
+        if path.read_bytes().count(b"\n") + lost >= count:
+            return
+        time.sleep(0.01)
+
+
 def full_disk(room):
     """A disk that has room for a part of a line. Once it has more, the next line stands by itself."""
     file, disk = room / "file", room / "disk"
@@ -384,6 +395,7 @@ def full_disk(room):
         for number in range(40):
             stamp = ["--dataset", f"N{number}", "--date", "20240201", "--time", "0800000001", "--to", CARMAKER, "--format", "U"]
             expect(station.give("submit", *stamp, file).returncode, 0, "submit")
+        all_told(station, path, 41)
         full = path.read_bytes()
         expect((len(full), full.endswith(b"\n")), (4096, False), "the octets of a full disk, and whether a line ends there")
         subprocess.run(["mount", "-o", "remount,size=64k", disk], timeout=LONG, check=True)
