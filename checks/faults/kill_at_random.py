@@ -38,9 +38,9 @@ from staying import Services, frame
 FULL = (BUFFER - 1) // 64 * 63 + max((BUFFER - 1) % 64 - 1, 0)
 WINDOW = FULL * CREDIT
 FILES_OF_A_DATABASE = 6
-# How many octets the program reads at once, at most. What is done of them before their answers go out is the next change, and all that follow it
-# within such a piece.
-PIECE = 4_096
+# How many octets of a session the program reads at once, at most. What is done of them before their answers go out is the next change, and all that
+# follow it within such a piece.
+PIECE = 65_536
 # Some trials of each kind have to be killed. If there was none when the time is up, the check goes on for at most this many seconds.
 LONGEST = 300
 PARTNER = {"originator": "O0177CARMAKER", "destination": "O0013SUPPLIER"}

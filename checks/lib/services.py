@@ -35,7 +35,8 @@ def expect(found, wanted, what):
 
 
 # These are below the ephemeral ports, so that no connection takes one before a service binds it. A script that runs in parallel begins at
-# another one, and takes none of the last ones that this script has taken. It holds a name for each of them.
+# another one, and takes none of the last ones that this script has taken. It holds a name for each of them. A process that this script begins in
+# the meantime has the socket that asked until it runs its program: so that one is bound as a service's is, which keeps nobody from listening.
 PORTS = itertools.count(20000 + os.getpid() * 101 % 10000)
 TAKEN = collections.deque(maxlen=200)
 
@@ -46,6 +47,7 @@ def free_port(host="127.0.0.1"):
         try:
             name.bind(f"\0port {port} of a check of oftp_station")
             with socket.socket(socket.AF_INET6 if ":" in host else socket.AF_INET) as probe:
+                probe.setsockopt(socket.SOL_SOCKET, socket.SO_REUSEADDR, 1)
                 probe.bind((host, port))
         except OSError:
             name.close()

@@ -13,7 +13,7 @@ first day ends before it, and these are left out. README's two lines for an inst
 typed in a folder that takes the place of /usr/local and /etc. So are the change of the year of docs/howto/days.md, with two stations between which
 something is open at first, and the restore. Each folder that a unit needs is made there, and what reads a service's database is given as its user.
 The book for a service leads to the tunnel. Each speed of README.md stands in docs/PERFORMANCE.md. If `rt` is installed, the documents name its
-logic. With `--verify`, what docs/PROOF-MAP.md shows of `rt ci` is typed too, at the top of the repository, and ends as shown. That is a proof of a
+logic. With `--verify`, what docs/PROOF-MAP.md shows of `rt verdict` is typed too, and ends as shown. That is a proof of a
 small crate: 21 seconds, or 3 where it has passed before. The last line is `N passed, M failed`.
 
 Shows: the commands and options of docs/COMMANDS.md are those of the program, and its reasons those of oftp_wire. Its keys of a partner book are
@@ -22,7 +22,7 @@ if stunnel is installed, go as they are shown. Then so do the second partner and
 installation by hand, and the trial of a restore. So does the change of the year, between two stations that still owe each other something at first.
 examples/two_stations.sh prints what README shows of it. CHANGELOG.md has the program's version. docs/howto makes each folder that a unit needs, and
 gives what reads a service's database as its user. The book of examples/service leads to the tunnel. With `--verify`, as in the gate, what
-docs/PROOF-MAP.md shows of `rt ci` ends as shown. Each speed of README.md stands in docs/PERFORMANCE.md, and the picture of docs/ARCHITECTURE.md has
+docs/PROOF-MAP.md shows of `rt verdict` ends as shown. Each speed of README.md stands in docs/PERFORMANCE.md, and the picture of docs/ARCHITECTURE.md has
 each crate above those that it uses. The documents name the crates that there are and the toolchain's logic
 """
 
@@ -434,17 +434,20 @@ def speeds_are_measured():
 
 
 def verification_ends_as_shown():
-    """What docs/PROOF-MAP.md shows of `rt ci` ends as shown, typed at the top of the repository by a reader. So CI isn't set: if it is, `rt` takes
-    no names. How many passed may differ."""
+    """What docs/PROOF-MAP.md shows of `rt verdict` ends as shown, typed in the folder that it names."""
     if not shutil.which("rt"):
         print("NOT TRIED without rt: how a claim is proved again")
         return
-    block = next(it for it in blocks_below(PROOF_MAP, "How to read a claim", 1) if it[0].startswith("$ rt "))
-    environment = {name: value for name, value in os.environ.items() if name != "CI"}
+    block = next(it for it in blocks_below(PROOF_MAP, "How to read a claim", 1) if it[0].startswith("$ cd "))
+    folder = ROOT
     for command, wanted in typed(block):
-        done = subprocess.run(command.split(), cwd=ROOT, env=environment, capture_output=True, text=True, timeout=600, check=False)
-        ended, shown = (re.sub(r"^\d+ passed", "N passed", (text.splitlines() or [""])[-1]) for text in (done.stdout, wanted))
-        expect(ended, shown, command)
+        words = command.split()
+        if words[0] == "cd":
+            folder = ROOT / words[1]
+            continue
+        done = subprocess.run(words, cwd=folder, capture_output=True, text=True, timeout=600, check=False)
+        shown = (wanted.splitlines() or [""])[-1].removesuffix(" ..")
+        expect((done.stdout.splitlines() or [""])[-1][: len(shown)], shown, command)
 
 
 CASES = [

@@ -194,6 +194,7 @@ def paths(room):
         (["run", *files, "--record", "none"], "none: No such file or directory"),
         ([*submit, "--record", "file", "file"], "file: is no folder"),
         (["backup", "--db", "database", "--record", "none", "kept"], "none: No such file or directory"),
+        (["feed", *files, "--record", "none", "file", "out"], "none: No such file or directory"),
         (["backup", "--db", "database", "none/copy"], "none/copy: No such file or directory"),
         (["backup", "--db", "database", "folder"], "folder: is a folder, and a file is needed"),
         (["backup", "--db", "database", "database"], "database: the command or a database needs it: name another file"),

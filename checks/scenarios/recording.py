@@ -9,8 +9,8 @@ Shows: what a station recorded, played over a new database, gives the tables tha
 with a partner who calls and who is called, with files both ways. It is after operators' commands and after a book that was read again. It is after
 SIGKILL between any two octets of sessions and within commands, with a start again each time. It goes on from a backup. A record that is cut off, or
 in which an octet was changed, is told, and so is a database that isn't the station's. A station goes on behind the last whole entry. One that can't
-write its record ends with `fault: 7 file`. What `listen`, `call` and commands without a station record gives their tables, too, also after kills of
-commands. The register is marked each hour if no session goes on, and before a backup. A part of a record is played from an entry, and up to one.
+write its record ends with `fault: 7 file`. What `listen`, `call`, `feed` and commands without a station record gives their tables, too, also after
+kills of commands and of `feed`. The register is marked each hour if no session goes on, and before a backup. A part of a record is played from an entry, and up to one.
 An audit against a record tells a database that isn't the last one of it, or never was.
 `explain` shows what isn't to be seen in a changed record by its escape
 """
@@ -20,6 +20,7 @@ import hashlib
 import os
 import random
 import shutil
+import signal
 import socket
 import struct
 import subprocess
@@ -156,6 +157,8 @@ def two_stations(room):
         expect(submit(service, "D", file, book)[:13], "done: submit ", "submit")
         service.ends()
     expect_same(room, book=book)
+    explained = subprocess.run([PROGRAM, "explain", "--record", room / "record"], capture_output=True, timeout=LONG, check=False)
+    expect((explained.returncode, explained.stdout), (0, b""), "what is to be told of a partner who keeps to the standard")
 
 
 def book_read_again(room):
@@ -313,6 +316,118 @@ def cut_record(room):
     expect_same(room, 2, 0)
 
 
+def entries_from(octets, at):
+    """The places of the entries from a place on, each with its kind, its moment, and its end."""
+    while at < len(octets):
+        end = at + 54 + int.from_bytes(octets[at + 14 : at + 18], "big")
+        yield at, octets[at + 5], octets[at + 6 : at + 14], end
+        at = end
+
+
+def first_pieces(octets, at):
+    """The ends of the first eight entries from a place on that a session heard at once."""
+    found = [(end, (kind, moment)) for _, kind, moment, end in entries_from(octets, at) if kind == OCTETS_IN]
+    for first in range(len(found) - 7):
+        if len({mark for _, mark in found[first : first + 8]}) == 1:
+            return [end for end, _ in found[first : first + 8]]
+    raise Wrong("no octets were recorded as eight pieces")
+
+
+@contextlib.contextmanager
+def heard_at_once(room, octets, count, *words):
+    """A station that finds so many octets of a session at once, behind its first hundred."""
+    with recording(room, *words) as service, service.caller() as caller:
+        caller.sendall(octets[:100])
+        time.sleep(0.4)
+        service.program.send_signal(signal.SIGSTOP)
+        caller.sendall(octets[100 : 100 + count])
+        time.sleep(0.1)
+        service.program.send_signal(signal.SIGCONT)
+        yield service, caller
+
+
+def lengths_heard(octets):
+    """How many octets a session heard at once, one time after another."""
+    marks, lengths = [None], []
+    for at, kind, moment, end in entries_from(octets, 0):
+        if kind == OCTETS_IN and (kind, moment) == marks[-1]:
+            lengths[-1] += end - at - 71
+        elif kind == OCTETS_IN:
+            lengths.append(end - at - 71)
+        marks.append((kind, moment))
+    return lengths
+
+
+def most_at_once(room):
+    """A session hears 65,536 octets at once and no more: one below that, just as many, and one more."""
+    octets = one_file.session(120_000, 128, 2)
+    for count, lengths in ((65_535, [65_535]), (65_536, [65_536]), (65_537, [65_536, 1])):
+        again = room / str(count)
+        again.mkdir()
+        with heard_at_once(again, octets, count, "--jobs", "1") as (service, caller):
+            time.sleep(0.4)
+            caller.sendall(octets[100 + count :])
+            caller.shutdown(socket.SHUT_WR)
+            rest_of(caller)
+            expect(service.line()[-15:], "end: partner 00", "the line")
+            service.ends()
+        heard = lengths_heard(file_of(again).read_bytes())
+        expect([length for length in heard if length in lengths][: len(lengths)], lengths, f"what is heard of {count} octets")
+        expect_same(again, 1, 0)
+
+
+def killed_within(room, seed):
+    """SIGKILL while a session hears what came at once, with hundreds of windows in it."""
+    chance = random.Random(seed)
+    octets = one_file.session(60_000, 128, 2)
+    with heard_at_once(room, octets, len(octets)) as (service, _):
+        time.sleep(chance.choice([0, 0.005, 0.02, 0.08, 0.3]) * chance.random())
+        service.program.kill()
+        service.program.wait()
+    file = room / "file"
+    file.write_bytes(b"x")
+    with recording(room, "--jobs", "1") as service:
+        submit(service, "LAST", file)
+        service.ends()
+    expect_same(room)
+
+
+def killed_within_pieces(room):
+    """SIGKILL within what a session hears at once."""
+    many(room, killed_within, 12)
+
+
+def torn_pieces(room):
+    """A kill within the write of eight pieces, and one right behind it: nothing of them was handed to the session."""
+    octets = one_file.session(60_000, 128, 2)
+    with recording(room) as service, service.caller() as caller:
+        caller.sendall(octets[:100])
+        time.sleep(0.5)
+        service.program.send_signal(signal.SIGSTOP)
+        files = {name: (room / name).read_bytes() for name in ("database", "database-wal") if (room / name).exists()}
+        size = file_of(room).stat().st_size
+        caller.sendall(octets[100:])
+        service.program.send_signal(signal.SIGCONT)
+        caller.shutdown(socket.SHUT_WR)
+        rest_of(caller)
+        service.program.kill()
+        service.program.wait()
+    record = file_of(room).read_bytes()
+    ends = first_pieces(record, size)
+    for name, cut in (("within", ends[4] + 100), ("behind", ends[7])):
+        again = room / name
+        (again / "record").mkdir(parents=True)
+        for file, content in files.items():
+            (again / file).write_bytes(content)
+        (again / "record" / file_of(room).name).write_bytes(record[:cut])
+        with recording(again, "--jobs", "1") as service:
+            file = again / "file"
+            file.write_bytes(bytes(10))
+            submit(service, "LAST", file)
+            service.ends()
+        expect_same(again)
+
+
 def backup(room):
     """The record goes on from a backup that was made between two stations' lives."""
     one_session(room)
@@ -438,7 +553,7 @@ def full_disk(room):
 
 
 # The kinds of entries that are looked for.
-OPENING, SESSION, CALL, BACKUP, MARK = 1, 2, 6, 7, 8
+OPENING, SESSION, OCTETS_IN, OCTETS_OUT, END, CALL, BACKUP, MARK = 1, 2, 3, 4, 5, 6, 7, 8
 
 
 def entries_of(file):
@@ -456,6 +571,18 @@ def users_in(room):
         if kind == CALL:
             (count,) = struct.unpack(">I", content[9:13])
             yield content[13 : 13 + count].decode()
+
+
+def said_in(room):
+    """The octets that went out, behind a number, a code and two empty texts in each entry."""
+    return b"".join(content[17:] for kind, content in entries_of(file_of(room)) if kind == OCTETS_OUT)
+
+
+def copied(room, name):
+    """Copies the database under another name."""
+    for end in ("", "-wal"):
+        if (room / f"database{end}").exists():
+            shutil.copyfile(room / f"database{end}", room / f"{name}{end}")
 
 
 def kinds_in(room):
@@ -537,6 +664,88 @@ def listen_and_call(room):
     expect_same(folder, 1, 1, book=theirs)
 
 
+def fed(room, octets, *words, status=0):
+    """What `feed` prints of a session with these octets, with a record."""
+    (room / "in").write_bytes(octets)
+    return alone(room, "feed", *words, room / "in", room / "out", status=status)
+
+
+# What `feed` records of a session in one piece.
+FED = [OPENING, SESSION, OCTETS_IN, OCTETS_OUT, END, MARK]
+
+
+def feeds(room):
+    """`feed` twice, once to the end and once in a file's midst, then for a partner who is called: each is recorded, and strangers aren't."""
+    (room / "record").mkdir()
+    (room / "file").write_bytes(bytes(250))
+    whole = session_of("receiving/one_octet").joined("in")
+    expect(fed(room, whole), "end: partner 00\n", "the whole session")
+    expect(kinds_in(room), FED, "the entries of one session")
+    expect(said_in(room), (room / "out").read_bytes()[-len(said_in(room)) :], "the octets that went out")
+    expect_same(room, 1, 0)
+    copied(room, "once")
+    broken = one_file.session(30_000, 128, 2).replace(b"ASN.0001", b"ASN.0002")
+    expect(fed(room, broken[: len(broken) // 2]), "end: input\n", "the broken session")
+    expect(tables.read(room / "database")["in_file"] != tables.read(room / "once")["in_file"], True, "whether a beginning was kept")
+    copied(room, "twice")
+    expect_same(room, 1, 0, database="once")
+    alone(room, "submit", *IDENTITY, "--dataset", "A", room / "file")
+    called = session_of("sending/credit_of_one")
+    expect(fed(room, called.joined("in"), *called.role), "end: partner 00\n", "the session of a call")
+    expect_same(room, 1, 1, database="twice")
+    before = len(kinds_in(room))
+    expect(fed(room, session_of("opening/wrong_password").joined("in")), "end: own 04\n", "a stranger")
+    expect(fed(room, b""), "end: input\n", "nobody")
+    expect(kinds_in(room)[before:], [OPENING, MARK] * 2, "the entries of strangers")
+    (room / "new-again").mkdir()
+    expect_same(room, 3, 1, database="new-again/database")
+
+
+def feeds_refused(room):
+    """`feed` without a database records nothing, and writes to no file of the record. Without its folder OUT isn't made."""
+    (room / "record").mkdir()
+    octets = session_of("receiving/one_octet").joined("in")
+    (room / "in").write_bytes(octets)
+    words = [PROGRAM, "feed", "--book", BOOK, "--record", room / "record", room / "in", room / "out"]
+    expect(subprocess.run(words, capture_output=True, timeout=LONG, check=False).returncode, 2, "feed with a record, and a register in memory")
+    expect(list((room / "record").iterdir()), [], "the record")
+    fed(room, octets)
+    before = file_of(room).read_bytes()
+    (room / "led").symlink_to(file_of(room))
+    for name in (file_of(room), room / "led"):
+        expect(alone(room, "feed", room / "in", name, status=1), "fault: 7 file\n", "OUT that is the record")
+    expect(file_of(room).read_bytes(), before, "the record")
+    words = ["feed", "--db", room / "database", "--book", BOOK, "--record", room / "nowhere", room / "in", room / "other"]
+    expect(subprocess.run([PROGRAM, *words], capture_output=True, timeout=LONG, check=False).stderr, b"fault: 7 file\n", "feed without the folder")
+    expect((room / "other").exists(), False, "whether OUT was made")
+    expect_same(room, 1, 0)
+
+
+def killed_feed(room, seed):
+    """SIGKILL at any moment of `feed`, whose partner sends in pieces."""
+    chance = random.Random(seed)
+    (room / "record").mkdir()
+    for turn in range(6):
+        octets = one_file.session(30_000, 128, 2) if turn % 2 else session_of("receiving/one_octet").joined("in")
+        words = ["feed", "--db", room / "database", "--book", BOOK, "--record", room / "record", "/dev/stdin", "/dev/null"]
+        with subprocess.Popen([PROGRAM, *words], bufsize=0, stdin=subprocess.PIPE, stdout=subprocess.DEVNULL, stderr=subprocess.DEVNULL) as program:
+            # It may have ended by itself.
+            with contextlib.suppress(BrokenPipeError):
+                for _ in range(3):
+                    count = chance.randrange(len(octets) + 1)
+                    program.stdin.write(octets[:count])
+                    octets = octets[count:]
+                    time.sleep(chance.choice([0, 0.002, 0.01, 0.05]))
+            program.kill()
+    fed(room, session_of("listening/nothing_waiting").joined("in"))
+    expect_same(room)
+
+
+def killed_feeds(room):
+    """SIGKILL within sessions of `feed`."""
+    many(room, killed_feed, 12)
+
+
 def backups_recorded(room):
     """A backup of a station and one without a station are in the record, with their paths, and it goes on from either."""
     (room / "record").mkdir()
@@ -563,7 +772,7 @@ def parts(room):
     for name in ("A", "B", "C"):
         alone(room, "submit", *IDENTITY, "--dataset", name, room / "file")
     day, kinds = file_of(room).stem, kinds_in(room)
-    expect(kinds, [OPENING, CALL, 5, MARK] * 3, "the entries")
+    expect(kinds, [OPENING, CALL, END, MARK] * 3, "the entries")
     expect(list(users_in(room)), [str(os.geteuid())] * 3, "the users of the calls")
 
     def part(database, *words):
@@ -619,7 +828,7 @@ def put(file, kind, content):
     """Appends an entry to a day's file, as a station does."""
     octets = file.read_bytes()
     body = octets[:5] + bytes([kind]) + bytes(8) + struct.pack(">II", len(content), 2**32 - 1 - len(content)) + content
-    file.write_bytes(octets + body + hashlib.sha256(body + octets[-32:]).digest())
+    file.write_bytes(octets + body + hashlib.sha256(hashlib.sha256(body).digest() + octets[-32:]).digest())
 
 
 def spelled(text):
@@ -676,7 +885,7 @@ def killed_behind_the_copy(room):
         expect((done.returncode, done.stdout.decode()), (1, f"register: {line}\n"), f"{database} of a killed station")
 
 
-CASES = [commands, rows, two_stations, book_read_again, killed_at_moments, killed_beside_partners, changed_octet, cut_record, backup, days, two_in_one_folder, without_syncing, other_database, full_disk, full_disk_of_the_database, commands_alone, killed_commands, listen_and_call, backups_recorded, parts, marks, hostile_record, audits]
+CASES = [commands, rows, two_stations, book_read_again, killed_at_moments, killed_beside_partners, changed_octet, cut_record, most_at_once, killed_within_pieces, torn_pieces, backup, days, two_in_one_folder, without_syncing, other_database, full_disk, full_disk_of_the_database, commands_alone, killed_commands, listen_and_call, feeds, feeds_refused, killed_feeds, backups_recorded, parts, marks, hostile_record, audits]
 
 
 def tried(case):

@@ -44,14 +44,14 @@ def book_in(room, address="127.0.0.1:3305"):
 
 
 def spoken():
-    """What the partner says at first, and what it says then, and which share of its file has come between."""
+    """What the partner says before it may send its file, the first half of that, and what it says then. Also which share of its file the half is."""
     opening = frame_of("SSID", code=CARMAKER, password="CARPW", buffer=str(BUFFER), credit="99", mode="B")
     offer = frame_of("SFID", size=str(SIZE // 1024), **FILE)
     frames = data_frames(SIZE, BUFFER)
     half = len(frames) // 2
     rest = [*frames[half:], frame_of("EFID", records="0", units=str(SIZE)), frame_of("ESID", reason="00")]
     came = sum(len(frame) - 5 for frame in frames[:half])
-    return b"".join([opening, offer, *frames[:half]]), b"".join(rest), came * 100 // SIZE
+    return opening + offer, b"".join(frames[:half]), b"".join(rest), came * 100 // SIZE
 
 
 def said_on(terminal, until):
@@ -68,11 +68,11 @@ def during_a_session(room, *options):
     """What a command says on a terminal in two seconds of a session, and from then on up to its end. Also the share that has come."""
     file = room / "file"
     file.write_bytes(b"x")
-    first, then, share = spoken()
+    opened, half, then, share = spoken()
     ours, theirs = pty.openpty()
     book = book_in(room)
     with Resident(room, *options, book=book) as station, station.caller() as caller:
-        caller.sendall(first)
+        caller.sendall(opened + half)
         time.sleep(0.5)
         words = [PROGRAM, "submit", "--db", station.database, "--book", book, *SUBMIT, file]
         command = subprocess.Popen(words, stdout=subprocess.PIPE, stderr=theirs)
@@ -106,10 +106,10 @@ def no_terminal(room):
     """Where standard error is no terminal nothing is said, with `--notes` neither."""
     file = room / "file"
     file.write_bytes(b"x")
-    first, then, _ = spoken()
+    opened, half, then, _ = spoken()
     book = book_in(room)
     with Resident(room, "--events", room / "events", book=book) as station, station.caller() as caller:
-        caller.sendall(first)
+        caller.sendall(opened + half)
         time.sleep(0.5)
         words = [PROGRAM, "submit", "--db", station.database, "--book", book, "--notes", *SUBMIT, file]
         command = subprocess.Popen(words, stdout=subprocess.PIPE, stderr=subprocess.PIPE)
@@ -120,12 +120,14 @@ def no_terminal(room):
 
 
 def called(post, words, stderr):
-    """The call of a partner who goes on two seconds after the first half of its file, with one octet and then with the rest. Also the half's
-    share."""
-    first, then, share = spoken()
+    """The call of a partner who sends the first half of its file once it is accepted. It goes on two seconds later, with one octet and then with the
+    rest. Also the half's share."""
+    opened, half, then, share = spoken()
     command = subprocess.Popen(words, stdout=subprocess.PIPE, stderr=stderr)
     with post.accept()[0] as partner:
-        partner.sendall(frame_of("SSRM") + first)
+        partner.sendall(frame_of("SSRM") + opened)
+        time.sleep(0.2)
+        partner.sendall(half)
         time.sleep(2)
         partner.sendall(then[:1])
         time.sleep(0.5)
@@ -177,10 +179,10 @@ def offered(room, stderr):
     folder.mkdir()
     for name in ("INV.1", "INV.2"):
         (folder / name).write_bytes(b"x")
-    first, then, _ = spoken()
+    opened, half, then, _ = spoken()
     book = book_in(room)
     with Resident(room, book=book) as station, station.caller() as caller:
-        caller.sendall(first)
+        caller.sendall(opened + half)
         time.sleep(0.5)
         words = [PROGRAM, "offer", "--db", station.database, "--book", book, "--to", CARMAKER, "--from", folder]
         command = subprocess.Popen(words, stdout=subprocess.PIPE, stderr=stderr)

@@ -602,13 +602,29 @@ show_lines = refl
 feed_lines : AreRead (
     -- by default `feed` is a responder with any partner and a register in memory
     asks (codes "feed --book=b i o")
-    (said_feed (record { database = None; book = codes "b"; role = Responder; partner = None; trace = None; input = codes "i"; output = codes "o" }))
+    (said_feed (record { database = None; book = codes "b"; role = Responder; partner = None; trace = None; «record» = None; input = codes "i"; output = codes "o" }))
     -- options and words come in any order
     ∷ asks (codes "feed i --role initiator --db=d o --partner=p --trace=t --book b")
-    (said_feed (record { database = Some (codes "d"); book = codes "b"; role = Initiator; partner = Some (codes "p"); trace = Some (codes "t"); input = codes "i"; output = codes "o" }))
+    (said_feed (record {
+      database = Some (codes "d");
+      book = codes "b";
+      role = Initiator;
+      partner = Some (codes "p");
+      trace = Some (codes "t");
+      «record» = None;
+      input = codes "i";
+      output = codes "o";
+    }))
+    -- what is done to a database may be recorded
+    ∷ asks (codes "feed --db=d --book=b --record=r i o")
+    (said_feed (record { database = Some (codes "d"); book = codes "b"; role = Responder; partner = None; trace = None; «record» = Some (codes "r"); input = codes "i"; output = codes "o" }))
     -- after `--` a word may begin with a minus
     ∷ asks (codes "feed --book=b -- -i --role")
-    (said_feed (record { database = None; book = codes "b"; role = Responder; partner = None; trace = None; input = codes "-i"; output = codes "--role" }))
+    (said_feed (record { database = None; book = codes "b"; role = Responder; partner = None; trace = None; «record» = None; input = codes "-i"; output = codes "--role" }))
+    -- of a register in memory there is no record
+    ∷ bad (codes "feed --book=b --record=r i o")
+    -- `--record-sync` is an option of `run` alone
+    ∷ bad (codes "feed --db=d --book=b --record=r --record-sync=no i o")
     -- no side has this name
     ∷ bad (codes "feed --book=b --role=listener i o")
     -- an option may only be given once

@@ -16,8 +16,10 @@ mod recording;
 mod registers;
 mod replaying;
 mod reporting;
+mod session_record;
 mod sessions;
 mod standings;
+mod talking;
 
 pub use auditing::audit;
 pub use backups::back_up;

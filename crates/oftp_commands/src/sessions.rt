@@ -1,57 +1,69 @@
 //! The command `feed`, which runs one session from file to file.
 
+use crate::session_record::SessionRecord;
+use crate::talking::Wire;
 use oftp_command_line::{Feed, FeedRole};
 use oftp_database::{self as database, PATIENCE, WatchedOffice};
 use oftp_engine::{End, Port, Refusal, Role, serve_in_memory};
 use oftp_files::{
     LIMITS, Trace, Traced, are_of_one_file, file_fault, is_at, is_beside_database, is_of_database,
-    open_input, open_trace, read_book,
+    open_input, open_trace, read_book_octets,
 };
 use oftp_life::Life;
 use oftp_outcomes::{Fault, Outcome};
 use oftp_partners::{Book, Partner};
+use oftp_recording::{file_of, record_files};
 use oftp_register::PlainOffice;
-use oftp_sockets::{ports_of, run_session};
+use oftp_sockets::ports_of;
 use std::fs::{self, File, Metadata, OpenFile};
 use std::io::ErrorKind;
-use std::rt::Files;
 
-/// Runs one session with the octets of one file as input and another file as output. Without a database the register is in memory.
+/// Runs one session with the octets of one file as input and another file as output, and records it if a record is named. Without a database the
+/// register is in memory.
 ///
 /// # Errors
-/// [`Fault::Book`], [`Fault::Store`] or [`Fault::File`] if the book, the database or a file can't be opened; [`Fault::Run`] if the session
-/// failed.
+/// [`Fault::Book`], [`Fault::Store`] or [`Fault::File`] if the book, the database or a file can't be opened; [`Fault::File`] if the record can't be
+/// written; [`Fault::Run`] if the session failed.
 pub fn feed(rt: &HostRuntime, line: &Feed<'_>) -> Result<Outcome, Fault> {
-    let book = read_book(rt, line.book)?;
+    let (octets, book) = read_book_octets(rt, line.book)?;
     let Some(role) = role_of(&book, line) else {
         return Ok(Outcome::Refused(Refusal::Unknown));
     };
     match line.database {
-        Some(path) => feed_durable(
-            rt,
-            line,
-            &book,
-            role,
-            database::live(rt, path, PATIENCE, None)?,
-        ),
+        Some(path) => {
+            let life = database::live(rt, path, PATIENCE, None)?;
+            feed_durable(rt, line, octets.as_slice(), &book, role, life)
+        }
         None => feed_in_memory(rt, line, &book, role),
     }
 }
 
-/// Runs the session in a life over a database, and closes it.
+/// Runs the session in a life over a database, by a book whose octets are given too, and closes it.
 fn feed_durable(
     rt: &HostRuntime,
     line: &Feed<'_>,
+    octets: &[u8],
     book: &Book,
     role: Role<'_>,
     life: Life<WatchedOffice<'_>>,
 ) -> Result<Outcome, Fault> {
+    let mut life = life;
     let input = open_input(rt, line.input)?;
     let trace = trace_of(rt, line)?;
-    let (mut reader, mut writer) = ports(rt, line, input, trace.as_ref())?;
-    let (life, ended) = run_session(rt.alloc(), life, book, role, &mut reader, &mut writer);
+    let record = SessionRecord::open(rt, line.record, line.input)?;
+    let (reader, writer) = ports(rt, line, input, trace.as_ref())?;
+    record.begin(octets, &mut life)?;
+    let mut wire = Wire {
+        alloc: rt.alloc(),
+        reader,
+        writer,
+        record: &record,
+    };
+    let (life, ended) = wire.run(life, book, role);
+    let mut life = life;
+    let ended = record.mark(ended, &mut life);
     drop(life);
-    outcome_of(ended.map_err(Fault::Run), trace.as_ref())
+    outcome_of(ended, trace.as_ref())
 }
 
 /// Runs the session with a register in memory.
@@ -114,11 +126,7 @@ fn ports<'a>(
 }
 
 /// Refuses an output file that the session needs, since it would be truncated. A device isn't.
-fn check_output<R: Files + AllocGlobal>(
-    rt: &R,
-    line: &Feed<'_>,
-    input: &R::File,
-) -> Result<(), Fault> {
+fn check_output(rt: &HostRuntime, line: &Feed<'_>, input: &File) -> Result<(), Fault> {
     let output = match fs::metadata(rt, line.output) {
         Ok(output) => output,
         Err(error) if error.kind() == ErrorKind::NotFound => return Ok(()),
@@ -139,9 +147,9 @@ fn check_name(rt: &HostRuntime, line: &Feed<'_>) -> Result<(), Fault> {
     }
 }
 
-/// Whether the output is the input, the book, the trace or a file of the database.
-fn is_needed<R: Files + AllocGlobal>(
-    rt: &R,
+/// Whether the output is the input, the book, the trace, or a file of the record or of the database.
+fn is_needed(
+    rt: &HostRuntime,
     line: &Feed<'_>,
     output: &Metadata,
     input: &Metadata,
@@ -154,8 +162,24 @@ fn is_needed<R: Files + AllocGlobal>(
     {
         return Ok(true);
     }
+    if let Some(folder) = line.record
+        && is_of_record(rt, output, folder)?
+    {
+        return Ok(true);
+    }
     match line.database {
         Some(path) => is_of_database(rt, output, path),
         None => Ok(false),
     }
+}
+
+/// Whether a file is one of the record in a folder.
+fn is_of_record(rt: &HostRuntime, about: &Metadata, folder: &str) -> Result<bool, Fault> {
+    for day in record_files(rt, folder)? {
+        let path = file_of(rt, folder, day.as_str())?;
+        if is_at(rt, about, path.as_str())? {
+            return Ok(true);
+        }
+    }
+    Ok(false)
 }

@@ -1,5 +1,8 @@
 -- The definitions that contracts cite: the fields of a content as octets, and the codes.
 pub mod Fields
+pub mod Pieces
 pub mod Places
+pub mod Days
+pub mod Playing
 pub mod Standings
 pub mod Codes

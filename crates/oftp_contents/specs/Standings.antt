@@ -1,5 +1,6 @@
 -- How a register stands to those of which a record has the digests.
-use Rattle.std.specs.Prelude.{Option, None, Some}
+use Rattle.std.specs.Prelude.{ℕ, List, Option, None, Some, if◌then◌else◌}
+use Rattle.std.specs.Str.{bytes_eq}
 use Rattle.oftp_contents.specs.declared.standing.Likeness.{Likeness}
 use Rattle.oftp_contents.specs.declared.standing.Likeness.TheVariants as likenesses
 use Rattle.oftp_contents.specs.declared.standing.RegisterStanding.{RegisterStanding}
@@ -24,3 +25,8 @@ standing_after standing likenesses.Same = standings.Last
 standing_after standings.Unknown likenesses.Other = standings.Unknown
 standing_after standings.Last likenesses.Other = standings.Earlier
 standing_after standings.Earlier likenesses.Other = standings.Earlier
+
+-- what an entry of a kind tells of a register, which may have the digest of one
+abbrev pub likeness_at : RecordKind → Option (List ℕ) → List ℕ → Option Likeness
+likeness_at kind None register = likeness_behind kind
+likeness_at kind (Some digest) register = Some (if bytes_eq digest register then likenesses.Same else likenesses.Other)

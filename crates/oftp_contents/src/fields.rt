@@ -10,7 +10,7 @@ use oftp_record::{AppendFault, LONGEST_CONTENT};
 use std::alloc::{AllocError, Global};
 
 /// The octets of a content beside its texts and its octets: the number, the code, and two lengths.
-const FIXED: usize = 17;
+pub(crate) const FIXED: usize = 17;
 
 /// The most octets of the texts and the octets together.
 const ROOM: usize = LONGEST_CONTENT - FIXED;

@@ -26,14 +26,20 @@
 #![tactic(auto)]
 
 mod codes;
+mod days;
 mod fields;
 pub mod laws;
 mod marks;
+mod pieces;
 mod places;
+mod playing;
 mod standing;
 
 pub use codes::{EndCause, Marked, RecordSide};
+pub use days::{DayTurn, RECORD_ENDING, day_at, day_in, days_passed, number_of_day, turn_of};
 pub use fields::ContentFields;
 pub use marks::left_to_mark;
+pub use pieces::{LEAST_PIECE, PieceMark, SessionOctets};
 pub use places::EntryPlace;
+pub use playing::{Doing, EndLine, is_settled, was_made};
 pub use standing::{Likeness, RegisterStanding};

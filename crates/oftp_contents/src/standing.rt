@@ -1,9 +1,9 @@
 //! How a register stands to those of which a record has the digests.
 
 ghost use Rattle.std.specs.Prelude.{◌≡◌};
-ghost use Rattle.oftp_contents.specs.Standings.{likeness_behind, standing_after};
+ghost use Rattle.oftp_contents.specs.Standings.{likeness_at, likeness_behind, standing_after};
 
-use oftp_record::RecordKind;
+use oftp_record::{DIGEST_LEN, RecordKind};
 
 /// How a register stands to those that a record has.
 #[derive(Clone, Copy, Debug, PartialEq, Eq, Drop)]
@@ -26,6 +26,21 @@ pub enum Likeness {
 }
 
 impl Likeness {
+    /// What an entry of a kind tells of the register with a digest, if it has the digest of one or has none. `None` if it tells nothing.
+    pub fn at(
+        kind: RecordKind,
+        digest: Option<[u8; DIGEST_LEN]>,
+        register: [u8; DIGEST_LEN],
+    ) -> Option<Likeness>
+        ensures { result ≡ likeness_at kind digest register }
+    {
+        match digest {
+            Some(digest) if digest == register => Some(Likeness::Same),
+            Some(_) => Some(Likeness::Other),
+            None => Likeness::behind(kind),
+        }
+    }
+
     /// What an entry without a digest tells: behind the beginning of a session or a call the register may be another one. `None` if it tells nothing.
     pub fn behind(kind: RecordKind) -> Option<Likeness>
         ensures { result ≡ likeness_behind kind }

@@ -1,11 +1,9 @@
 //! What is wrong in a partner book: the first error, or each thing that is found.
 
 use crate::addresses::{has_name, is_called};
-use crate::judging::{
-    PARTNER_KEYS, STATION_KEYS, TOP_KEYS, Table, is_read, line_at, line_in, nearest,
-};
+use crate::judging::{Table, line_at, line_in, nearest};
 use crate::teller::Teller;
-use oftp_notes::{BookNote, Finding, Key, Note, Place, Wrong, wrong_with};
+use oftp_notes::{BookNote, Finding, Key, Note, Place, TableKind, Wrong, wrong_with};
 use std::fs;
 use std::io::{Read, Write};
 use std::os::unix::fs::MetadataExt;
@@ -145,11 +143,11 @@ impl<W: Write> Reading<'_, '_, W> {
 
     /// Reads the station and the partners.
     fn read_book(&mut self, members: &Members) {
-        self.look_for_others(members, Table::Top, &TOP_KEYS);
+        self.look_for_others(members, Table::Top, TableKind::Top);
         self.read_key(members, Key::Station);
         let station = members.get("station").and_then(Value::as_table);
         if let Some(station) = station {
-            self.read_table(station, Table::Station, Place::Station, &STATION_KEYS);
+            self.read_table(station, Table::Station, Place::Station, TableKind::Station);
         }
         self.read_key(members, Key::Partner);
         if let Some(partners) = members.get("partner").and_then(Value::as_array) {
@@ -165,9 +163,9 @@ impl<W: Write> Reading<'_, '_, W> {
     }
 
     /// Reads the values of a table.
-    fn read_table(&mut self, members: &Members, table: Table, place: Place<'_>, keys: &[Key]) {
-        self.look_for_others(members, table, keys);
-        for key in keys {
+    fn read_table(&mut self, members: &Members, table: Table, place: Place<'_>, kind: TableKind) {
+        self.look_for_others(members, table, kind);
+        for key in kind.keys() {
             if let Some(wrong) = wrong_with(members.get(key.word()), *key) {
                 self.find(table, place, *key, wrong);
             }
@@ -215,7 +213,7 @@ impl<W: Write> Reading<'_, '_, W> {
                 self.find(table, place, Key::Code, Wrong::Twice);
             }
         }
-        self.read_table(members, table, place, &PARTNER_KEYS);
+        self.read_table(members, table, place, TableKind::Partner);
         self.look_at_address(members, table, place);
     }
 
@@ -233,20 +231,20 @@ impl<W: Write> Reading<'_, '_, W> {
     }
 
     /// Warns of keys that are ignored.
-    fn look_for_others(&mut self, members: &Members, table: Table, keys: &[Key]) {
+    fn look_for_others(&mut self, members: &Members, table: Table, kind: TableKind) {
         if self.extent == Extent::First {
             return;
         }
         for (key, _) in members {
-            if !is_read(table, keys, key.as_str()) {
-                self.tell_ignored(table, keys, key.as_str());
+            if !kind.reads(key.as_str()) {
+                self.tell_ignored(table, kind, key.as_str());
             }
         }
     }
 
     /// Warns of a key that is ignored.
-    fn tell_ignored(&mut self, table: Table, keys: &[Key], key: &str) {
-        let Ok(nearest) = nearest(self.teller.rt.alloc(), keys, key) else {
+    fn tell_ignored(&mut self, table: Table, kind: TableKind, key: &str) {
+        let Ok(nearest) = nearest(self.teller.rt.alloc(), kind.keys(), key) else {
             return;
         };
         let line = line_in(self.text, table, key);

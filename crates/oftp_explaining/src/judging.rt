@@ -4,24 +4,6 @@ use oftp_notes::Key;
 use std::alloc::{AllocError, Global};
 use strsim::levenshtein;
 
-/// The keys of the table of the station, in the order in which they are read.
-pub(crate) const STATION_KEYS: [Key; 4] = [Key::Code, Key::Buffer, Key::Credit, Key::Restart];
-
-/// The keys of the table of a partner, in the order in which they are read.
-pub(crate) const PARTNER_KEYS: [Key; 5] = [
-    Key::Code,
-    Key::Expects,
-    Key::Sends,
-    Key::Mode,
-    Key::Address,
-];
-
-/// The key of a partner that `health` alone reads.
-const OVERDUE: &str = "overdue";
-
-/// The keys outside of all tables.
-pub(crate) const TOP_KEYS: [Key; 2] = [Key::Station, Key::Partner];
-
 /// A table of a book.
 #[derive(Clone, Copy, PartialEq, Eq)]
 pub(crate) enum Table {
@@ -84,24 +66,6 @@ pub(crate) fn line_at(text: &str, octet: usize) -> u64 {
         }
     }
     line
-}
-
-/// Whether a key is among these.
-fn is_among(keys: &[Key], word: &str) -> bool {
-    for key in keys {
-        if key.word() == word {
-            return true;
-        }
-    }
-    false
-}
-
-/// Whether something reads a key of a table: the station, or `health`.
-pub(crate) fn is_read(table: Table, keys: &[Key], key: &str) -> bool {
-    match table {
-        Table::Partner(_) if key == OVERDUE => true,
-        _ => is_among(keys, key),
-    }
 }
 
 /// The key among these that looks most like a word.

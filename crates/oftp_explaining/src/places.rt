@@ -95,6 +95,7 @@ pub(crate) fn events_of<'a>(line: &Line<'a>) -> Option<&'a str> {
 /// The folder of the record that a line asks for.
 pub(crate) fn record_of<'a>(line: &Line<'a>) -> Option<&'a str> {
     match line {
+        Line::Feed(feed) => feed.record,
         Line::Backup(backup) => backup.record,
         other => files_of(other)?.record,
     }

@@ -2,6 +2,7 @@ pub mod Causes
 pub mod Fields
 pub mod Findings
 pub mod Judging
+pub mod Keys
 pub mod Notes
 pub mod Seen
 pub mod System

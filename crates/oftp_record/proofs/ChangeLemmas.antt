@@ -5,9 +5,8 @@ use Rattle.std.proofs.lemmas.List.{drop_at, get_or-append_right, get_or_append_l
 use Rattle.std.proofs.lemmas.Nat.{be_bytes_8}
 use Rattle.std.specs.Int.{w32, w64, from_be_bytes, to_be_bytes}
 use Rattle.std.specs.List.{AllByRecursion}
-use Rattle.sha2.specs.Sha256.{sha256}
 use Rattle.oftp_record.specs.Changes.{EndsWithOtherDigest, IsChangedBehind, IsGuardedByDigest, TellsChange}
-use Rattle.oftp_record.specs.Entries.{IsEntry, Noted, entry_body, entry_digest, entry_header, entry_length, entry_octets, kind_number}
+use Rattle.oftp_record.specs.Entries.{IsEntry, Noted, chained, entry_body, entry_digest, entry_header, entry_length, entry_octets, kind_number}
 use Rattle.oftp_record.specs.Next.{Changed, IsNext}
 use Rattle.oftp_record.specs.Records.{last_digest, record_octets}
 use Rattle.oftp_record.specs.declared.chain.TheConstants.{DIGEST_LEN}
@@ -105,7 +104,7 @@ record Told (before octets : List ℕ) : Type 0 where
 
 -- the octets of a header as far as its count
 abbrev front : RecordKind → ℕ → List ℕ
-front kind moment = codes "OREC1" ++ (kind_number kind ∷ to_be_bytes w64 moment)
+front kind moment = codes "OREC2" ++ (kind_number kind ∷ to_be_bytes w64 moment)
 
 abbrev lack : ℕ → ℕ
 lack count = 2 ^ 32 - 1 - count
@@ -142,14 +141,14 @@ module _ (before rest : List ℕ) (e : Noted) (is : IsEntry e) (at v : ℕ) (sma
           sound = it;
           parts = ap (λ (z : List ℕ). z ++ rest) parts ∙ append_assoc body digest rest;
           size = digest_length e before;
-          other = λ same. ends (last ∙ same ∙ ap (λ (z : List ℕ). sha256 (z ++ before)) (sym first));
+          other = λ same. ends (last ∙ same ∙ ap (λ (z : List ℕ). chained z before) (sym first));
         };
       }
 
   -- the word and the version
   in_word : at < KIND_AT → Told before (set was at v ++ rest)
   in_word low =
-      let word : List ℕ = codes "OREC1" in
+      let word : List ℕ = codes "OREC2" in
       record {
         sign = signs.Header;
         next = record {
@@ -181,7 +180,7 @@ module _ (before rest : List ℕ) (e : Noted) (is : IsEntry e) (at v : ℕ) (sma
 
   in_moment : MOMENT_AT ≤ at → at < COUNT_AT → EndsWithOtherDigest before (set was at v) → Told before (set was at v ++ rest)
   in_moment from below ends =
-      let word : List ℕ = codes "OREC1" ++ (kind_number e.kind ∷ []) in
+      let word : List ℕ = codes "OREC2" ++ (kind_number e.kind ∷ []) in
       let octets = to_be_bytes w64 e.moment in
       let behind = drop COUNT_AT was in
       let changed = set octets (at - MOMENT_AT) v in

@@ -4,6 +4,7 @@ use Rattle.std.proofs.lemmas.List.{drop-drop, drop_at, drop_more, take-append-dr
 use Rattle.std.proofs.lemmas.Nat.{from_be_bytes-to_be_bytes_4, from_be_bytes-to_be_bytes_8}
 use Rattle.std.specs.Int.{w32, w64, to_be_bytes, from_be_bytes}
 use Rattle.sha2.proofs.Facts256.{length-sha256}
+use Rattle.sha2.specs.Sha256.{sha256}
 use Rattle.oftp_record.specs.Entries.{IsEntry, Noted, entry_body, entry_digest, entry_header, entry_length, entry_octets, kind_number}
 use Rattle.oftp_record.specs.Next.{HasNoHeader}
 use Rattle.oftp_record.specs.declared.chain.TheConstants.{DIGEST_LEN}
@@ -79,13 +80,13 @@ pub body_length : (e : Noted) → length (entry_body e) ≡ HEADER_LEN + length 
 body_length e = length-append (entry_header e.kind e.moment (length e.content)) e.content
 
 pub digest_length : (e : Noted) (before : List ℕ) → length (entry_digest e before) ≡ DIGEST_LEN
-digest_length e before = length-sha256 (entry_body e ++ before)
+digest_length e before = length-sha256 (sha256 (entry_body e) ++ before)
 
 pub octets_length : (e : Noted) (before : List ℕ) → length (entry_octets e before) ≡ entry_length e
 octets_length e before = omega (arith, length-append (entry_body e) (entry_digest e before), body_length e, digest_length e before)
 
 -- octets that have the parts of a header
-pub header_from : (o : List ℕ) (k : RecordKind) (m n : ℕ) → length o ≡ HEADER_LEN → take KIND_AT o ≡ codes "OREC1" → kind_number k ≡ get_or o KIND_AT 0
+pub header_from : (o : List ℕ) (k : RecordKind) (m n : ℕ) → length o ≡ HEADER_LEN → take KIND_AT o ≡ codes "OREC2" → kind_number k ≡ get_or o KIND_AT 0
     → to_be_bytes w64 m ≡ take 8 (drop MOMENT_AT o) → to_be_bytes w32 n ≡ take 4 (drop COUNT_AT o) → to_be_bytes w32 (2 ^ 32 - 1 - n) ≡ drop LACK_AT o
     → o ≡ entry_header k m n
 header_from o k m n long word kind moment count lack =
@@ -98,7 +99,7 @@ header_from o k m n long word kind moment count lack =
     ∙ ap (λ (z : List ℕ). to_be_bytes w32 n ++ z) (drop-drop 4 COUNT_AT o) in
     let numbers : drop MOMENT_AT o ≡ to_be_bytes w64 m ++ (to_be_bytes w32 n ++ to_be_bytes w32 (2 ^ 32 - 1 - n)) =
     behind_kind ∙ ap (λ (z : List ℕ). to_be_bytes w64 m ++ z) (behind_moment ∙ ap (λ (z : List ℕ). to_be_bytes w32 n ++ z) (sym lack)) in
-    sym (take-append-drop KIND_AT o) ∙ ap (λ (z : List ℕ). z ++ drop KIND_AT o) word ∙ ap (λ (z : List ℕ). codes "OREC1" ++ z)
+    sym (take-append-drop KIND_AT o) ∙ ap (λ (z : List ℕ). z ++ drop KIND_AT o) word ∙ ap (λ (z : List ℕ). codes "OREC2" ++ z)
     (behind_word ∙ ap (λ (x : ℕ). x ∷ drop MOMENT_AT o) (sym kind) ∙ ap (λ (z : List ℕ). kind_number k ∷ z) numbers)
 
 -- octets of which the first ones are no header

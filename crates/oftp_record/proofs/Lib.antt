@@ -4,3 +4,5 @@ mod StoredLemmas
 mod ReadLemmas
 mod CutLemmas
 mod ChangeLemmas
+pub mod PieceLemmas
+mod PassedLemmas

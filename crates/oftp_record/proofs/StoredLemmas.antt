@@ -2,8 +2,7 @@
 use Rattle.std.proofs.Common.{◌≡◌, ℕ, ◌+◌, ◌-◌, ◌^◌, ◌<◌, ◌≤◌, List, ◌++◌, length, take, drop, sym, ap, ◌∙◌, append_assoc, arith, length-append, length-drop}
 use Rattle.std.proofs.Math.Seq.{take-append-add}
 use Rattle.std.proofs.lemmas.List.{drop-drop, drop_at, length-take-le, take-append-drop, take_rest}
-use Rattle.sha2.specs.Sha256.{sha256}
-use Rattle.oftp_record.specs.Entries.{IsEntry, Noted, entry_body, entry_digest, entry_header}
+use Rattle.oftp_record.specs.Entries.{IsEntry, Noted, chained, entry_body, entry_digest, entry_header}
 use Rattle.oftp_record.specs.Next.{BeginsEntry, BreaksBehind, HasOtherDigest}
 use Rattle.oftp_record.specs.declared.chain.TheConstants.{DIGEST_LEN}
 use Rattle.oftp_record.specs.declared.header.TheConstants.{HEADER_LEN, LONGEST_CONTENT}
@@ -65,9 +64,9 @@ module _ (before o : List ℕ) (k : RecordKind) (m n : ℕ) (headed : o ≡ entr
         ∙ ap (λ (z : List ℕ). entry_body entry ++ z) (sym (take-append-drop (HEADER_LEN + n + DIGEST_LEN - (HEADER_LEN + n)) (drop (HEADER_LEN + n) o))
         ∙ ap (λ (z : List ℕ). stored ++ z) rest_is)
 
-    module _ (digest : List ℕ) (is : digest ≡ sha256 (body ++ before)) where
+    module _ (digest : List ℕ) (is : digest ≡ chained body before) where
       digest_is : digest ≡ entry_digest entry before
-      digest_is = is ∙ ap (λ (z : List ℕ). sha256 (z ++ before)) body_is
+      digest_is = is ∙ ap (λ (z : List ℕ). chained z before) body_is
 
       -- another digest than that of the entry stands there
       pub otherwise : (stored ≡ digest → ⊥) → HasOtherDigest before o
@@ -96,12 +95,12 @@ module _ (items header content digest before : List ℕ) (begin : ℕ) where
   abbrev written : List ℕ
   written = (items ++ header) ++ content
 
-  pub sealed : begin + (length header + length content) ≡ length written → digest ≡ sha256 (take (length written - begin) (drop begin written) ++ before)
-      → digest ≡ sha256 ((header ++ content) ++ before)
+  pub sealed : begin + (length header + length content) ≡ length written → digest ≡ chained (take (length written - begin) (drop begin written)) before
+      → digest ≡ chained (header ++ content) before
   sealed long is =
       let whole : written ≡ items ++ (header ++ content) = append_assoc items header content in
       let first : length items ≡ begin = omega (arith, long, length-append (items ++ header) content, length-append items header) in
-      is ∙ ap (λ (z : List ℕ). sha256 (z ++ before)) (take_rest written begin ∙ ap (λ (z : List ℕ). drop begin z) whole ∙ drop_at items (header ++ content) begin first)
+      is ∙ ap (λ (z : List ℕ). chained z before) (take_rest written begin ∙ ap (λ (z : List ℕ). drop begin z) whole ∙ drop_at items (header ++ content) begin first)
 
   pub added : written ++ digest ≡ items ++ ((header ++ content) ++ digest)
   added = ap (λ (z : List ℕ). z ++ digest) (append_assoc items header content) ∙ append_assoc items (header ++ content) digest

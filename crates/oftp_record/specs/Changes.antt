@@ -1,7 +1,6 @@
 -- An octet of an entry that was changed, and that it is told.
 use Rattle.std.specs.Prelude.{◌≡◌, ◌≢◌, ℕ, ◌-◌, ◌<◌, ◌≤◌, ◌⊎◌, List, ◌++◌, length, take, drop, slice_index, slice_set}
-use Rattle.sha2.specs.Sha256.{sha256}
-use Rattle.oftp_record.specs.Entries.{Noted, entry_length, entry_octets}
+use Rattle.oftp_record.specs.Entries.{Noted, chained, entry_length, entry_octets}
 use Rattle.oftp_record.specs.Next.{Changed}
 use Rattle.oftp_record.specs.Records.{IsRead, last_digest}
 use Rattle.oftp_record.specs.declared.chain.TheConstants.{DIGEST_LEN}
@@ -23,7 +22,7 @@ IsGuardedByDigest count at = (KIND_AT ≤ at) × (at < count - DIGEST_LEN) × ((
 -- the digest at the end of an entry's octets is another than that of the octets before it
 abbrev pub EndsWithOtherDigest : List ℕ → List ℕ → Type 0
 EndsWithOtherDigest before octets =
-    drop (length octets - DIGEST_LEN) octets ≡ sha256 (take (length octets - DIGEST_LEN) octets ++ before) → ⊥
+    drop (length octets - DIGEST_LEN) octets ≡ chained (take (length octets - DIGEST_LEN) octets) before → ⊥
 
 -- These are the octets of an entry behind these entries, but for one octet. If the digest alone guards that, it is another than it should be.
 pub record IsChangedBehind (before : List ℕ) (entries : List Noted) (entry : Noted) (octets : List ℕ) : Type 0 where

@@ -38,15 +38,19 @@ kind_number kinds.Mark = 8
 -- 32 bits. So none is read where one octet of it was changed.
 abbrev pub entry_header : RecordKind → ℕ → ℕ → List ℕ
 entry_header kind moment count =
-    codes "OREC1" ++ (kind_number kind ∷ (to_be_bytes w64 moment ++ (to_be_bytes w32 count ++ to_be_bytes w32 (2 ^ 32 - 1 - count))))
+    codes "OREC2" ++ (kind_number kind ∷ (to_be_bytes w64 moment ++ (to_be_bytes w32 count ++ to_be_bytes w32 (2 ^ 32 - 1 - count))))
 
 -- its header and its content
 abbrev pub entry_body : Noted → List ℕ
 entry_body entry = entry_header entry.kind entry.moment (length entry.content) ++ entry.content
 
+-- the digest that stands behind a header and a content, and before which the digest `before` stood
+abbrev pub chained : List ℕ → List ℕ → List ℕ
+chained body before = sha256 (sha256 body ++ before)
+
 -- its digest, behind an entry whose digest is `before`
 abbrev pub entry_digest : Noted → List ℕ → List ℕ
-entry_digest entry before = sha256 (entry_body entry ++ before)
+entry_digest entry before = chained (entry_body entry) before
 
 -- the octets of an entry, behind one whose digest is `before`
 abbrev pub entry_octets : Noted → List ℕ → List ℕ

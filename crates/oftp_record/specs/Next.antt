@@ -1,5 +1,5 @@
 -- What stands at the beginning of octets: an entry as it was written, nothing, an entry that is cut off, or none.
-use Rattle.std.specs.Prelude.{◌≡◌, ℕ, ◌+◌, ◌<◌, ◌≤◌, List, [], ◌++◌, length, drop, Option, Some, None}
+use Rattle.std.specs.Prelude.{◌≡◌, ℕ, ◌+◌, ◌-◌, ◌<◌, ◌≤◌, List, [], ◌∷◌, ◌++◌, length, take, drop, Option, Some, None}
 use Rattle.oftp_record.specs.Entries.{IsEntry, Noted, entry_body, entry_digest, entry_header, entry_length, entry_octets, noted}
 use Rattle.oftp_record.specs.declared.chain.TheConstants.{DIGEST_LEN}
 use Rattle.oftp_record.specs.declared.header.TheConstants.{HEADER_LEN, LONGEST_CONTENT}
@@ -7,6 +7,7 @@ use Rattle.oftp_record.specs.declared.kind.RecordKind.{RecordKind}
 use Rattle.oftp_record.specs.declared.next.Alteration.{Alteration}
 use Rattle.oftp_record.specs.declared.next.Alteration.TheVariants as signs
 use Rattle.oftp_record.specs.declared.next.NextEntry.{NextEntry}
+use Rattle.oftp_record.specs.declared.eight_read.PassedEntry.{PassedEntry}
 use Rattle.oftp_record.specs.declared.next.NextEntry.TheVariants as shows
 
 -- What is told of octets. It is an entry with the number of its octets and its digest, the end, or what shows a change. Or it is how many octets
@@ -77,3 +78,12 @@ IsThere octets (shows.Whole stored) = (0 < stored.length) × (stored.length ≤ 
 IsThere octets shows.End = Unit {0}
 IsThere octets (shows.Cut lacking) = Unit {0}
 IsThere octets (shows.Changed sign) = Unit {0}
+
+-- what an entry tells that was passed over, at the beginning of octets
+abbrev pub passed_noted : List ℕ → PassedEntry → Noted
+passed_noted octets p = record { kind = p.kind; moment = p.moment; content = take (p.length - HEADER_LEN - DIGEST_LEN) (drop HEADER_LEN octets) }
+
+-- these entries are to be told of octets, one after another
+abbrev pub ArePassed : List ℕ → List ℕ → List PassedEntry → Type 0
+ArePassed before octets [] = Unit {0}
+ArePassed before octets (p ∷ more) = IsNext before octets (Whole (passed_noted octets p) p.length p.digest.0) × ArePassed p.digest.0 (drop p.length octets) more

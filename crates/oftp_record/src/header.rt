@@ -48,7 +48,7 @@ impl Header {
             b'R',
             b'E',
             b'C',
-            b'1',
+            b'2',
             self.kind.number(),
             m[0],
             m[1],
@@ -78,7 +78,7 @@ impl Header {
         ensures none { result ≡ None → (kind : RecordKind) (moment count : ℕ) → count ≤ LONGEST_CONTENT
             → octets.now ≡ entry_header kind moment count → ⊥ }
     {
-        if &octets[..KIND_AT] != b"OREC1".as_slice() {
+        if &octets[..KIND_AT] != b"OREC2".as_slice() {
             return None;
         }
         let count = short_of(&octets[COUNT_AT..LACK_AT]);

@@ -5,13 +5,13 @@
 //!
 //! | Octets | What |
 //! |---|---|
-//! | 0 to 4 | `OREC1`: a word, and the version of the format |
+//! | 0 to 4 | `OREC2`: a word, and the version of the format |
 //! | 5 | the number of its kind ([`RecordKind`]) |
 //! | 6 to 13 | its moment: microseconds since 1970 began, in UTC |
 //! | 14 to 17 | the number of octets of its content, at most [`LONGEST_CONTENT`] |
 //! | 18 to 21 | what this number lacks of 4,294,967,295 |
 //! | 22 on | the content |
-//! | the last 32 | the SHA-256 of the header, the content, and the digest of the entry before it |
+//! | the last 32 | the SHA-256 of two digests: that of header and content, and that of the entry before it |
 //!
 //! Numbers have their most significant octet first. Before the first entry of a record the digest is 32 octets of 0 ([`ChainDigest::first`]).
 //!
@@ -23,6 +23,8 @@
 #![tactic(auto)]
 
 mod chain;
+mod eight;
+mod eight_read;
 mod entry;
 mod header;
 mod kind;
@@ -31,6 +33,8 @@ mod next;
 mod writing;
 
 pub use chain::{ChainDigest, DIGEST_LEN};
+pub use eight::{PieceEntries, append_eight};
+pub use eight_read::{PassedEntry, next_eight};
 pub use entry::RecordEntry;
 pub use header::{HEADER_LEN, LONGEST_CONTENT};
 pub use kind::RecordKind;

@@ -1,13 +1,18 @@
 //! Reading an entry.
 
-ghost use Rattle.std.specs.Prelude.{◌≡◌, ◌<◌, ◌≤◌, ◌^◌, ◌++◌, drop};
+ghost use Rattle.std.specs.Prelude.{◌≡◌, ◌+◌, ◌<◌, ◌≤◌, ◌^◌, ◌++◌, drop, length, take};
+ghost use Rattle.sha2.specs.Sha256.{sha256};
 ghost use Rattle.oftp_record.specs.Entries.{entry_header};
 ghost use Rattle.oftp_record.specs.Next.{IsNext, IsThere, shown_next};
+ghost use Rattle.oftp_record.specs.declared.chain.TheConstants.{DIGEST_LEN};
 ghost use Rattle.oftp_record.specs.declared.header.TheConstants.{HEADER_LEN, LONGEST_CONTENT};
+ghost use Rattle.oftp_record.specs.declared.next.NextEntry.TheVariants as NextEntry;
+ghost use Rattle.oftp_record.specs.declared.next.StoredEntry.{StoredEntry};
 
 use crate::chain::{ChainDigest, DIGEST_LEN};
 use crate::entry::RecordEntry;
 use crate::header::{HEADER_LEN, Header};
+use sha2::{Digest, Sha256};
 
 /// What shows that octets aren't as they were written.
 #[derive(Clone, Copy, Debug, PartialEq, Eq, Drop)]
@@ -76,14 +81,35 @@ fn entry_behind<'a>(octets: &'a [u8], header: Header, before: &ChainDigest) -> N
     if octets.len() < length {
         return NextEntry::Cut(Some(length - octets.len()));
     }
-    let digest = ChainDigest::of(&octets[..body], before);
-    if &octets[body..length] != digest.0.as_slice() {
+    entry_over(octets, header, &Sha256::digest(&octets[..body]), before)
+}
+
+// What stands at the beginning of octets that begin with this header, if there are as many as it says. `body` is the SHA-256 of header and content.
+pub(crate) fn entry_over<'a>(
+    octets: &'a [u8],
+    header: Header,
+    body: &[u8; DIGEST_LEN],
+    before: &ChainDigest,
+) -> NextEntry<'a>
+    requires headed { octets.now ≡ entry_header header.kind header.moment header.count ++ drop HEADER_LEN octets.now }
+    requires moment { header.moment < 2 ^ 64 }
+    requires count { header.count ≤ LONGEST_CONTENT }
+    requires enough { HEADER_LEN + header.count + DIGEST_LEN ≤ length octets.now }
+    requires digest { body.now ≡ sha256 (take (HEADER_LEN + header.count) octets.now) }
+    ensures next { IsNext before.now.0 octets.now (shown_next result) }
+    ensures there { IsThere octets.now result }
+    ensures size { (stored : StoredEntry) → result ≡ NextEntry.Whole stored → stored.length ≡ HEADER_LEN + header.count + DIGEST_LEN }
+{
+    let begin = HEADER_LEN + header.count as usize;
+    let length = begin + DIGEST_LEN;
+    let digest = ChainDigest::over(body, before);
+    if &octets[begin..length] != digest.0.as_slice() {
         return NextEntry::Changed(Alteration::Digest);
     }
     let entry = RecordEntry {
         kind: header.kind,
         moment: header.moment,
-        content: &octets[HEADER_LEN..body],
+        content: &octets[HEADER_LEN..begin],
     };
     NextEntry::Whole(StoredEntry {
         entry,

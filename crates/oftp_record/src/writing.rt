@@ -44,7 +44,7 @@ impl From<AllocError> for AppendFault {
 }
 
 // Appends octets for which there is room.
-fn append(octets: &mut Vec<u8>, part: &[u8])
+pub(crate) fn append(octets: &mut Vec<u8>, part: &[u8])
     requires { vec_len octets.old + length part.now ≤ vec_capacity octets.old }
     ensures items { octets.new.items ≡ octets.old.items ++ part.now }
     ensures len { vec_len octets.new ≡ vec_len octets.old + length part.now }

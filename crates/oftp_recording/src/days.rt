@@ -1,41 +1,28 @@
 //! The files of a record, one for each day.
 
+use oftp_contents::{RECORD_ENDING, day_at, day_in};
 use oftp_files::file_fault;
 use oftp_outcomes::Fault;
 use std::fs;
-
-/// The ending of their names. The day is before it, as YYYYMMDD.
-const ENDING: &str = ".record";
-
-/// The number of digits of a day.
-const DIGITS: usize = 8;
 
 /// The path of a day's file in a folder.
 ///
 /// # Errors
 /// [`Fault::MEMORY`].
 pub fn file_of(rt: &HostRuntime, folder: &str, day: &str) -> Result<String, Fault> {
-    Ok(format!(in rt.alloc(); "{folder}/{day}{}", ENDING)?)
+    Ok(format!(in rt.alloc(); "{folder}/{day}{}", RECORD_ENDING)?)
 }
 
-/// The day of a time that begins with its date, as text.
+/// A day as text: its eight digits.
+pub(crate) fn day_text(rt: &HostRuntime, day: u64) -> Result<String, Fault> {
+    Ok(format!(in rt.alloc(); "{day:08}")?)
+}
+
+/// The day of a time that begins with its date, as text. It is an error if the time doesn't.
 pub(crate) fn day_of(rt: &HostRuntime, time: &str) -> Result<String, Fault> {
-    let mut day = String::new(rt.alloc());
-    for character in time.chars() {
-        if character.is_ascii_digit() && day.len() < DIGITS {
-            day.push(character)?;
-        }
-    }
-    Ok(day)
-}
-
-/// The day in the name of a file, if it is one of a record.
-fn day_in(name: &str) -> Option<&str> {
-    let day = name.strip_suffix(ENDING)?;
-    if day.len() == DIGITS && day.chars().all(|character| character.is_ascii_digit()) {
-        Some(day)
-    } else {
-        None
+    match day_at(time.as_bytes()) {
+        Some(day) => day_text(rt, day),
+        None => Err(Fault::File),
     }
 }
 
@@ -48,8 +35,8 @@ pub fn record_files(rt: &HostRuntime, folder: &str) -> Result<Vec<String>, Fault
     let entries = fs::read_dir(rt, folder).map_err(|error| file_fault(&error))?;
     for entry in entries {
         let entry = entry.map_err(|error| file_fault(&error))?;
-        if let Some(day) = day_in(entry.file_name()) {
-            days.push(String::from_str(rt.alloc(), day)?)?;
+        if let Some(day) = day_in(entry.file_name().as_bytes()) {
+            days.push(day_text(rt, day)?)?;
         }
     }
     days.sort_unstable();

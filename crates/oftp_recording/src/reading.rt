@@ -2,12 +2,17 @@
 
 use oftp_files::{file_fault, open_at_once};
 use oftp_outcomes::Fault;
-use oftp_record::{ChainDigest, DIGEST_LEN, HEADER_LEN, NextEntry, RecordKind, next_entry};
+use oftp_record::{
+    ChainDigest, DIGEST_LEN, HEADER_LEN, NextEntry, PassedEntry, RecordKind, next_eight, next_entry,
+};
 use std::fs::File;
 use std::io::Read;
 
 /// How many octets are read at once.
 const STEP: usize = 65_536;
+
+/// How many octets are read ahead, so that most entries of a session are read eight at once.
+const AHEAD: usize = 1_048_576;
 
 /// What was found behind the last entry.
 #[derive(Clone, Copy, Debug, PartialEq, Eq)]
@@ -30,6 +35,8 @@ pub struct RecordReader {
     octets: Vec<u8>,
     // Where the next entry begins in these octets.
     at: usize,
+    // Entries there that were read already, the next one last.
+    ahead: Vec<PassedEntry>,
     // Where the last one's content is.
     begin: usize,
     end: usize,
@@ -73,6 +80,7 @@ impl RecordReader {
             file,
             octets: Vec::new(rt.alloc()),
             at: 0,
+            ahead: Vec::new(rt.alloc()),
             begin: 0,
             end: 0,
             kind: RecordKind::Mark,
@@ -89,7 +97,7 @@ impl RecordReader {
     /// [`Fault::File`] if the file can't be read; [`Fault::MEMORY`].
     pub fn advance(&mut self) -> Result<Found, Fault> {
         for _ in 0..u64::MAX {
-            match self.look() {
+            match self.look()? {
                 Look::Whole => return Ok(Found::Entry),
                 Look::Changed => return Ok(Found::Changed),
                 Look::Lacks(count) => {
@@ -104,31 +112,56 @@ impl RecordReader {
     }
 
     /// Looks at what was read behind the last entry, and passes over the next one if it is whole.
-    fn look(&mut self) -> Look {
+    fn look(&mut self) -> Result<Look, Fault> {
+        if self.ahead.is_empty() {
+            self.look_ahead()?;
+        }
+        if let Some(passed) = self.ahead.pop() {
+            self.pass(&passed);
+            return Ok(Look::Whole);
+        }
         let rest = self.octets.get(self.at..).unwrap_or(&[]);
         let length = rest.len();
         match next_entry(rest, &ChainDigest(self.digest)) {
             NextEntry::Whole(stored) => {
-                let kind = stored.entry.kind;
-                let moment = stored.entry.moment;
-                let length = stored.length;
-                let digest = stored.digest.0;
-                self.begin = self.at.saturating_add(HEADER_LEN);
-                self.at = self.at.saturating_add(length);
-                self.end = self.at.saturating_sub(DIGEST_LEN);
-                self.kind = kind;
-                self.moment = moment;
-                self.digest = digest;
-                self.count = self.count.saturating_add(1);
-                self.whole = self.whole.saturating_add(length as u64);
-                Look::Whole
+                let passed = PassedEntry {
+                    kind: stored.entry.kind,
+                    moment: stored.entry.moment,
+                    length: stored.length,
+                    digest: stored.digest,
+                };
+                self.pass(&passed);
+                Ok(Look::Whole)
             }
             NextEntry::End | NextEntry::Cut(None) => {
-                Look::Lacks(HEADER_LEN.saturating_sub(length).max(1))
+                Ok(Look::Lacks(HEADER_LEN.saturating_sub(length).max(1)))
             }
-            NextEntry::Cut(Some(count)) => Look::Lacks(count),
-            NextEntry::Changed(_) => Look::Changed,
+            NextEntry::Cut(Some(count)) => Ok(Look::Lacks(count)),
+            NextEntry::Changed(_) => Ok(Look::Changed),
         }
+    }
+
+    /// Reads eight entries at once, if they are there.
+    fn look_ahead(&mut self) -> Result<(), Fault> {
+        let rest = self.octets.get(self.at..).unwrap_or(&[]);
+        if let Some(eight) = next_eight(rest, &ChainDigest(self.digest)) {
+            for passed in eight.iter().rev() {
+                self.ahead.push(*passed)?;
+            }
+        }
+        Ok(())
+    }
+
+    /// Passes over an entry.
+    fn pass(&mut self, passed: &PassedEntry) {
+        self.begin = self.at.saturating_add(HEADER_LEN);
+        self.at = self.at.saturating_add(passed.length);
+        self.end = self.at.saturating_sub(DIGEST_LEN);
+        self.kind = passed.kind;
+        self.moment = passed.moment;
+        self.digest = passed.digest.0;
+        self.count = self.count.saturating_add(1);
+        self.whole = self.whole.saturating_add(passed.length as u64);
     }
 
     /// Reads so many octets more, and maybe others behind them. Returns whether they are there.
@@ -141,9 +174,10 @@ impl RecordReader {
         self.end = 0;
         self.at = 0;
         let wanted = self.octets.len().saturating_add(count);
+        let ample = wanted.max(AHEAD);
         let mut step = [0; STEP];
         for _ in 0..u64::MAX {
-            if self.octets.len() >= wanted {
+            if self.octets.len() >= ample {
                 break;
             }
             let came = self
@@ -151,12 +185,12 @@ impl RecordReader {
                 .read(&mut step)
                 .map_err(|error| file_fault(&error))?;
             if came == 0 {
-                return Ok(false);
+                break;
             }
             self.octets
                 .extend_from_slice(step.get(..came).unwrap_or(&[]))?;
         }
-        Ok(true)
+        Ok(self.octets.len() >= wanted)
     }
 
     /// The kind of the last entry.

@@ -1,12 +1,15 @@
 //! Writing a record.
 
-use crate::days::{day_of, file_of, record_files};
+use crate::days::{day_of, day_text, file_of, record_files};
 use crate::hiding::hidden;
 use crate::moments::moment_text;
 use crate::reading::{Found, RecordReader, refuse_others};
 use crate::registers::{Digest, register_digest};
 use jiff::Timestamp;
-use oftp_contents::{ContentFields, EndCause, Marked, RecordSide};
+use oftp_contents::{
+    ContentFields, DayTurn, EndCause, Marked, RecordSide, SessionOctets, day_at, days_passed,
+    number_of_day, turn_of,
+};
 use oftp_files::{file_fault, is_free, make_private};
 use oftp_outcomes::Fault;
 use oftp_record::{AppendFault, ChainDigest, RecordEntry, RecordKind, append_entry};
@@ -24,9 +27,6 @@ pub enum Syncing {
     /// It isn't.
     Unsynced,
 }
-
-/// The microseconds of a day.
-const DAY: u64 = 86_400_000_000;
 
 /// The fields of a content that has none.
 const NOTHING: ContentFields<'static> = ContentFields {
@@ -154,7 +154,7 @@ impl<'a> Recorder<'a> {
         if octets.is_empty() {
             return Ok(());
         }
-        self.put(RecordKind::OctetsIn, &octets_of(number, octets))
+        self.put_octets(RecordKind::OctetsIn, number, octets)
     }
 
     /// Records what a session has said, before it goes out.
@@ -165,7 +165,7 @@ impl<'a> Recorder<'a> {
         if octets.is_empty() {
             return Ok(());
         }
-        self.put(RecordKind::OctetsOut, &octets_of(number, octets))?;
+        self.put_octets(RecordKind::OctetsOut, number, octets)?;
         self.sync()
     }
 
@@ -195,19 +195,39 @@ impl<'a> Recorder<'a> {
 
     /// Appends an entry.
     fn put(&self, kind: RecordKind, fields: &ContentFields<'_>) -> Result<(), Fault> {
-        let Ok(Some(day)) = self.day.try_replace(None) else {
-            return Err(Fault::File);
-        };
         let moment = moment_now(self.rt)?;
-        let day = self.day_at(day, moment)?;
+        let day = self.taken(moment)?;
         let day = day.put(self.rt, moment, kind, fields)?;
         let _ = self.day.try_replace(Some(day));
         Ok(())
     }
 
+    /// Appends what a session heard or said.
+    fn put_octets(&self, kind: RecordKind, number: u64, octets: &[u8]) -> Result<(), Fault> {
+        let moment = moment_now(self.rt)?;
+        let day = self.taken(moment)?;
+        let talked = SessionOctets {
+            kind,
+            moment,
+            number,
+            octets,
+        };
+        let day = day.put_octets(self.rt, &talked)?;
+        let _ = self.day.try_replace(Some(day));
+        Ok(())
+    }
+
+    /// Takes the file of the day of a moment, until it is put back. It isn't put back if it can't be written.
+    fn taken(&self, moment: u64) -> Result<Day, Fault> {
+        let Ok(Some(day)) = self.day.try_replace(None) else {
+            return Err(Fault::File);
+        };
+        self.day_at(day, moment)
+    }
+
     /// The file of the day of a moment. A day that is earlier than the last one goes on as that.
     fn day_at(&self, day: Day, moment: u64) -> Result<Day, Fault> {
-        let number = Some(moment / DAY);
+        let number = Some(days_passed(moment));
         if day.number == number {
             return Ok(day);
         }
@@ -218,12 +238,19 @@ impl<'a> Recorder<'a> {
 
     /// The file of a day, or of the day of a moment if that is a later one.
     fn turned(&self, day: Day, moment: u64) -> Result<Day, Fault> {
-        let name = day_of(self.rt, moment_text(self.rt.alloc(), moment)?.as_str())?;
-        if name.as_str() <= day.name.as_str() {
-            return Ok(day);
+        let time = moment_text(self.rt.alloc(), moment)?;
+        let last = number_of_day(day.name.as_bytes());
+        let (Some(last), Some(now)) = (last, day_at(time.as_bytes())) else {
+            return Err(Fault::File);
+        };
+        match turn_of(last, now) {
+            DayTurn::GoesOn => Ok(day),
+            DayTurn::Turns => {
+                day.sync()?;
+                let name = day_text(self.rt, now)?;
+                Day::open(self.rt, self.folder, name, Some(day.digest))
+            }
         }
-        day.sync()?;
-        Day::open(self.rt, self.folder, name, Some(day.digest))
     }
 
     /// Syncs what was recorded, unless that is left out.
@@ -312,7 +339,7 @@ impl Day {
 
     /// Appends an entry of a moment, with one write.
     fn put(
-        mut self,
+        self,
         rt: &HostRuntime,
         moment: u64,
         kind: RecordKind,
@@ -325,9 +352,24 @@ impl Day {
             moment,
             content: content.as_slice(),
         };
-        let before = self.digest;
-        let digest = append_entry(&mut octets, &entry, &ChainDigest(before)).map_err(append_fault)?;
-        match self.file.write_all(octets.as_slice()) {
+        let before = ChainDigest(self.digest);
+        let digest = append_entry(&mut octets, &entry, &before).map_err(append_fault)?;
+        self.write(octets.as_slice(), digest)
+    }
+
+    /// Appends what a session heard or said, with one write.
+    fn put_octets(self, rt: &HostRuntime, talked: &SessionOctets<'_>) -> Result<Day, Fault> {
+        let mut octets = Vec::new(rt.alloc());
+        let before = ChainDigest(self.digest);
+        let digest = talked
+            .append(rt.alloc(), &mut octets, &before)
+            .map_err(append_fault)?;
+        self.write(octets.as_slice(), digest)
+    }
+
+    /// Writes entries, of which the last one has this digest.
+    fn write(mut self, octets: &[u8], digest: ChainDigest) -> Result<Day, Fault> {
+        match self.file.write_all(octets) {
             Ok(()) => {
                 let digest = digest.0;
                 self.digest = digest;
@@ -405,15 +447,6 @@ fn last_before(rt: &HostRuntime, folder: &str, day: &str) -> Result<Option<Diges
 fn sync_folder(rt: &HostRuntime, folder: &str) {
     if let Ok(folder) = fs::open(rt, folder) {
         let _ = folder.sync_all();
-    }
-}
-
-/// The fields of what a session hears or says.
-fn octets_of(number: u64, octets: &[u8]) -> ContentFields<'_> {
-    ContentFields {
-        number,
-        rest: octets,
-        ..NOTHING
     }
 }
 

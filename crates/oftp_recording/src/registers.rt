@@ -1,9 +1,11 @@
 //! The digest of a register.
 
+use oftp_digest::{BLOCK_LEN, LANES, digests_of_eight};
 use oftp_engine::{Port, RunFault};
 use oftp_listing::{ReportKind, report};
 use oftp_outcomes::Fault;
 use oftp_register::{Office, Side};
+use oftp_vfile::Row;
 use sha2::{Digest as Hashing, Sha256};
 use std::alloc::Global;
 
@@ -24,8 +26,8 @@ const REPORTS: [ReportKind; 4] = [
     ReportKind::Received,
 ];
 
-/// The digest of the register of an office: the SHA-256 of its four reports, and then of the description, the text of the response and the rows of
-/// each file.
+/// The digest of the register of an office: the SHA-256 of its four reports, and then of the description, the text of the response and the digests of
+/// the rows of each file.
 ///
 /// # Errors
 /// [`Fault::Run`] if the office failed; [`Fault::MEMORY`].
@@ -44,20 +46,35 @@ pub fn register_digest<O: Office>(alloc: Global, office: &mut O) -> Result<Diges
         if let Some(response) = &entry.response {
             hasher.update(response.text.as_str().as_bytes());
         }
-        add_rows(&mut hasher, office, Side::Incoming, entry.no, entry.rows)?;
+        add_rows(
+            alloc,
+            &mut hasher,
+            office,
+            Side::Incoming,
+            entry.no,
+            entry.rows,
+        )?;
     }
     let Ok(outgoing) = office.list_out() else {
         return Err(FAILED);
     };
     for entry in outgoing.iter() {
         hasher.update(entry.description.as_str().as_bytes());
-        add_rows(&mut hasher, office, Side::Outgoing, entry.no, entry.rows)?;
+        add_rows(
+            alloc,
+            &mut hasher,
+            office,
+            Side::Outgoing,
+            entry.no,
+            entry.rows,
+        )?;
     }
     Ok(hasher.finalize())
 }
 
-/// Adds the rows of a file, each with its length before it.
+/// Adds the digest of each row of a file.
 fn add_rows<O: Office>(
+    alloc: Global,
     hasher: &mut Sha256,
     office: &mut O,
     side: Side,
@@ -65,6 +82,7 @@ fn add_rows<O: Office>(
     count: u64,
 ) -> Result<(), Fault> {
     let mut from = 0;
+    let mut joined = Vec::new(alloc);
     for _ in 0..count {
         if from >= count {
             break;
@@ -75,11 +93,41 @@ fn add_rows<O: Office>(
         if rows.is_empty() {
             return Err(FAILED);
         }
-        for row in rows.as_slice() {
-            hasher.update((row.len() as u64).to_be_bytes().as_slice());
-            hasher.update(row.octets());
+        for group in rows.as_slice().chunks(LANES) {
+            add_digests(hasher, &mut joined, group)?;
         }
         from = from.saturating_add(rows.len() as u64);
     }
     Ok(())
+}
+
+/// Adds the digest of each row. Those of eight rows of one length, of whole blocks, are computed side by side, for which they are joined.
+fn add_digests(hasher: &mut Sha256, joined: &mut Vec<u8>, rows: &[Row]) -> Result<(), Fault> {
+    let size = common_length(rows);
+    if rows.len() == LANES && size % BLOCK_LEN == 0 {
+        joined.clear();
+        for row in rows {
+            joined.extend_from_slice(row.octets())?;
+        }
+        if size > 0 && joined.len() / LANES >= size {
+            for digest in digests_of_eight(joined, size, size) {
+                hasher.update(digest.as_slice());
+            }
+            return Ok(());
+        }
+    }
+    for row in rows {
+        hasher.update(Sha256::digest(row.octets()).as_slice());
+    }
+    Ok(())
+}
+
+/// The length of each of these rows, or 0 if they are of several.
+fn common_length(rows: &[Row]) -> usize {
+    let size = rows.first().map_or(0, Row::len);
+    if rows.iter().all(|row| row.len() == size) {
+        size
+    } else {
+        0
+    }
 }

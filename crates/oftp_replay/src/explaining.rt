@@ -1,7 +1,7 @@
 //! What partners did in the sessions of a record.
 
 use crate::tape::{At, Tape, text_of};
-use oftp_contents::ContentFields;
+use oftp_contents::{ContentFields, RecordSide};
 use oftp_engine::{Refusal, RunFault};
 use oftp_files::explained;
 use oftp_notes::seen_line;
@@ -9,6 +9,9 @@ use oftp_outcomes::{DONE, FAILED, Fault, Outcome, tell, write_line};
 use oftp_record::RecordKind;
 use std::alloc::Global;
 use std::io::Write;
+
+/// With what a station greets each caller, before there is a session to be recorded: the stream header, and SSRM (RFC 5024, section 5.3.1).
+const GREETING: &[u8; 23] = b"\x10\0\0\x17IODETTE FTP READY \r";
 
 /// Whether a session is being read.
 #[derive(Clone, Copy, PartialEq, Eq)]
@@ -118,6 +121,9 @@ impl Listener {
         let title = format!(in self.alloc; "session {number}: {partner} {peer}")?;
         self.title = seen_line(self.alloc, title.as_str())?;
         self.reading = Reading::Session(number);
+        if RecordSide::of_code(fields.code) == Some(RecordSide::Responder) {
+            self.said.extend_from_slice(GREETING.as_slice())?;
+        }
         self.sessions = self.sessions.saturating_add(1);
         Ok(())
     }

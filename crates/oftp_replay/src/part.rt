@@ -1,10 +1,7 @@
 //! Which part of a record is played.
 
 use oftp_command_line::Replay;
-use oftp_contents::EntryPlace;
-
-/// The number of digits of a day.
-const DIGITS: usize = 8;
+use oftp_contents::{EntryPlace, number_of_day};
 
 /// The part of a record that is played.
 #[derive(Clone, Copy)]
@@ -49,10 +46,10 @@ impl Part {
 /// The place that a text names: the digits of the day, a colon, and the number of the entry.
 fn place_of(text: &str) -> Option<EntryPlace> {
     let (day, number) = text.split_once(':')?;
-    if day.len() != DIGITS || !are_digits(day) || !are_digits(number) {
+    if !are_digits(number) {
         return None;
     }
-    let day = day.parse::<u64>().ok()?;
+    let day = number_of_day(day.as_bytes())?;
     let number = number.parse::<u64>().ok()?;
     Some(EntryPlace { day, number })
 }
@@ -60,9 +57,4 @@ fn place_of(text: &str) -> Option<EntryPlace> {
 /// Whether a text is digits alone, so that no sign is taken.
 fn are_digits(text: &str) -> bool {
     text.chars().all(|character| character.is_ascii_digit())
-}
-
-/// The number of a day, of which the digits are given.
-pub(crate) fn number_of_day(day: &str) -> u64 {
-    day.parse::<u64>().unwrap_or(0)
 }

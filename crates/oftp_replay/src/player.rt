@@ -1,7 +1,7 @@
 //! What was played so far, and the ends of sessions and calls that are still to be compared.
 
 use crate::tape::{At, Stop, Tape};
-use oftp_contents::{ContentFields, EndCause};
+use oftp_contents::{ContentFields, Doing, EndCause, EndLine, was_made};
 use oftp_life::Life;
 use oftp_outcomes::Fault;
 use oftp_record::RecordKind;
@@ -107,13 +107,13 @@ impl<'a> Player<'a> {
     /// Whether that was done which the record has last before this place: not where the record ends there, or the station was killed with the
     /// register that it had before.
     fn was_done<O: Office>(&mut self, life: &mut Life<O>) -> Result<bool, Stop> {
-        match self.tape.at() {
-            At::Entry(RecordKind::Opening) => {
+        match Doing::before(self.tape.kind()) {
+            Doing::Done => Ok(true),
+            Doing::Untold => Ok(false),
+            Doing::ByRegister => {
                 let now = register_digest(self.alloc, life)?;
-                Ok(self.tape.register() != Some(now))
+                Ok(was_made(self.tape.register(), now))
             }
-            At::Entry(_) => Ok(true),
-            At::End | At::Broken(_) => Ok(false),
         }
     }
 
@@ -132,15 +132,16 @@ impl<'a> Player<'a> {
         let Some(fields) = ContentFields::of(content.as_slice()) else {
             return Err(Stop::Differs("it is no end"));
         };
-        let line = match cause_line(self.alloc, fields.code)? {
-            Some(line) => Some(line),
-            None => self.take(fields.number),
+        let Some(cause) = EndCause::of_code(fields.code) else {
+            return Err(Stop::Differs("it is no end"));
         };
-        let is_same = match line {
-            Some(line) => line.as_bytes() == fields.first,
-            None => fields.code == EndCause::Other.code(),
+        let wanted = EndLine::of(cause);
+        let line = match wanted {
+            EndLine::OfCause => cause_line(self.alloc, cause)?,
+            EndLine::Played | EndLine::Any => self.take(fields.number),
         };
-        if is_same || fields.code == EndCause::Other.code() {
+        let line = line.as_ref().map(|line| line.as_bytes());
+        if wanted.is(line, fields.first) {
             Ok(self.tape.advance()?)
         } else {
             Err(Stop::Differs("the line"))
@@ -155,11 +156,8 @@ impl<'a> Player<'a> {
     }
 }
 
-/// The line of a session that ended for the cause with a code, if that alone determines it.
-fn cause_line(alloc: Global, code: u8) -> Result<Option<String>, Stop> {
-    let Some(cause) = EndCause::of_code(code) else {
-        return Err(Stop::Differs("it is no end"));
-    };
+/// The line of a session that ended for a cause, if that alone determines it.
+fn cause_line(alloc: Global, cause: EndCause) -> Result<Option<String>, Stop> {
     let Some(ended) = end_for(cause) else {
         return Ok(None);
     };

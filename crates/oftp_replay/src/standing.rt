@@ -47,23 +47,13 @@ pub fn compare_with_record<O: Office>(
 fn standing_of(tape: &mut Tape<'_>, register: &Digest) -> Result<RegisterStanding, Fault> {
     let mut standing = RegisterStanding::Unknown;
     for _ in 0..u64::MAX {
-        let At::Entry(_) = tape.at() else {
+        let Some(kind) = tape.kind() else {
             break;
         };
-        if let Some(likeness) = likeness_at(tape, register) {
+        if let Some(likeness) = Likeness::at(kind, tape.register(), *register) {
             standing = standing.after(likeness);
         }
         tape.advance()?;
     }
     Ok(standing)
-}
-
-/// What the entry at which a tape stands tells of a register.
-fn likeness_at(tape: &Tape<'_>, register: &Digest) -> Option<Likeness> {
-    match (tape.register(), tape.at()) {
-        (Some(digest), _) if digest == *register => Some(Likeness::Same),
-        (Some(_), _) => Some(Likeness::Other),
-        (None, At::Entry(kind)) => Likeness::behind(kind),
-        (None, At::End | At::Broken(_)) => None,
-    }
 }

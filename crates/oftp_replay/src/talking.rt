@@ -2,14 +2,14 @@
 
 use crate::player::Player;
 use crate::tape::{At, Stop};
-use oftp_contents::{ContentFields, RecordSide};
+use oftp_contents::{ContentFields, Doing, RecordSide, is_settled};
 use oftp_engine::{Admission, End, Role};
 use oftp_files::book_of;
 use oftp_life::{Life, LifeSession, Opening, Stage};
 use oftp_outcomes::Fault;
 use oftp_partners::Book;
 use oftp_record::RecordKind;
-use oftp_recording::{line_of_end, register_digest};
+use oftp_recording::{Digest, line_of_end, register_digest};
 use oftp_register::Office;
 use oftp_requests::goes_on;
 use std::alloc::Global;
@@ -83,10 +83,9 @@ impl Player<'_> {
         let Ok(guest) = opening.into_guest() else {
             return Err(Stop::Differs("the caller isn't let in"));
         };
-        self.tape.advance()?;
+        let rest = self.joined(fields.rest.get(count..).unwrap_or(&[]))?;
         let session = life.admit(self.alloc, guest);
-        let rest = fields.rest.get(count..).unwrap_or(&[]);
-        self.play(Talk::new(self.alloc, number, session), rest)
+        self.play(Talk::new(self.alloc, number, session), rest.as_slice())
     }
 
     /// Plays a session to its end, which hears these octets first. Returns the life.
@@ -133,8 +132,26 @@ impl Player<'_> {
         if fields.number != talk.number {
             return Err(Stop::Differs("the session"));
         }
+        let octets = self.joined(fields.rest)?;
+        self.hear_on(talk, octets.as_slice())
+    }
+
+    /// These octets of the piece at which the record stands, and the other pieces behind it of what was heard at once. The record goes on behind them.
+    fn joined(&mut self, first: &[u8]) -> Result<Vec<u8>, Stop> {
+        let piece = self.tape.piece();
+        let mut octets = Vec::from_slice(self.alloc, first).map_err(Fault::from)?;
         self.tape.advance()?;
-        self.hear_on(talk, fields.rest)
+        for _ in 0..u64::MAX {
+            if piece.is_none() || self.tape.piece() != piece {
+                break;
+            }
+            let Some(fields) = ContentFields::of(self.tape.content()) else {
+                break;
+            };
+            octets.extend_from_slice(fields.rest).map_err(Fault::from)?;
+            self.tape.advance()?;
+        }
+        Ok(octets)
     }
 
     /// Lets a session hear octets, behind which the record stands. At its end nothing says that they were heard.
@@ -143,13 +160,13 @@ impl Player<'_> {
         talk: &mut Talk<'_, O>,
         octets: &[u8],
     ) -> Result<(), Stop> {
-        match self.tape.at() {
-            At::Entry(RecordKind::Opening) => self.settle(talk, octets),
-            At::Entry(_) => {
+        match Doing::before(self.tape.kind()) {
+            Doing::Done => {
                 talk.send()?;
                 talk.hear(octets)
             }
-            At::End | At::Broken(_) => Ok(()),
+            Doing::Untold => Ok(()),
+            Doing::ByRegister => self.settle(talk, octets),
         }
     }
 
@@ -176,13 +193,10 @@ impl Player<'_> {
         Ok(())
     }
 
-    /// Whether a session has the register of the opening at which the record stands, or goes on no more, so that nothing can be looked up by it.
+    /// Whether a session has the register of the opening at which the record stands, or goes on no more.
     fn is_settled<O: Office + Drop>(&mut self, talk: &mut Talk<'_, O>) -> Result<bool, Stop> {
-        if !goes_on(Some(talk.session.stage())) {
-            return Ok(true);
-        }
-        let now = register_digest(self.alloc, &mut talk.session)?;
-        Ok(self.tape.register() == Some(now))
+        let now = talk.register()?;
+        Ok(is_settled(self.tape.register(), now))
     }
 
     /// Compares the octets that went out with those that the session says.
@@ -280,6 +294,14 @@ impl<'b, O: Office + Drop> Talk<'b, O> {
         }
         let _ = self.said.drain(..count);
         Ok(true)
+    }
+
+    /// The digest of its register; `None` once it goes on no more, so that nothing can be looked up by it.
+    fn register(&mut self) -> Result<Option<Digest>, Stop> {
+        if !goes_on(Some(self.session.stage())) {
+            return Ok(None);
+        }
+        Ok(Some(register_digest(self.alloc, &mut self.session)?))
     }
 
     /// The line of the session, if it has ended by itself.

@@ -1,7 +1,7 @@
 //! The entries of a record, one after another, over all its days.
 
-use crate::part::{Part, number_of_day};
-use oftp_contents::{ContentFields, EntryPlace, Marked};
+use crate::part::Part;
+use oftp_contents::{ContentFields, EntryPlace, Marked, PieceMark, number_of_day};
 use oftp_outcomes::Fault;
 use oftp_progress::{Extent, Gauge};
 use oftp_record::{ChainDigest, RecordKind};
@@ -88,6 +88,14 @@ impl<'a> Tape<'a> {
         self.at
     }
 
+    /// The kind of the entry at which it stands, if it stands at one.
+    pub(crate) fn kind(&self) -> Option<RecordKind> {
+        match self.at {
+            At::Entry(kind) => Some(kind),
+            At::End | At::Broken(_) => None,
+        }
+    }
+
     /// Goes on to the next entry. At its end, and at an entry that is broken, it stays.
     pub(crate) fn advance(&mut self) -> Result<(), Fault> {
         if let At::Broken(_) = self.at {
@@ -114,7 +122,7 @@ impl<'a> Tape<'a> {
     /// The place of the entry that was read last.
     pub(crate) fn place(&self) -> EntryPlace {
         let day = match self.days.get(self.next.saturating_sub(1)) {
-            Some(day) => number_of_day(day.as_str()),
+            Some(day) => number_of_day(day.as_bytes()).unwrap_or(0),
             None => 0,
         };
         let number = match &self.reader {
@@ -231,6 +239,13 @@ impl<'a> Tape<'a> {
         }
     }
 
+    /// What the entry at which it stands has in common with the other pieces of what was heard or said at once.
+    pub(crate) fn piece(&self) -> Option<PieceMark> {
+        let kind = self.kind()?;
+        let fields = ContentFields::of(self.content())?;
+        PieceMark::of(kind, self.moment(), fields.number)
+    }
+
     /// How many days were begun, that of the entry at which it stands among them.
     pub(crate) fn count(&self) -> usize {
         self.next
@@ -238,9 +253,7 @@ impl<'a> Tape<'a> {
 
     /// The digest that the entry has at which it stands, if it is an opening, a backup or a mark of a register.
     pub(crate) fn register(&self) -> Option<Digest> {
-        let At::Entry(kind) = self.at else {
-            return None;
-        };
+        let kind = self.kind()?;
         let fields = ContentFields::of(self.content())?;
         let text = match kind {
             RecordKind::Opening | RecordKind::Backup => fields.second,

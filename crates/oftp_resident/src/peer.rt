@@ -18,6 +18,9 @@ use std::mem;
 /// How many octets are read at once.
 const PIECE: usize = 4_096;
 
+/// The same of a session.
+const SESSION_PIECE: usize = 65_536;
+
 /// The same of a request over HTTP: one more than a head may have. All that is there counts.
 pub(crate) const MOST_REQUEST_OCTETS: usize = LONGEST_HEAD + 1;
 
@@ -206,18 +209,19 @@ impl<'a> Peer<'a> {
 
     /// Reads the next piece, and keeps it behind what came before, unless it is to be dropped. The end and an error of a session are noted.
     pub(crate) fn take_in(&mut self) -> Came {
-        let mut piece = [0; MOST_REQUEST_OCTETS];
-        let most = match self.reading {
-            Reading::Request => MOST_REQUEST_OCTETS,
-            _ => PIECE,
-        };
-        let Some(room) = piece.get_mut(..most) else {
-            return Came::Nothing;
-        };
+        match self.reading {
+            Reading::Session => self.take_into(&mut [0; SESSION_PIECE]),
+            Reading::Request => self.take_into(&mut [0; MOST_REQUEST_OCTETS]),
+            _ => self.take_into(&mut [0; PIECE]),
+        }
+    }
+
+    /// Reads the next piece into this room, and keeps it as [`Peer::take_in`] says.
+    fn take_into(&mut self, room: &mut [u8]) -> Came {
         let came = self.read(room);
         match (came, self.reading) {
             (Came::Octets(_), Reading::Copy | Reading::Rest) => {}
-            (Came::Octets(count), _) => return self.keep(piece.get(..count).unwrap_or(&[])),
+            (Came::Octets(count), _) => return self.keep(room.get(..count).unwrap_or(&[])),
             (Came::End, Reading::Opening | Reading::Session) => self.note(Ok(End::Input)),
             (Came::Lost, Reading::Session) => self.note(Err(trouble_of(RunFault::Read))),
             _ => {}

@@ -1,6 +1,7 @@
 //! A command's connection to the station, and the name of its end. By the owner of that name's file the station knows who asks.
 
-use crate::place::{END, MODE, SocketPlace, checked};
+use crate::place::{MODE, SocketPlace, checked};
+use oftp_watching::{EndFile, number_of_end};
 use std::fs::{self, Files};
 use std::io;
 use std::os::fd::{AsFd, AsRawFd};
@@ -83,19 +84,18 @@ impl SocketPlace {
     /// another one.
     pub fn take_user(&self, rt: &HostRuntime, address: &SocketAddr) -> Option<u32> {
         let name = address.as_pathname()?;
-        let number = number_of_end(name.as_str())?;
+        let number = number_of_end(name.as_str().as_bytes())?;
         let path = self.path_of_end(rt, number).ok()?;
-        let found = fs::symlink_metadata(rt, path.as_str()).ok()?;
-        if !found.file_type().is_socket() {
-            return None;
-        }
+        let user = end_file(rt, path.as_str()).user()?;
         let _ = fs::remove_file(rt, path.as_str());
-        Some(found.uid())
+        Some(user)
     }
 }
 
-/// The number in the path of a command's end, whatever its folder is.
-fn number_of_end(path: &str) -> Option<u32> {
-    let (_, name) = path.rsplit_once('/')?;
-    name.strip_prefix(END)?.parse::<u32>().ok()
+/// What has the name with a path.
+fn end_file(rt: &HostRuntime, path: &str) -> EndFile {
+    match fs::symlink_metadata(rt, path) {
+        Ok(found) if found.file_type().is_socket() => EndFile::Socket(found.uid()),
+        _ => EndFile::Other,
+    }
 }

@@ -1,6 +1,7 @@
 //! The socket beside a database: its path, and how it is created, replaced and connected to.
 
 use oftp_files::socket_name;
+use oftp_watching::COMMAND_END;
 use std::fs::{self, File, Files};
 use std::io::{self, ErrorKind};
 use std::net::Net;
@@ -10,9 +11,6 @@ use std::os::unix::net::{SocketAddr, UnixListener, UnixStream};
 
 /// The mode of the socket's file: whoever may write it may connect.
 pub(crate) const MODE: u32 = 0o600;
-
-/// The name of a command's end, without its number. It is short, so that its path fits into a socket's address, too.
-pub(crate) const END: &str = ".oftp_command_";
 
 /// As many connections may wait to be accepted as the system allows.
 const BACKLOG: i32 = -1;
@@ -72,7 +70,7 @@ impl SocketPlace {
     /// The path of the name with this number, which a command's end may have.
     pub(crate) fn path_of_end(&self, rt: &HostRuntime, number: u32) -> io::Result<String> {
         let fd = self.folder.as_raw_fd();
-        Ok(format!(in rt.alloc(); "/proc/self/fd/{fd}/{}{number}", END)?)
+        Ok(format!(in rt.alloc(); "/proc/self/fd/{fd}/{}{number}", COMMAND_END)?)
     }
 
     /// Removes the socket's file. Another file with its name stays.

@@ -1,5 +1,8 @@
-//! Tests of records: one of three entries, spelled by hand, is written, read, cut off at each octet, and read with each octet changed.
+//! Tests of records: one of three entries, spelled by hand, is written, read, cut off at each octet, and read with each octet changed. Eight messages
+//! and eight entries at once.
 #![tactic(auto)]
 
+#[cfg(test)]
+mod eight;
 #[cfg(test)]
 mod tests;

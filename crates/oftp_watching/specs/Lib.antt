@@ -1,5 +1,6 @@
 pub mod Accounts
 pub mod Answers
+pub mod Ends
 pub mod Followed
 pub mod Knowns
 pub mod Moments

@@ -5,6 +5,7 @@
 mod account;
 mod answer;
 mod cause;
+mod ends;
 mod following;
 mod known;
 mod moment;
@@ -17,6 +18,7 @@ mod watched;
 pub use account::Account;
 pub use answer::Answer;
 pub use cause::Cause;
+pub use ends::{COMMAND_END, EndFile, number_of_end};
 pub use following::{Following, Speaker};
 pub use known::{Known, known_in, measured};
 pub use moment::{Moment, Subject, moment_of};

@@ -261,6 +261,7 @@ const FEED: Declaration =
         Defaulted("role", "ROLE", "The side that the station plays: responder or initiator", "responder"),
         Optional("partner", "CODE", "The code of the partner that an initiator calls"),
         Shared(trace),
+        Shared(record),
         Word("in", "IN", "The file that holds what the partner sends"),
         Word("out", "OUT", "The file to write what the station sends to"),
     ] };

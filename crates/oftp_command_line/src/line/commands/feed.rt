@@ -1,15 +1,19 @@
 //! The command `feed`.
 #![tactic(auto, using(crate::proofs::Values::has_text), unfolding(crate::specs::FeedLine::feed_app))]
 
-ghost use Rattle.std.specs.Prelude.{◌≡◌, IfErr, IfOk, None, Some, codes, true};
+ghost use Rattle.std.specs.Prelude.{◌≡◌, IfErr, IfOk, None, Some, codes, option_map, true};
 ghost use Rattle.oftp_command_line.specs.Arguments.{HasValues, values_in};
 ghost use Rattle.oftp_command_line.specs.Fault.{is_bad};
-ghost use Rattle.oftp_command_line.specs.FeedLine.{feed_app, feed_in, feed_said};
+ghost use Rattle.oftp_command_line.specs.FeedLine.{feed_app, feed_in, feed_said, may_record};
 
 use crate::line::LineFault;
 use crate::line::values::{choice, given, value_of};
 use clap::ArgMatches;
 use std::alloc::Global;
+
+/// What a line says that wants a record of a register in memory.
+const NOTHING_KEPT: &str =
+    "error: --record <FOLDER> needs --db <DATABASE>\n\nFor more information, try '--help'.\n";
 
 /// The command `feed`, which runs one session from file to file.
 #[derive(Clone, Copy)]
@@ -24,6 +28,8 @@ pub struct Feed<'a> {
     pub partner: Option<&'a str>,
     /// The file to which the commands of the session are appended as text, if there is one.
     pub trace: Option<&'a str>,
+    /// The folder of the record, if there is one. Then there is a database, too.
+    pub record: Option<&'a str>,
     /// The file with what the partner sends.
     pub input: &'a str,
     /// The file to which the station's output is written.
@@ -45,6 +51,16 @@ const FEED_ROLES: &[(&str, FeedRole)] = &[
     ("initiator", FeedRole::Initiator),
 ];
 
+// Whether a record may be kept, if one is named: not of a register in memory, of which nothing is left.
+fn may_record(database: Option<&str>, folder: Option<&str>) -> bool
+    ensures { result ≡ may_record (option_map (λ s. s.now) database.entry) (option_map (λ s. s.now) folder.entry) }
+{
+    match (database, folder) {
+        (None, Some(_)) => false,
+        (Some(_), _) | (None, None) => true,
+    }
+}
+
 /// Reads the values of the options and words of `feed`.
 pub(super) fn feed_read<'a>(alloc: Global, matches: &ArgMatches<'a>) -> Result<Feed<'a>, LineFault>
     requires { HasValues feed_app (values_in matches.now) }
@@ -52,12 +68,18 @@ pub(super) fn feed_read<'a>(alloc: Global, matches: &ArgMatches<'a>) -> Result<F
     ensures bad { IfErr result (λ e. is_bad e ≡ true → feed_in (values_in matches.now) ≡ None) }
 {
     let role = choice(alloc, matches, "role", "--role <ROLE>", FEED_ROLES)?;
+    let database = value_of(matches, "db");
+    let record = value_of(matches, "record");
+    if !may_record(database, record) {
+        return Err(LineFault::Bad(String::from_str(alloc, NOTHING_KEPT)?));
+    }
     Ok(Feed {
-        database: value_of(matches, "db"),
+        database,
         book: given(matches, "book"),
         role,
         partner: value_of(matches, "partner"),
         trace: value_of(matches, "trace"),
+        record,
         input: given(matches, "in"),
         output: given(matches, "out"),
     })

@@ -1,6 +1,5 @@
 use Rattle.std.proofs.Common.{◌≡◌, ◌+◌, ◌-◌, ◌++◌, List, ℕ, ◌∙◌, ap, arith, drop, length, sym, take}
-use Rattle.sha2.specs.Sha256.{sha256}
-use Rattle.oftp_record.specs.Entries.{entry_header}
+use Rattle.oftp_record.specs.Entries.{chained, entry_header}
 use Rattle.oftp_record.proofs.StoredLemmas.{added, sealed}
 use Rattle.oftp_record.proofs.writing.append_entry.Goals as goal
 
@@ -31,7 +30,7 @@ returns-clause-digest c =
       ap (λ (z : List ℕ). length z) (c.as_slice.ensures ∙ c.octets.ensures),
     ) in
     sealed items header content c.of-digest.result.0 c.args.before.now.0 begin long
-    (c.of-digest.ensures ∙ ap (λ (s : List ℕ). sha256 (take (length s - begin) (drop begin s) ++ c.args.before.now.0)) (body c))
+    (c.of-digest.ensures ∙ ap (λ (s : List ℕ). chained (take (length s - begin) (drop begin s)) c.args.before.now.0) (body c))
 
 pub returns-clause-written : goal.returns-clause-written
 returns-clause-written c =

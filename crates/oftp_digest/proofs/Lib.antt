@@ -1,0 +1,3 @@
+mod BitLemmas
+pub mod LaneLemmas
+mod BlockLemmas
