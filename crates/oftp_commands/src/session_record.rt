@@ -5,10 +5,10 @@ use oftp_contents::RecordSide;
 use oftp_engine::{End, RunFault};
 use oftp_life::Stage;
 use oftp_outcomes::Fault;
+use oftp_partners::Partner;
 use oftp_recording::{Recorder, Syncing, cause_of, line_of_end};
 use oftp_register::Office;
 use std::alloc::Global;
-use std::str;
 
 /// The number of the session: its program has no other one.
 const NUMBER: u64 = 1;
@@ -49,16 +49,17 @@ impl<'r> SessionRecord<'r> {
         }
     }
 
-    /// Records that the session begins, on a side, with the partner who has this code.
+    /// Records that the session begins, on a side, with this partner.
     ///
     /// # Errors
     /// Those of [`Recorder::session`].
-    pub(crate) fn session(&self, side: RecordSide, code: &[u8]) -> Result<(), Fault> {
+    pub(crate) fn session(
+        &self,
+        side: RecordSide,
+        partner: Option<&Partner>,
+    ) -> Result<(), Fault> {
         match &self.recorder {
-            Some(recorder) => {
-                let code = str::from_utf8(code).unwrap_or("");
-                recorder.session(NUMBER, side, code, self.peer, &[])
-            }
+            Some(recorder) => recorder.session(NUMBER, side, partner, self.peer, &[]),
             None => Ok(()),
         }
     }

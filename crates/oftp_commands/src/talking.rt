@@ -57,8 +57,7 @@ impl<R: Read, W: Write> Wire<'_, R, W> {
     fn meet<'b>(&mut self, book: &'b Book, role: Role<'b>) -> Result<Met<'b>, Fault> {
         match role {
             Role::Initiator(partner) => {
-                let code = partner.code.as_str();
-                self.record.session(RecordSide::Initiator, code.as_bytes())?;
+                self.record.session(RecordSide::Initiator, Some(partner))?;
                 Ok(Met::Called)
             }
             Role::Responder => self.welcome(book),
@@ -75,7 +74,7 @@ impl<R: Read, W: Write> Wire<'_, R, W> {
             match opening.admission() {
                 // What an opening says is kept in memory.
                 Err(_) => return Err(Fault::MEMORY),
-                Ok(Admission::LetIn) => return self.admitted(opening, heard.as_slice()),
+                Ok(Admission::LetIn) => return self.admitted(book, opening, heard.as_slice()),
                 Ok(_) if !is_sent => return Err(Fault::Run(RunFault::Write)),
                 Ok(Admission::SentAway(ending)) => return Ok(Met::Nobody(End::from(ending))),
                 Ok(Admission::Undecided) => {}
@@ -96,10 +95,16 @@ impl<R: Read, W: Write> Wire<'_, R, W> {
     }
 
     /// The guest that a caller is who was let in, and has sent these octets. Its session is recorded.
-    fn admitted<'b>(&self, opening: Opening<'b>, heard: &[u8]) -> Result<Met<'b>, Fault> {
-        // Who was let in has a code, and is a guest.
+    fn admitted<'b>(
+        &self,
+        book: &'b Book,
+        opening: Opening<'b>,
+        heard: &[u8],
+    ) -> Result<Met<'b>, Fault> {
+        // Who was let in has a code of the book, and is a guest.
         if let Some(code) = opening.code() {
-            self.record.session(RecordSide::Responder, code.octets())?;
+            let partner = book.partner(code.octets());
+            self.record.session(RecordSide::Responder, partner)?;
         }
         self.record.heard(heard)?;
         match opening.into_guest() {

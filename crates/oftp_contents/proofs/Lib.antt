@@ -1,3 +1,4 @@
 mod DayLemmas
 mod FieldLemmas
+mod PasswordLemmas
 mod PieceLemmas

@@ -1,5 +1,6 @@
 -- The definitions that contracts cite: the fields of a content as octets, and the codes.
 pub mod Fields
+pub mod Passwords
 pub mod Pieces
 pub mod Places
 pub mod Days

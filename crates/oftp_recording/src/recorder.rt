@@ -3,6 +3,7 @@
 use crate::days::{day_of, day_text, file_of, record_files};
 use crate::hiding::hidden;
 use crate::moments::moment_text;
+use crate::passwords::{SessionPasswords, instead};
 use crate::reading::{Found, RecordReader, refuse_others};
 use crate::registers::{Digest, register_digest};
 use jiff::Timestamp;
@@ -12,6 +13,7 @@ use oftp_contents::{
 };
 use oftp_files::{file_fault, is_free, make_private};
 use oftp_outcomes::Fault;
+use oftp_partners::Partner;
 use oftp_record::{AppendFault, ChainDigest, RecordEntry, RecordKind, append_entry};
 use oftp_register::Office;
 use std::cell::RefCell;
@@ -45,6 +47,8 @@ pub struct Recorder<'a> {
     syncing: Syncing,
     // `None` once the record couldn't be written.
     day: RefCell<Option<Day>>,
+    // Those of the session that is recorded, if one is.
+    passwords: RefCell<Option<SessionPasswords>>,
 }
 
 /// The file of a day.
@@ -76,6 +80,7 @@ impl<'a> Recorder<'a> {
             folder,
             syncing,
             day: RefCell::new(Some(day)),
+            passwords: RefCell::new(None),
         })
     }
 
@@ -124,7 +129,8 @@ impl<'a> Recorder<'a> {
         self.sync()
     }
 
-    /// Records that a session begins, with the partner's code and address, and the book of the command that wanted it.
+    /// Records that a session begins with a partner of the book, with the partner's address and the book of the command that wanted it. What is recorded
+    /// of this session has none of its passwords. Sessions follow one another.
     ///
     /// # Errors
     /// Those of [`Recorder::begin`].
@@ -132,14 +138,17 @@ impl<'a> Recorder<'a> {
         &self,
         number: u64,
         side: RecordSide,
-        partner: &str,
+        partner: Option<&Partner>,
         peer: &str,
         book: &[u8],
     ) -> Result<(), Fault> {
+        let passwords = SessionPasswords::of_partner(self.rt.alloc(), side, partner)?;
+        let _ = self.passwords.try_replace(Some(passwords));
+        let code = partner.map_or("", |partner| partner.code.as_str());
         let fields = ContentFields {
             number,
             code: side.code(),
-            first: partner.as_bytes(),
+            first: code.as_bytes(),
             second: peer.as_bytes(),
             rest: book,
         };
@@ -202,8 +211,10 @@ impl<'a> Recorder<'a> {
         Ok(())
     }
 
-    /// Appends what a session heard or said.
+    /// Appends what the session heard or said, without its passwords.
     fn put_octets(&self, kind: RecordKind, number: u64, octets: &[u8]) -> Result<(), Fault> {
+        let hidden = self.hidden(kind, octets)?;
+        let octets = instead(&hidden, octets);
         let moment = moment_now(self.rt)?;
         let day = self.taken(moment)?;
         let talked = SessionOctets {
@@ -215,6 +226,19 @@ impl<'a> Recorder<'a> {
         let day = day.put_octets(self.rt, &talked)?;
         let _ = self.day.try_replace(Some(day));
         Ok(())
+    }
+
+    /// What the session heard or said, as it is recorded, unless that is as it is.
+    fn hidden(&self, kind: RecordKind, octets: &[u8]) -> Result<Option<Vec<u8>>, Fault> {
+        let Ok(Some(mut passwords)) = self.passwords.try_replace(None) else {
+            return Ok(None);
+        };
+        let hidden = match kind {
+            RecordKind::OctetsIn => passwords.hide_heard(octets)?,
+            _ => passwords.hide_said(octets)?,
+        };
+        let _ = self.passwords.try_replace(Some(passwords));
+        Ok(hidden)
     }
 
     /// Takes the file of the day of a moment, until it is put back. It isn't put back if it can't be written.

@@ -7,6 +7,7 @@ use oftp_files::explained;
 use oftp_notes::seen_line;
 use oftp_outcomes::{DONE, FAILED, Fault, Outcome, tell, write_line};
 use oftp_record::RecordKind;
+use oftp_recording::{SessionPasswords, instead};
 use std::alloc::Global;
 use std::io::Write;
 
@@ -33,6 +34,7 @@ struct Listener {
     title: String,
     heard: Vec<u8>,
     said: Vec<u8>,
+    passwords: Option<SessionPasswords>,
     // How many sessions were told of, and of how many there was something to tell.
     sessions: u64,
     broken: u64,
@@ -79,6 +81,7 @@ impl Listener {
             title: String::new(alloc),
             heard: Vec::new(alloc),
             said: Vec::new(alloc),
+            passwords: None,
             sessions: 0,
             broken: 0,
         }
@@ -100,14 +103,32 @@ impl Listener {
                 self.begin(&fields)
             }
             RecordKind::OctetsIn if self.reading == Reading::Session(fields.number) => {
-                Ok(self.heard.extend_from_slice(fields.rest)?)
+                self.hear(fields.rest)
             }
             RecordKind::OctetsOut if self.reading == Reading::Session(fields.number) => {
-                Ok(self.said.extend_from_slice(fields.rest)?)
+                self.say(fields.rest)
             }
             RecordKind::End if self.reading == Reading::Session(fields.number) => self.close(out),
             _ => Ok(()),
         }
+    }
+
+    /// Takes what was heard.
+    fn hear(&mut self, octets: &[u8]) -> Result<(), Fault> {
+        let shown = match &mut self.passwords {
+            Some(passwords) => passwords.show_heard(octets)?,
+            None => None,
+        };
+        Ok(self.heard.extend_from_slice(instead(&shown, octets))?)
+    }
+
+    /// Takes what was said.
+    fn say(&mut self, octets: &[u8]) -> Result<(), Fault> {
+        let shown = match &mut self.passwords {
+            Some(passwords) => passwords.show_said(octets)?,
+            None => None,
+        };
+        Ok(self.said.extend_from_slice(instead(&shown, octets))?)
     }
 
     /// Begins a session, if it is asked for.
@@ -121,9 +142,14 @@ impl Listener {
         let title = format!(in self.alloc; "session {number}: {partner} {peer}")?;
         self.title = seen_line(self.alloc, title.as_str())?;
         self.reading = Reading::Session(number);
-        if RecordSide::of_code(fields.code) == Some(RecordSide::Responder) {
+        let side = RecordSide::of_code(fields.code);
+        if side == Some(RecordSide::Responder) {
             self.said.extend_from_slice(GREETING.as_slice())?;
         }
+        self.passwords = match side {
+            Some(side) => Some(SessionPasswords::stand_in(self.alloc, side)?),
+            None => None,
+        };
         self.sessions = self.sessions.saturating_add(1);
         Ok(())
     }

@@ -2,12 +2,12 @@
 
 use crate::bundle::{Bundle, hex_text};
 use crate::tape::{At, Tape, text_of};
-use oftp_contents::ContentFields;
+use oftp_contents::{ContentFields, RecordSide};
 use oftp_evidence::{Part, SessionFacts, SessionParts};
 use oftp_files::{Counted, Head, Transcript};
 use oftp_outcomes::Fault;
 use oftp_record::RecordKind;
-use oftp_recording::moment_text;
+use oftp_recording::{SessionPasswords, instead, moment_text};
 use oftp_register::{Identity, Side};
 use oftp_telling::Sender;
 use sha2::{Digest as Hashing, Sha256};
@@ -35,6 +35,7 @@ struct ReadSession {
     // When the last entry of it was written, and how many days were begun then.
     ended: u64,
     days: usize,
+    passwords: Option<SessionPasswords>,
     heard: ReadSide,
     said: ReadSide,
     // Both sides in words, and the DATA that are told once another command comes.
@@ -169,6 +170,10 @@ impl ReadSession {
         moment: u64,
         file: &Identity,
     ) -> Result<ReadSession, AllocError> {
+        let passwords = match RecordSide::of_code(fields.code) {
+            Some(side) => Some(SessionPasswords::stand_in(alloc, side)?),
+            None => None,
+        };
         Ok(ReadSession {
             number: fields.number,
             partner: String::from_str(alloc, text_of(fields.first))?,
@@ -176,6 +181,7 @@ impl ReadSession {
             begun: moment,
             ended: moment,
             days: 0,
+            passwords,
             heard: ReadSide::new(alloc, Sender::Partner, file),
             said: ReadSide::new(alloc, Sender::Station, file),
             words: String::new(alloc),
@@ -189,8 +195,19 @@ impl ReadSession {
         self.days = tape.count();
     }
 
+    /// What a piece that came or went is without the places of passwords, unless it is so as it is.
+    fn shown(&mut self, sender: Sender, piece: &[u8]) -> Result<Option<Vec<u8>>, AllocError> {
+        match (&mut self.passwords, sender) {
+            (Some(passwords), Sender::Partner) => passwords.show_heard(piece),
+            (Some(passwords), Sender::Station) => passwords.show_said(piece),
+            (None, _) => Ok(None),
+        }
+    }
+
     /// Takes a piece that came or went.
     fn take(&mut self, sender: Sender, piece: &[u8], moment: u64) -> Result<(), AllocError> {
+        let shown = self.shown(sender, piece)?;
+        let piece = instead(&shown, piece);
         match sender {
             Sender::Partner => {
                 self.heard

@@ -7,9 +7,9 @@ use oftp_engine::{Admission, End, Role};
 use oftp_files::book_of;
 use oftp_life::{Life, LifeSession, Opening, Stage};
 use oftp_outcomes::Fault;
-use oftp_partners::Book;
+use oftp_partners::{Book, Partner};
 use oftp_record::RecordKind;
-use oftp_recording::{Digest, line_of_end, register_digest};
+use oftp_recording::{Digest, SessionPasswords, instead, line_of_end, register_digest};
 use oftp_register::Office;
 use oftp_requests::goes_on;
 use std::alloc::Global;
@@ -20,7 +20,8 @@ struct Talk<'b, O: Office> {
     alloc: Global,
     number: u64,
     session: LifeSession<'b, O>,
-    // What it has said, and the record hasn't said yet.
+    passwords: SessionPasswords,
+    // What it has said as a record has that, and the record hasn't said yet.
     said: Vec<u8>,
 }
 
@@ -55,20 +56,26 @@ impl Player<'_> {
                 let Some(partner) = book.partner(fields.first) else {
                     return Err(Stop::Differs("the book has no such partner"));
                 };
+                let side = RecordSide::Initiator;
+                let passwords = SessionPasswords::of_partner(self.alloc, side, Some(partner))?;
                 let session = life.begin(self.alloc, book, Role::Initiator(partner));
-                self.play(Talk::new(self.alloc, fields.number, session), &[])
+                self.play(Talk::new(self.alloc, fields.number, session, passwords), &[])
             }
-            Some(RecordSide::Responder) => self.admitted(life, book, fields.number),
+            Some(RecordSide::Responder) => {
+                let partner = book.partner(fields.first);
+                self.admitted(life, book, fields.number, partner)
+            }
             None => Err(Stop::Differs("it is no session")),
         }
     }
 
-    /// Plays a session with a caller, who is let in by the octets that were heard first. Without them it was never begun.
+    /// Plays a session with a caller, this partner, who is let in by the octets that were heard first. Without them it was never begun.
     fn admitted<O: Office + Drop>(
         &mut self,
         life: Life<O>,
         book: &Book,
         number: u64,
+        partner: Option<&Partner>,
     ) -> Result<Life<O>, Stop> {
         if self.tape.at() != At::Entry(RecordKind::OctetsIn) {
             return Ok(life);
@@ -77,15 +84,19 @@ impl Player<'_> {
         let Some(fields) = ContentFields::of(content.as_slice()) else {
             return Err(Stop::Differs("it is no piece of a session"));
         };
+        let mut passwords =
+            SessionPasswords::of_partner(self.alloc, RecordSide::Responder, partner)?;
+        let shown = passwords.show_heard(fields.rest)?;
+        let octets = instead(&shown, fields.rest);
         let mut opening = Opening::new(self.alloc, book);
         drop(opening.take_out(self.alloc));
-        let count = let_in(&mut opening, fields.rest)?;
+        let count = let_in(&mut opening, octets)?;
         let Ok(guest) = opening.into_guest() else {
             return Err(Stop::Differs("the caller isn't let in"));
         };
-        let rest = self.joined(fields.rest.get(count..).unwrap_or(&[]))?;
+        let rest = self.joined(octets.get(count..).unwrap_or(&[]))?;
         let session = life.admit(self.alloc, guest);
-        self.play(Talk::new(self.alloc, number, session), rest.as_slice())
+        self.play(Talk::new(self.alloc, number, session, passwords), rest.as_slice())
     }
 
     /// Plays a session to its end, which hears these octets first. Returns the life.
@@ -133,7 +144,8 @@ impl Player<'_> {
             return Err(Stop::Differs("the session"));
         }
         let octets = self.joined(fields.rest)?;
-        self.hear_on(talk, octets.as_slice())
+        let shown = talk.passwords.show_heard(octets.as_slice())?;
+        self.hear_on(talk, instead(&shown, octets.as_slice()))
     }
 
     /// These octets of the piece at which the record stands, and the other pieces behind it of what was heard at once. The record goes on behind them.
@@ -244,11 +256,17 @@ fn let_in(opening: &mut Opening<'_>, octets: &[u8]) -> Result<usize, Stop> {
 
 impl<'b, O: Office + Drop> Talk<'b, O> {
     /// A session that has said nothing yet.
-    fn new(alloc: Global, number: u64, session: LifeSession<'b, O>) -> Talk<'b, O> {
+    fn new(
+        alloc: Global,
+        number: u64,
+        session: LifeSession<'b, O>,
+        passwords: SessionPasswords,
+    ) -> Talk<'b, O> {
         Talk {
             alloc,
             number,
             session,
+            passwords,
             said: Vec::new(alloc),
         }
     }
@@ -259,10 +277,11 @@ impl<'b, O: Office + Drop> Talk<'b, O> {
         self.pull()
     }
 
-    /// Takes what the session has said.
+    /// Takes what the session has said, as a record has it.
     fn pull(&mut self) -> Result<(), Stop> {
         let said = self.session.take_out(self.alloc);
-        match self.said.extend_from_slice(said.as_slice()) {
+        let hidden = self.passwords.hide_said(said.as_slice())?;
+        match self.said.extend_from_slice(instead(&hidden, said.as_slice())) {
             Ok(()) => Ok(()),
             Err(_) => Err(Stop::Failed(Fault::MEMORY)),
         }

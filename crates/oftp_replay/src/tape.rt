@@ -6,7 +6,7 @@ use oftp_outcomes::Fault;
 use oftp_progress::{Extent, Gauge};
 use oftp_record::{ChainDigest, RecordKind};
 use oftp_recording::{Digest, Found, RecordReader, file_of, record_files};
-use std::alloc::Global;
+use std::alloc::{AllocError, Global};
 
 /// Why playing a record stops.
 #[derive(Clone, Copy, Debug)]
@@ -22,6 +22,12 @@ pub(crate) enum Stop {
 impl From<Fault> for Stop {
     fn from(fault: Fault) -> Stop {
         Stop::Failed(fault)
+    }
+}
+
+impl From<AllocError> for Stop {
+    fn from(_: AllocError) -> Stop {
+        Stop::Failed(Fault::MEMORY)
     }
 }
 

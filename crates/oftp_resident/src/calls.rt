@@ -138,6 +138,7 @@ impl<'a> Shell<'a> {
         let task = Task::Call(outgoing);
         let mut peer = Peer::new(alloc, id, task, Stream::absent(), Reading::Nothing);
         peer.code = Some(wanted.code);
+        peer.book = Some(book);
         peer.latest = self.latest;
         Some(peer)
     }

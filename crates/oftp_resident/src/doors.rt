@@ -129,6 +129,7 @@ impl<'a> Shell<'a> {
         let mut peer = Peer::new(alloc, id, task, stream, Reading::Opening);
         peer.trace = shared_trace(alloc, self.station.trace);
         peer.diary = Diary::wanted(alloc, self.config.events);
+        peer.book = Some(self.station.book);
         peer.latest = self.latest;
         if self.config.recorder.is_some() {
             peer.recorded = Recorded::Later(Vec::new(alloc));

@@ -9,6 +9,7 @@ use oftp_files::SessionTrace;
 use oftp_life::Opening;
 use oftp_listing::{LONGEST_HEAD, ListFault, Query};
 use oftp_outcomes::{Fault, Trouble};
+use oftp_partners::Book;
 use oftp_requests::{Asked, Sought, trouble_of};
 use oftp_schedule::connection::Signal;
 use std::alloc::Global;
@@ -115,7 +116,9 @@ pub(crate) struct Peer<'a> {
     pub(crate) diary: Option<Diary>,
     /// What the record has of it.
     pub(crate) recorded: Recorded,
-    /// The octets of the book by which it is served, if that was read since the service began.
+    /// The book by which it is served, if it is a partner.
+    pub(crate) book: Option<&'a Book>,
+    /// Its octets, if that was read since the service began.
     pub(crate) latest: &'a [u8],
 }
 
@@ -150,6 +153,7 @@ impl<'a> Peer<'a> {
             trace: None,
             diary: None,
             recorded: Recorded::Nothing,
+            book: None,
             latest: &[],
         }
     }

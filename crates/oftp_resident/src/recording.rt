@@ -9,6 +9,7 @@ use oftp_engine::RunFault;
 use oftp_life::{Life, Stage};
 use oftp_listing::OfficeState;
 use oftp_outcomes::{Fault, plain};
+use oftp_partners::Partner;
 use oftp_recording::{Recorder, cause_of, line_of_end};
 use oftp_register::Office;
 use oftp_requests::{Made, line_of_answer};
@@ -114,10 +115,9 @@ impl Shell<'_> {
             return Ok(());
         };
         let before = peer.take_recorded(alloc);
-        let code = peer.code_text(alloc)?;
         let address = peer.address_text(alloc)?;
         let side = peer.side();
-        recorder.session(id, side, code.as_str(), address.as_str(), peer.latest)?;
+        recorder.session(id, side, peer.partner_of_book(), address.as_str(), peer.latest)?;
         recorder.heard(id, before.as_slice())
     }
 
@@ -162,12 +162,10 @@ impl Peer<'_> {
         }
     }
 
-    /// The partner's code; empty where none is known.
-    fn code_text(&self, alloc: Global) -> Result<String, AllocError> {
-        match &self.code {
-            Some(code) => String::from_str(alloc, code.as_str()),
-            None => Ok(String::new(alloc)),
-        }
+    /// The partner, once the code is known, by the book by which it is served.
+    fn partner_of_book(&self) -> Option<&Partner> {
+        let code = self.code.as_ref()?;
+        self.book?.partner(code.as_bytes())
     }
 
     /// The address of its other end as text; empty where that isn't known.
