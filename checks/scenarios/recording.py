@@ -10,7 +10,7 @@ with a partner who calls and who is called, with files both ways. It is after op
 SIGKILL between any two octets of sessions and within commands, with a start again each time. It goes on from a backup. A record that is cut off, or
 in which an octet was changed, is told, and so is a database that isn't the station's. A station goes on behind the last whole entry. One that can't
 write its record ends with `fault: 7 file`. What `listen`, `call`, `feed` and commands without a station record gives their tables, too, also after
-kills of commands and of `feed`. The register is marked each hour if no session goes on, and before a backup. A part of a record is played from an entry, and up to one.
+kills of commands and of `feed`. No password of a session is in a record, and sessions with wrong ones are played as they were. The register is marked each hour if no session goes on, and before a backup. A part of a record is played from an entry, and up to one.
 An audit against a record tells a database that isn't the last one of it, or never was.
 `explain` shows what isn't to be seen in a changed record by its escape
 """
@@ -573,9 +573,19 @@ def users_in(room):
             yield content[13 : 13 + count].decode()
 
 
+def octets_in(room, wanted):
+    """The octets of entries of this kind, behind a number, a code and two empty texts in each entry."""
+    return b"".join(content[17:] for kind, content in entries_of(file_of(room)) if kind == wanted)
+
+
 def said_in(room):
-    """The octets that went out, behind a number, a code and two empty texts in each entry."""
-    return b"".join(content[17:] for kind, content in entries_of(file_of(room)) if kind == OCTETS_OUT)
+    """The octets that went out."""
+    return octets_in(room, OCTETS_OUT)
+
+
+def hidden(octets, password=b"SUPPW"):
+    """The same octets, with `*` for each character of the password behind the code of an SSID."""
+    return octets.replace(password + bytes(3).replace(b"\0", b" "), b"*" * len(password) + b"   ", 1)
 
 
 def copied(room, name):
@@ -681,7 +691,7 @@ def feeds(room):
     whole = session_of("receiving/one_octet").joined("in")
     expect(fed(room, whole), "end: partner 00\n", "the whole session")
     expect(kinds_in(room), FED, "the entries of one session")
-    expect(said_in(room), (room / "out").read_bytes()[-len(said_in(room)) :], "the octets that went out")
+    expect(said_in(room), hidden((room / "out").read_bytes()[-len(said_in(room)) :]), "the octets that went out")
     expect_same(room, 1, 0)
     copied(room, "once")
     broken = one_file.session(30_000, 128, 2).replace(b"ASN.0001", b"ASN.0002")
@@ -719,6 +729,98 @@ def feeds_refused(room):
     expect(subprocess.run([PROGRAM, *words], capture_output=True, timeout=LONG, check=False).stderr, b"fault: 7 file\n", "feed without the folder")
     expect((room / "other").exists(), False, "whether OUT was made")
     expect_same(room, 1, 0)
+
+
+# Passwords of a partner who is called: what each is in a record, where CARPW is expected, and how its session ends.
+PASSWORDS = [
+    (b"CARPW   ", b"*****   ", "end: partner 00\n"),
+    (b"CARPX   ", b"****?   ", "end: own 04\n"),
+    (b"XXXXX   ", b"?????   ", "end: own 04\n"),
+    (b"CARP    ", b"****    ", "end: own 04\n"),
+    (b"CARPWS  ", b"*****?  ", "end: own 04\n"),
+    (b"        ", b"        ", "end: own 04\n"),
+    (b"CARPWORD", b"*****???", "end: own 04\n"),
+    (b"carpw   ", b"!!!!!   ", "end: own 06\n"),
+    (b"CAR PW  ", b"*** ??  ", "end: own 06\n"),
+    (b"*****   ", b"!!!!!   ", "end: own 06\n"),
+    (b"?????   ", b"!!!!!   ", "end: own 06\n"),
+    (b"CARPW\0\xff\r", b"*****!!!", "end: own 06\n"),
+]
+
+
+def in_pieces(room, octets, sizes, *words):
+    """What `feed` prints whose partner's octets come in pieces of these sizes."""
+    named = ["feed", "--db", room / "database", "--book", BOOK, "--record", room / "record", *words, "/dev/stdin", room / "out"]
+    with subprocess.Popen([PROGRAM, *named], bufsize=0, stdin=subprocess.PIPE, stdout=subprocess.PIPE) as program:
+        with contextlib.suppress(BrokenPipeError):
+            for size in sizes:
+                program.stdin.write(octets[:size])
+                octets = octets[size:]
+                time.sleep(0.005)
+            program.stdin.write(octets)
+        return program.communicate()[0].decode()
+
+
+def passwords(room):
+    """No password of a session is in a record, right or wrong, whichever pieces it comes in. Its length is, and the replay ends as the session did."""
+    (room / "record").mkdir()
+    (room / "file").write_bytes(bytes(250))
+    alone(room, "submit", *IDENTITY, "--dataset", "A", room / "file")
+    copied(room, "begun")
+    called = session_of("sending/credit_of_one")
+    octets, heard = called.joined("in"), b""
+    for turn, (password, recorded, line) in enumerate(PASSWORDS):
+        other = octets.replace(b"CARPW   ", password, 1)
+        expect(fed(room, other, *called.role), line, f"the session with {password}")
+        expect(octets_in(room, OCTETS_IN)[len(heard) :][54:62], recorded, f"{password} in the record")
+        heard = octets_in(room, OCTETS_IN)
+        # The same, cut within SSRM, at each place of the password, and behind it.
+        sizes = [23, 23 + 4, 1] if turn % 2 else [53, *[1] * 10]
+        # The file has gone by then, so its answers are out of their place.
+        again = line.replace("partner 00", "own 02")
+        expect(in_pieces(room, other, sizes, *called.role), again, f"the session with {password} in pieces")
+        expect(octets_in(room, OCTETS_IN)[len(heard) :][54:62], recorded, f"{password} in the record, in pieces")
+        heard = octets_in(room, OCTETS_IN)
+    expect(fed(room, session_of("receiving/one_octet").joined("in")), "end: partner 00\n", "a caller")
+    expect(octets_in(room, OCTETS_IN)[len(heard) :][31:39], b"*****   ", "the password of a caller")
+    expect([word in file_of(room).read_bytes() for word in (b"CARPW", b"SUPPW", b"carpw", b"CARPX")], [False] * 4, "whether a password is in the record")
+    expect_same(room, 2 * len(PASSWORDS) + 1, 0, database="begun")
+    told = subprocess.run([PROGRAM, "explain", "--record", room / "record"], capture_output=True, timeout=LONG, check=False).stdout.decode()
+    expect(told.count("SSIDPSWD"), 2 * sum(line == "end: own 06\n" for _, _, line in PASSWORDS), "what is told of passwords")
+
+
+# Ways in which a book may be written, with CARPW and SUPPW as passwords.
+BOOKS = [
+    "expects = 'CARPW'\nsends = 'SUPPW'",
+    '"expects" = "CARPW"\n\'sends\' = "SUPPW"',
+    'expects = """CARPW"""\nsends = \'\'\'SUPPW\'\'\'',
+    'expects = """\nCARPW"""\nsends = \'\'\'\nSUPPW\'\'\'',
+    "expects\t =\t'CARPW' # expects = 'CARPW'\nsends='SUPPW'",
+]
+
+
+def books_with_passwords(room):
+    """No password of a book is in a record, whichever way it is written: neither of the start, nor of commands, nor of `reload`."""
+    whole = BOOK.read_text()
+    (room / "file").write_bytes(b"ABC")
+    for turn, keys in enumerate(BOOKS):
+        folder = room / str(turn)
+        (folder / "record").mkdir(parents=True)
+        book = folder / "book.toml"
+        book.write_text(whole.replace("expects = 'CARPW'\nsends = 'SUPPW'", keys))
+        expect(keys in book.read_text(), True, "the book's keys")
+        with recording(folder, book=book) as service:
+            submit(service, "A", room / "file", book)
+            book.write_text(book.read_text() + "# again\n")
+            expect(service.give("reload").stdout, b"done: reload\n", "reload")
+            expect(submit(service, "B", room / "file", book), "done: submit 2\n", "submit")
+            converse(service, session_of("listening/nothing_waiting").joined("in"))
+            service.give("stop")
+            service.ends()
+        octets = file_of(folder).read_bytes()
+        expect([word in octets for word in (b"CARPW", b"SUPPW")], [False, False], f"whether a password is in the record by {keys!r}")
+        book.write_text(whole.replace("expects = 'CARPW'\nsends = 'SUPPW'", keys))
+        expect_same(folder, 1, 2, book=book)
 
 
 def killed_feed(room, seed):
@@ -885,7 +987,7 @@ def killed_behind_the_copy(room):
         expect((done.returncode, done.stdout.decode()), (1, f"register: {line}\n"), f"{database} of a killed station")
 
 
-CASES = [commands, rows, two_stations, book_read_again, killed_at_moments, killed_beside_partners, changed_octet, cut_record, most_at_once, killed_within_pieces, torn_pieces, backup, days, two_in_one_folder, without_syncing, other_database, full_disk, full_disk_of_the_database, commands_alone, killed_commands, listen_and_call, feeds, feeds_refused, killed_feeds, backups_recorded, parts, marks, hostile_record, audits]
+CASES = [commands, rows, two_stations, book_read_again, killed_at_moments, killed_beside_partners, changed_octet, cut_record, most_at_once, killed_within_pieces, torn_pieces, backup, days, two_in_one_folder, without_syncing, other_database, full_disk, full_disk_of_the_database, commands_alone, killed_commands, listen_and_call, feeds, feeds_refused, passwords, books_with_passwords, killed_feeds, backups_recorded, parts, marks, hostile_record, audits]
 
 
 def tried(case):

@@ -9,7 +9,7 @@ use oftp_files::own_user;
 use oftp_outcomes::Fault;
 use oftp_recording::{Recorder, Syncing};
 use oftp_register::Office;
-use oftp_requests::{line_of_ending, request_octets};
+use oftp_requests::{line_of_ending, recorded_request};
 use std::alloc::Global;
 
 /// The record of a command.
@@ -42,7 +42,7 @@ impl<'t> Recording<'t> {
     /// # Errors
     /// [`Fault::File`] if the record can't be written; [`Fault::MEMORY`].
     pub(crate) fn ask(&mut self, alloc: Global, request: &Request<'_>) -> Result<(), Fault> {
-        let octets = request_octets(alloc, request)?;
+        let octets = recorded_request(alloc, request)?;
         self.calls = self.calls.saturating_add(1);
         self.recorder
             .called(self.calls, Some(own_user()), octets.as_slice())

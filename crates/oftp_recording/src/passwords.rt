@@ -70,7 +70,12 @@ impl SessionPasswords {
     /// # Errors
     /// Out of memory.
     pub fn hide_heard(&mut self, octets: &[u8]) -> Result<Option<Vec<u8>>, AllocError> {
-        hidden(self.alloc, &mut self.heard, self.expected.as_slice(), octets)
+        hidden(
+            self.alloc,
+            &mut self.heard,
+            self.expected.as_slice(),
+            octets,
+        )
     }
 
     /// What the session says next, as it is recorded. `None` if these octets are recorded as they are.
@@ -86,7 +91,12 @@ impl SessionPasswords {
     /// # Errors
     /// Out of memory.
     pub fn show_heard(&mut self, octets: &[u8]) -> Result<Option<Vec<u8>>, AllocError> {
-        shown(self.alloc, &mut self.heard, self.expected.as_slice(), octets)
+        shown(
+            self.alloc,
+            &mut self.heard,
+            self.expected.as_slice(),
+            octets,
+        )
     }
 
     /// What the session said next, by its record. `None` if it has these octets as they are.

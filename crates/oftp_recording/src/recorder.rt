@@ -11,7 +11,7 @@ use oftp_contents::{
     ContentFields, DayTurn, EndCause, Marked, RecordSide, SessionOctets, day_at, days_passed,
     number_of_day, turn_of,
 };
-use oftp_files::{file_fault, is_free, make_private};
+use oftp_files::{file_fault, is_free, make_private, without_passwords};
 use oftp_outcomes::Fault;
 use oftp_partners::Partner;
 use oftp_record::{AppendFault, ChainDigest, RecordEntry, RecordKind, append_entry};
@@ -145,12 +145,13 @@ impl<'a> Recorder<'a> {
         let passwords = SessionPasswords::of_partner(self.rt.alloc(), side, partner)?;
         let _ = self.passwords.try_replace(Some(passwords));
         let code = partner.map_or("", |partner| partner.code.as_str());
+        let book = without_passwords(self.rt.alloc(), book)?;
         let fields = ContentFields {
             number,
             code: side.code(),
             first: code.as_bytes(),
             second: peer.as_bytes(),
-            rest: book,
+            rest: book.as_slice(),
         };
         self.put(RecordKind::Session, &fields)
     }

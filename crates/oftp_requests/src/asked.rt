@@ -11,7 +11,7 @@ use crate::resending::{Again, resend};
 use crate::sought::{Sought, sought_of};
 use oftp_channel::{Ending, Haste, Request, Tracing, fits, read_request, write_request};
 use oftp_engine::{Port, Refusal};
-use oftp_files::book_of;
+use oftp_files::{book_of, without_passwords};
 use oftp_life::Life;
 use oftp_outcomes::{Fault, Outcome};
 use oftp_partners::{self as partners, Book};
@@ -86,13 +86,13 @@ impl Asked {
         Request::of(self.words.as_slice())
     }
 
-    /// Its octets, as they came.
+    /// Its octets, as a record has them ([`recorded_request`]).
     ///
     /// # Errors
     /// [`Fault::MEMORY`].
-    pub fn octets(&self, alloc: Global) -> Result<Vec<u8>, Fault> {
+    pub fn recorded(&self, alloc: Global) -> Result<Vec<u8>, Fault> {
         match self.request() {
-            Some(request) => request_octets(alloc, &request),
+            Some(request) => recorded_request(alloc, &request),
             None => Err(Fault::MEMORY),
         }
     }
@@ -205,6 +205,39 @@ pub fn request_octets(alloc: Global, request: &Request<'_>) -> Result<Vec<u8>, F
         Ok(port.into_inner())
     } else {
         Err(Fault::MEMORY)
+    }
+}
+
+/// The octets of a request, as a record has them: with X for each octet of a password of its book. The call is made in the same way by that book.
+///
+/// # Errors
+/// Those of [`request_octets`].
+pub fn recorded_request(alloc: Global, request: &Request<'_>) -> Result<Vec<u8>, Fault> {
+    match *request {
+        Request::Operate { book, call } => {
+            let book = without_passwords(alloc, book)?;
+            let book = book.as_slice();
+            request_octets(alloc, &Request::Operate { book, call })
+        }
+        Request::Resend {
+            book,
+            no,
+            date,
+            time,
+        } => {
+            let book = without_passwords(alloc, book)?;
+            let book = book.as_slice();
+            request_octets(
+                alloc,
+                &Request::Resend {
+                    book,
+                    no,
+                    date,
+                    time,
+                },
+            )
+        }
+        _ => request_octets(alloc, request),
     }
 }
 

@@ -22,7 +22,7 @@ mod sought;
 mod standings;
 
 pub use answers::{answer_of, answer_of_call, bare_answer, copy_let};
-pub use asked::{Asked, Order, Wanted, partner_of, request_octets};
+pub use asked::{Asked, Order, Wanted, partner_of, recorded_request, request_octets};
 pub use asking::{Backend, look_up, operate};
 pub use codes::{PartnerLimit, codes_of, overdues_of};
 pub use comparing::Comparison;

@@ -125,7 +125,7 @@ impl Shell<'_> {
     pub(crate) fn record_call(&self, id: u64) -> Result<(), Fault> {
         match (self.config.recorder, self.asked_by(id)) {
             (Some(recorder), Some(asked)) => {
-                let request = asked.octets(self.rt.alloc())?;
+                let request = asked.recorded(self.rt.alloc())?;
                 recorder.called(id, self.user_of(id), request.as_slice())
             }
             _ => Ok(()),

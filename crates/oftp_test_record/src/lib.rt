@@ -5,4 +5,6 @@
 #[cfg(test)]
 mod eight;
 #[cfg(test)]
+mod passwords;
+#[cfg(test)]
 mod tests;
