@@ -1,10 +1,11 @@
 -- Octets that are appended to a record as one entry, as eight, and behind others.
-use Rattle.std.proofs.Common.{◌≡◌, ℕ, zero, suc, ◌+◌, ◌*◌, List, [], ◌∷◌, ◌++◌, length, take, drop, map, refl, sym, ap, ap₂, ◌∙◌, append_assoc, append-nil, arith}
+use Rattle.std.proofs.Common.{◌≡◌, ℕ, zero, suc, ◌+◌, ◌*◌, List, [], ◌∷◌, ◌++◌, length, take, drop, map, Ok, refl, sym, ap, ap₂, ◌∙◌, append_assoc, append-nil, arith}
 use Rattle.std.proofs.Math.Seq.{take-add}
 use Rattle.std.proofs.lemmas.List.{map-append, take_all}
 use Rattle.std.proofs.lemmas.List.Folds.{concat-append}
 use Rattle.std.specs.List.{concat}
-use Rattle.oftp_contents.specs.Pieces.{IsAppended, Talked, piece_noted}
+use Rattle.oftp_contents.specs.Pieces.{Appends, IsAppended, Talked, piece_noted}
+use Rattle.oftp_record.specs.declared.chain.ChainDigest.{ChainDigest}
 use Rattle.oftp_record.specs.Entries.{Noted, entry_digest, entry_octets}
 use Rattle.oftp_record.specs.Pieces.{Shared, piece_entries, piece_entry}
 use Rattle.oftp_record.specs.Records.{last_digest, record_octets}
@@ -81,3 +82,7 @@ appended_behind s xs ys old middle new before between digest whole a b =
           ∙ ap (λ es. old ++ record_octets before es) (sym all);
       digest_is = b.digest_is ∙ ap (λ d. last_digest d rest) a.digest_is ∙ sym (digest-append before first rest) ∙ ap (last_digest before) (sym all);
     }
+
+-- an attempt that appended them
+pub appends_ok : (s : Talked) (old new before : List ℕ) (digest : ChainDigest) → IsAppended s old new before digest.0 → Appends s old new before (Ok digest)
+appends_ok s old new before digest is = record { ok = is; too_long = tt; err = tt }

@@ -1,13 +1,18 @@
 -- What a session heard or said, as entries: one, or pieces one behind another.
-use Rattle.std.specs.Prelude.{◌≡◌, ℕ, List, [], ◌++◌, map, Option, None, Some}
+use Rattle.std.specs.Prelude.{◌≡◌, ◌<◌, ◌+◌, ℕ, List, [], ◌++◌, length, map, Option, None, Some, Result, IfErr, IfOk, OnErr}
 use Rattle.std.specs.List.{concat}
 use Rattle.oftp_contents.specs.Fields.{fields_octets}
+use Rattle.oftp_contents.specs.declared.fields.TheConstants.{FIXED}
 use Rattle.oftp_contents.specs.declared.pieces.PieceMark.{PieceMark}
 use Rattle.oftp_contents.specs.declared.pieces.SessionOctets.{SessionOctets}
 use Rattle.oftp_record.specs.Entries.{Noted}
 use Rattle.oftp_record.specs.Records.{last_digest, record_octets}
+use Rattle.oftp_record.specs.declared.chain.ChainDigest.{ChainDigest}
+use Rattle.oftp_record.specs.declared.header.TheConstants.{LONGEST_CONTENT}
 use Rattle.oftp_record.specs.declared.kind.RecordKind.{RecordKind}
 use Rattle.oftp_record.specs.declared.kind.RecordKind.TheVariants as kinds
+use Rattle.oftp_record.specs.declared.writing.AppendFault.{AppendFault}
+use Rattle.oftp_record.specs.declared.writing.AppendFault.TheVariants.{TooLong}
 
 -- what a session heard or said
 pub record Talked : Type 0 where
@@ -45,3 +50,9 @@ pub record IsAppended (t : Talked) (old new before digest : List ℕ) : Type 0 w
   pub joined : concat pieces ≡ t.octets
   pub written : new ≡ old ++ record_octets before (map (piece_noted t) pieces)
   pub digest_is : digest ≡ last_digest before (map (piece_noted t) pieces)
+
+-- An attempt to append them: they were appended, with the digest that is returned. Or they are too long, or there was no memory, and nothing changed.
+pub record Appends (t : Talked) (old new before : List ℕ) (appended : Result ChainDigest AppendFault) : Type 0 where
+  pub ok : IfOk appended (λ digest. IsAppended t old new before digest.0)
+  pub too_long : IfErr appended (λ fault. fault ≡ TooLong → LONGEST_CONTENT < FIXED + length t.octets)
+  pub err : OnErr appended (new ≡ old)

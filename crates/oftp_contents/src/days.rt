@@ -1,7 +1,7 @@
 //! The days of a record: in times, in the names of its files, and when a new one begins.
 
-ghost use Rattle.std.specs.Prelude.{◌≡◌, ◌*◌, ◌/◌};
-ghost use Rattle.oftp_contents.specs.Days.{day_at, day_in, number_of_day, turn_of};
+ghost use Rattle.std.specs.Prelude.{◌≡◌, ◌↔◌, Some, IsTrue, option_map};
+ghost use Rattle.oftp_contents.specs.Days.{day_at, day_in, days_passed, last_before, last_day, number_of_day, turn_of};
 
 /// How the name of a day's file ends. The day is before it, as YYYYMMDD.
 pub const RECORD_ENDING: &str = ".record";
@@ -64,11 +64,21 @@ pub fn day_in(name: &[u8]) -> Option<u64>
     }
 }
 
-/// How many whole days have passed since 1970 began at a moment, in microseconds since then.
-pub fn days_passed(moment: u64) -> u64
-    ensures { result ≡ moment / (24 * 60 * 60 * 1000 * 1000) }
+// How many whole days have passed since 1970 began at a moment, in microseconds since then.
+fn days_passed(moment: u64) -> u64
+    ensures { result ≡ days_passed moment }
 {
     moment / DAY
+}
+
+/// Whether a moment is on the day of another one, if that is known. Both are in microseconds since 1970 began.
+pub fn is_same_day(known: Option<u64>, moment: u64) -> bool
+    ensures { IsTrue result ↔ option_map days_passed known ≡ Some (days_passed moment) }
+{
+    match known {
+        Some(known) => days_passed(known) == days_passed(moment),
+        None => false,
+    }
 }
 
 /// What becomes of the file of the last day of a record once it is the day `now`. A day that isn't later, since the clock was set back, goes on there.
@@ -80,4 +90,28 @@ pub fn turn_of(last: u64, now: u64) -> DayTurn
     } else {
         DayTurn::GoesOn
     }
+}
+
+/// The day whose file a record goes on with, where it has files of `days`: today, or a later one of them, since the clock was set back.
+pub fn last_day(today: u64, days: &[u64]) -> u64
+    ensures { result ≡ last_day today days.now }
+{
+    let mut last = today;
+    for day in days {
+        last = last.max(*day);
+    }
+    last
+}
+
+/// The last of `days` that is before this one, in whichever order they are; `None` if none is.
+pub fn last_before(day: u64, days: &[u64]) -> Option<u64>
+    ensures { result ≡ last_before day days.now }
+{
+    let mut last = None;
+    for other in days {
+        if *other < day {
+            last = Some(last.map_or(*other, |last: u64| last.max(*other)));
+        }
+    }
+    last
 }

@@ -37,7 +37,10 @@ mod playing;
 mod standing;
 
 pub use codes::{EndCause, Marked, RecordSide};
-pub use days::{DayTurn, RECORD_ENDING, day_at, day_in, days_passed, number_of_day, turn_of};
+pub use days::{
+    DayTurn, RECORD_ENDING, day_at, day_in, is_same_day, last_before, last_day, number_of_day,
+    turn_of,
+};
 pub use fields::ContentFields;
 pub use marks::left_to_mark;
 pub use passwords::{PasswordFinder, SsidOrder};

@@ -1,7 +1,7 @@
 //! Recording what a session heard or said.
 
 ghost use Rattle.std.specs.Prelude.{◌≡◌, ◌+◌, ◌*◌, ◌/◌, ◌%◌, ◌<◌, ◌≤◌, ◌++◌, ℕ, List, IfErr, IfOk, OnErr, OnOk, length};
-ghost use Rattle.oftp_contents.specs.Pieces.{IsAppended, mark_of, piece_noted, talked};
+ghost use Rattle.oftp_contents.specs.Pieces.{Appends, mark_of, piece_noted, talked};
 ghost use Rattle.oftp_contents.specs.declared.fields.TheConstants.{FIXED};
 ghost use Rattle.oftp_contents.specs.declared.pieces.TheConstants.{LEAST_PIECE};
 ghost use Rattle.oftp_digest.specs.declared.digests.TheConstants.{BLOCK_LEN};
@@ -95,9 +95,7 @@ impl SessionOctets<'_> {
         record: &mut Vec<u8>,
         before: &ChainDigest,
     ) -> Result<ChainDigest, AppendFault>
-        ensures appended { IfOk result (λ digest. IsAppended (talked self.now) record.old.items record.new.items before.now.0 digest.0) }
-        ensures too_long { IfErr result (λ fault. fault ≡ TooLong → LONGEST_CONTENT < FIXED + length self.now.octets.now) }
-        ensures err { OnErr result (record.new.items ≡ record.old.items) }
+        ensures { Appends (talked self.now) record.old.items record.new.items before.now.0 result }
     {
         let fields = ContentFields {
             number: self.number,
@@ -123,9 +121,7 @@ impl SessionOctets<'_> {
         record: &mut Vec<u8>,
         before: &ChainDigest,
     ) -> Result<ChainDigest, AppendFault>
-        ensures appended { IfOk result (λ digest. IsAppended (talked self.now) record.old.items record.new.items before.now.0 digest.0) }
-        ensures too_long { IfErr result (λ fault. fault ≡ TooLong → LONGEST_CONTENT < FIXED + length self.now.octets.now) }
-        ensures err { OnErr result (record.new.items ≡ record.old.items) }
+        ensures { Appends (talked self.now) record.old.items record.new.items before.now.0 result }
     {
         if self.octets.is_empty() {
             return Ok(*before);
@@ -143,9 +139,7 @@ impl SessionOctets<'_> {
     ) -> Result<ChainDigest, AppendFault>
         requires eighths { length self.now.octets.now ≡ 8 * size }
         requires blocks { (HEADER_LEN + FIXED + size) % BLOCK_LEN ≡ 0 }
-        ensures appended { IfOk result (λ digest. IsAppended (talked self.now) record.old.items record.new.items before.now.0 digest.0) }
-        ensures too_long { IfErr result (λ fault. fault ≡ TooLong → LONGEST_CONTENT < FIXED + length self.now.octets.now) }
-        ensures err { OnErr result (record.new.items ≡ record.old.items) }
+        ensures { Appends (talked self.now) record.old.items record.new.items before.now.0 result }
     {
         let entries = PieceEntries {
             kind: self.kind,
@@ -172,9 +166,7 @@ impl SessionOctets<'_> {
         record: &mut Vec<u8>,
         before: &ChainDigest,
     ) -> Result<ChainDigest, AppendFault>
-        ensures appended { IfOk result (λ digest. IsAppended (talked self.now) record.old.items record.new.items before.now.0 digest.0) }
-        ensures too_long { IfErr result (λ fault. fault ≡ TooLong → LONGEST_CONTENT < FIXED + length self.now.octets.now) }
-        ensures err { OnErr result (record.new.items ≡ record.old.items) }
+        ensures { Appends (talked self.now) record.old.items record.new.items before.now.0 result }
     {
         let size = piece_size(self.octets.len());
         if size == 0 {

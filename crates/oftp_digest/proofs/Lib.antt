@@ -1,3 +1,4 @@
 mod BitLemmas
 pub mod LaneLemmas
 mod BlockLemmas
+mod JoinLemmas

@@ -4,7 +4,9 @@
 
 mod constants;
 mod digests;
+mod messages;
 mod rounds;
 mod words;
 
 pub use digests::{BLOCK_LEN, LANES, digests_of_eight};
+pub use messages::add_digests;

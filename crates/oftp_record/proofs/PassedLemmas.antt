@@ -1,12 +1,13 @@
 -- Entries that were passed over, one after another.
 use Rattle.std.proofs.Common.{◌≡◌, ℕ, ◌+◌, ◌-◌, ◌*◌, List, [], ◌∷◌, ◌++◌, length, take, drop, sym, ap, ◌∙◌, subst, append_assoc, refl, arith}
 use Rattle.std.proofs.lemmas.List.{drop-drop, drop_at, take_at}
-use Rattle.oftp_record.specs.Entries.{Noted, entry_body, entry_digest, entry_header}
-use Rattle.oftp_record.specs.Inside.{AreAt, IsAt}
-use Rattle.oftp_record.specs.Next.{ArePassed, BeginsEntry}
+use Rattle.oftp_record.specs.Entries.{Noted, entry_body, entry_digest, entry_header, noted}
+use Rattle.oftp_record.specs.Inside.{AreAt, IsStoredAt}
+use Rattle.oftp_record.specs.Next.{ArePassed, BeginsEntry, passed_noted}
 use Rattle.oftp_record.specs.declared.chain.TheConstants.{DIGEST_LEN}
 use Rattle.oftp_record.specs.declared.eight_read.PassedEntry.{PassedEntry}
 use Rattle.oftp_record.specs.declared.header.TheConstants.{HEADER_LEN}
+use Rattle.oftp_record.specs.declared.next.StoredEntry.{StoredEntry}
 
 -- the content of an entry stands between its header and its digest
 pub content_between : (before octets : List ℕ) (e : Noted) (count : ℕ) (digest : List ℕ) → BeginsEntry before octets e count digest
@@ -36,3 +37,8 @@ at_passed stride octets place before (p ∷ more) at =
     let behind : drop p.length (drop (place * stride) octets) ≡ drop ((place + 1) * stride) octets =
     drop-drop p.length (place * stride) octets ∙ ap (λ n. drop n octets) next in
     (at.0.next, subst (λ (z : List ℕ). ArePassed p.digest.0 z more) (sym behind) (at_passed stride octets (place + 1) p.digest.0 more at.1))
+
+-- an entry that was passed over is told as it stands there
+pub stored_next : (before octets : List ℕ) (p : PassedEntry) (stored : StoredEntry) → IsStoredAt octets p stored
+    → BeginsEntry before octets (passed_noted octets p) p.length p.digest.0 → BeginsEntry before octets (noted stored.entry) stored.length stored.digest.0
+stored_next before octets p stored is begins = rw (is.entry, is.length_is, is.digest_is) begins

@@ -22,6 +22,7 @@
 //! elsewhere, as that of another day's first entry, finds it out.
 #![tactic(auto)]
 
+mod ahead;
 mod chain;
 mod eight;
 mod eight_read;
@@ -32,6 +33,7 @@ pub mod laws;
 mod next;
 mod writing;
 
+pub use ahead::ReadAhead;
 pub use chain::{ChainDigest, DIGEST_LEN};
 pub use eight::{PieceEntries, append_eight};
 pub use eight_read::{PassedEntry, next_eight};

@@ -1,6 +1,6 @@
 //! The files of a record, one for each day.
 
-use oftp_contents::{RECORD_ENDING, day_at, day_in};
+use oftp_contents::{RECORD_ENDING, day_in};
 use oftp_files::file_fault;
 use oftp_outcomes::Fault;
 use std::fs;
@@ -18,27 +18,32 @@ pub(crate) fn day_text(rt: &HostRuntime, day: u64) -> Result<String, Fault> {
     Ok(format!(in rt.alloc(); "{day:08}")?)
 }
 
-/// The day of a time that begins with its date, as text. It is an error if the time doesn't.
-pub(crate) fn day_of(rt: &HostRuntime, time: &str) -> Result<String, Fault> {
-    match day_at(time.as_bytes()) {
-        Some(day) => day_text(rt, day),
-        None => Err(Fault::File),
-    }
-}
-
-/// The days of which a folder has files, the earliest first.
+/// The days of which a folder has files, in the order in which it names them.
 ///
 /// # Errors
 /// [`Fault::File`] if there is no such folder, or it can't be read; [`Fault::MEMORY`].
-pub fn record_files(rt: &HostRuntime, folder: &str) -> Result<Vec<String>, Fault> {
+pub(crate) fn record_days(rt: &HostRuntime, folder: &str) -> Result<Vec<u64>, Fault> {
     let mut days = Vec::new(rt.alloc());
     let entries = fs::read_dir(rt, folder).map_err(|error| file_fault(&error))?;
     for entry in entries {
         let entry = entry.map_err(|error| file_fault(&error))?;
         if let Some(day) = day_in(entry.file_name().as_bytes()) {
-            days.push(day_text(rt, day)?)?;
+            days.push(day)?;
         }
     }
-    days.sort_unstable();
     Ok(days)
+}
+
+/// The days of which a folder has files as texts, the earliest first.
+///
+/// # Errors
+/// Those of `record_days`.
+pub fn record_files(rt: &HostRuntime, folder: &str) -> Result<Vec<String>, Fault> {
+    let mut days = record_days(rt, folder)?;
+    days.sort_unstable();
+    let mut texts = Vec::new(rt.alloc());
+    for day in days.as_slice() {
+        texts.push(day_text(rt, *day)?)?;
+    }
+    Ok(texts)
 }

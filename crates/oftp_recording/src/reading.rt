@@ -3,7 +3,7 @@
 use oftp_files::{file_fault, open_at_once};
 use oftp_outcomes::Fault;
 use oftp_record::{
-    ChainDigest, DIGEST_LEN, HEADER_LEN, NextEntry, PassedEntry, RecordKind, next_eight, next_entry,
+    ChainDigest, DIGEST_LEN, HEADER_LEN, NextEntry, PassedEntry, ReadAhead, RecordKind,
 };
 use std::fs::File;
 use std::io::Read;
@@ -35,8 +35,8 @@ pub struct RecordReader {
     octets: Vec<u8>,
     // Where the next entry begins in these octets.
     at: usize,
-    // Entries there that were read already, the next one last.
-    ahead: Vec<PassedEntry>,
+    // Entries there that were read already.
+    ahead: ReadAhead,
     // Where the last one's content is.
     begin: usize,
     end: usize,
@@ -80,7 +80,7 @@ impl RecordReader {
             file,
             octets: Vec::new(rt.alloc()),
             at: 0,
-            ahead: Vec::new(rt.alloc()),
+            ahead: ReadAhead::new(),
             begin: 0,
             end: 0,
             kind: RecordKind::Mark,
@@ -97,7 +97,7 @@ impl RecordReader {
     /// [`Fault::File`] if the file can't be read; [`Fault::MEMORY`].
     pub fn advance(&mut self) -> Result<Found, Fault> {
         for _ in 0..u64::MAX {
-            match self.look()? {
+            match self.look() {
                 Look::Whole => return Ok(Found::Entry),
                 Look::Changed => return Ok(Found::Changed),
                 Look::Lacks(count) => {
@@ -112,17 +112,10 @@ impl RecordReader {
     }
 
     /// Looks at what was read behind the last entry, and passes over the next one if it is whole.
-    fn look(&mut self) -> Result<Look, Fault> {
-        if self.ahead.is_empty() {
-            self.look_ahead()?;
-        }
-        if let Some(passed) = self.ahead.pop() {
-            self.pass(&passed);
-            return Ok(Look::Whole);
-        }
+    fn look(&mut self) -> Look {
         let rest = self.octets.get(self.at..).unwrap_or(&[]);
         let length = rest.len();
-        match next_entry(rest, &ChainDigest(self.digest)) {
+        match self.ahead.next(rest, &ChainDigest(self.digest)) {
             NextEntry::Whole(stored) => {
                 let passed = PassedEntry {
                     kind: stored.entry.kind,
@@ -131,25 +124,14 @@ impl RecordReader {
                     digest: stored.digest,
                 };
                 self.pass(&passed);
-                Ok(Look::Whole)
+                Look::Whole
             }
             NextEntry::End | NextEntry::Cut(None) => {
-                Ok(Look::Lacks(HEADER_LEN.saturating_sub(length).max(1)))
+                Look::Lacks(HEADER_LEN.saturating_sub(length).max(1))
             }
-            NextEntry::Cut(Some(count)) => Ok(Look::Lacks(count)),
-            NextEntry::Changed(_) => Ok(Look::Changed),
+            NextEntry::Cut(Some(count)) => Look::Lacks(count),
+            NextEntry::Changed(_) => Look::Changed,
         }
-    }
-
-    /// Reads eight entries at once, if they are there.
-    fn look_ahead(&mut self) -> Result<(), Fault> {
-        let rest = self.octets.get(self.at..).unwrap_or(&[]);
-        if let Some(eight) = next_eight(rest, &ChainDigest(self.digest)) {
-            for passed in eight.iter().rev() {
-                self.ahead.push(*passed)?;
-            }
-        }
-        Ok(())
     }
 
     /// Passes over an entry.

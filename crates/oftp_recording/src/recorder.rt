@@ -1,6 +1,6 @@
 //! Writing a record.
 
-use crate::days::{day_of, day_text, file_of, record_files};
+use crate::days::{day_text, file_of, record_days};
 use crate::hiding::hidden;
 use crate::moments::moment_text;
 use crate::passwords::{SessionPasswords, instead};
@@ -8,8 +8,8 @@ use crate::reading::{Found, RecordReader, refuse_others};
 use crate::registers::{Digest, register_digest};
 use jiff::Timestamp;
 use oftp_contents::{
-    ContentFields, DayTurn, EndCause, Marked, RecordSide, SessionOctets, day_at, days_passed,
-    number_of_day, turn_of,
+    ContentFields, DayTurn, EndCause, Marked, RecordSide, SessionOctets, day_at, is_same_day,
+    last_before, last_day, turn_of,
 };
 use oftp_files::{file_fault, is_free, make_private, without_passwords};
 use oftp_outcomes::Fault;
@@ -54,9 +54,10 @@ pub struct Recorder<'a> {
 /// The file of a day.
 #[derive(Drop)]
 struct Day {
-    name: String,
-    // How many days after the first one of 1970 its last entry was written, as far as that is known.
-    number: Option<u64>,
+    // The number with its digits, YYYYMMDD.
+    day: u64,
+    // A moment on the day on which its last entry was written, if that is known.
+    known: Option<u64>,
     file: File,
     // That of its last entry.
     digest: Digest,
@@ -72,9 +73,14 @@ impl<'a> Recorder<'a> {
         folder: &'a str,
         syncing: Syncing,
     ) -> Result<Recorder<'a>, Fault> {
-        let name = last_day(rt, folder)?;
-        let before = last_before(rt, folder, name.as_str())?;
-        let day = Day::open(rt, folder, name, before)?;
+        let today = today(rt)?;
+        let days = record_days(rt, folder)?;
+        let last = last_day(today, days.as_slice());
+        let before = match last_before(last, days.as_slice()) {
+            Some(day) => Some(last_digest(rt, folder, day)?),
+            None => None,
+        };
+        let day = Day::open(rt, folder, last, before)?;
         Ok(Recorder {
             rt,
             folder,
@@ -252,28 +258,25 @@ impl<'a> Recorder<'a> {
 
     /// The file of the day of a moment. A day that is earlier than the last one goes on as that.
     fn day_at(&self, day: Day, moment: u64) -> Result<Day, Fault> {
-        let number = Some(days_passed(moment));
-        if day.number == number {
+        if is_same_day(day.known, moment) {
             return Ok(day);
         }
         let mut day = self.turned(day, moment)?;
-        day.number = number;
+        day.known = Some(moment);
         Ok(day)
     }
 
     /// The file of a day, or of the day of a moment if that is a later one.
     fn turned(&self, day: Day, moment: u64) -> Result<Day, Fault> {
         let time = moment_text(self.rt.alloc(), moment)?;
-        let last = number_of_day(day.name.as_bytes());
-        let (Some(last), Some(now)) = (last, day_at(time.as_bytes())) else {
+        let Some(now) = day_at(time.as_bytes()) else {
             return Err(Fault::File);
         };
-        match turn_of(last, now) {
+        match turn_of(day.day, now) {
             DayTurn::GoesOn => Ok(day),
             DayTurn::Turns => {
                 day.sync()?;
-                let name = day_text(self.rt, now)?;
-                Day::open(self.rt, self.folder, name, Some(day.digest))
+                Day::open(self.rt, self.folder, now, Some(day.digest))
             }
         }
     }
@@ -297,36 +300,31 @@ impl Day {
     fn open(
         rt: &HostRuntime,
         folder: &str,
-        name: String,
+        day: u64,
         before: Option<Digest>,
     ) -> Result<Day, Fault> {
-        let path = file_of(rt, folder, name.as_str())?;
+        let path = path_of(rt, folder, day)?;
         match make_private(rt, path.as_str()) {
             Ok(file) => {
                 sync_folder(rt, folder);
-                Day::new(rt, name, file, before)
+                Day::new(rt, day, file, before)
             }
             Err(error) if error.kind() == ErrorKind::AlreadyExists => {
-                Day::go_on(rt, path.as_str(), name)
+                Day::go_on(rt, path.as_str(), day)
             }
             Err(error) => Err(file_fault(&error)),
         }
     }
 
     /// Begins a file.
-    fn new(
-        rt: &HostRuntime,
-        name: String,
-        file: File,
-        before: Option<Digest>,
-    ) -> Result<Day, Fault> {
+    fn new(rt: &HostRuntime, day: u64, file: File, before: Option<Digest>) -> Result<Day, Fault> {
         if !is_free(&file) {
             return Err(Fault::File);
         }
         let digest = ChainDigest::first().0;
         let day = Day {
-            name,
-            number: None,
+            day,
+            known: None,
             file,
             digest,
         };
@@ -340,7 +338,7 @@ impl Day {
     }
 
     /// Goes on with a file behind its last whole entry.
-    fn go_on(rt: &HostRuntime, path: &str, name: String) -> Result<Day, Fault> {
+    fn go_on(rt: &HostRuntime, path: &str, day: u64) -> Result<Day, Fault> {
         let file = OpenOptions::new()
             .read(true)
             .append(true)
@@ -355,8 +353,8 @@ impl Day {
             .map_err(|error| file_fault(&error))?;
         let digest = ended.digest;
         Ok(Day {
-            name,
-            number: None,
+            day,
+            known: None,
             file,
             digest,
         })
@@ -439,33 +437,17 @@ fn ended_at(rt: &HostRuntime, path: &str) -> Result<Ended, Fault> {
     })
 }
 
-/// The day that it is, or a later one of which there is a file already, since the clock was set back.
-fn last_day(rt: &HostRuntime, folder: &str) -> Result<String, Fault> {
-    let mut last = day_of(rt, now_text(rt)?.as_str())?;
-    for name in record_files(rt, folder)? {
-        if name.as_str() > last.as_str() {
-            last = name;
-        }
-    }
-    Ok(last)
+/// The path of the file of a day in a folder.
+fn path_of(rt: &HostRuntime, folder: &str, day: u64) -> Result<String, Fault> {
+    let day = day_text(rt, day)?;
+    file_of(rt, folder, day.as_str())
 }
 
-/// The digest of the last entry of the last day before this one, if there is one.
-fn last_before(rt: &HostRuntime, folder: &str, day: &str) -> Result<Option<Digest>, Fault> {
-    let mut last = None;
-    for name in record_files(rt, folder)? {
-        if name.as_str() < day {
-            last = Some(name);
-        }
-    }
-    match last {
-        Some(name) => {
-            let path = file_of(rt, folder, name.as_str())?;
-            let ended = ended_at(rt, path.as_str())?;
-            Ok(Some(ended.digest))
-        }
-        None => Ok(None),
-    }
+/// The digest of the last entry of a day.
+fn last_digest(rt: &HostRuntime, folder: &str, day: u64) -> Result<Digest, Fault> {
+    let path = path_of(rt, folder, day)?;
+    let ended = ended_at(rt, path.as_str())?;
+    Ok(ended.digest)
 }
 
 /// Syncs a folder, so that the names in it are durable. File systems that don't sync folders are accepted.
@@ -519,11 +501,15 @@ fn salt_drawn(rt: &HostRuntime) -> Result<u64, Fault> {
     }
 }
 
-/// The time as text, which begins with the date.
-fn now_text(rt: &HostRuntime) -> Result<String, Fault> {
-    match Timestamp::now(rt) {
-        Ok(now) => Ok(format!(in rt.alloc(); "{now}")?),
-        Err(_) => Err(Fault::File),
+/// The day that it is.
+fn today(rt: &HostRuntime) -> Result<u64, Fault> {
+    let Ok(now) = Timestamp::now(rt) else {
+        return Err(Fault::File);
+    };
+    let time = format!(in rt.alloc(); "{now}")?;
+    match day_at(time.as_bytes()) {
+        Some(day) => Ok(day),
+        None => Err(Fault::File),
     }
 }
 

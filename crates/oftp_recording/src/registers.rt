@@ -1,6 +1,6 @@
 //! The digest of a register.
 
-use oftp_digest::{BLOCK_LEN, LANES, digests_of_eight};
+use oftp_digest::{LANES, add_digests};
 use oftp_engine::{Port, RunFault};
 use oftp_listing::{ReportKind, report};
 use oftp_outcomes::Fault;
@@ -82,7 +82,7 @@ fn add_rows<O: Office>(
     count: u64,
 ) -> Result<(), Fault> {
     let mut from = 0;
-    let mut joined = Vec::new(alloc);
+    let mut room = Vec::new(alloc);
     for _ in 0..count {
         if from >= count {
             break;
@@ -94,40 +94,19 @@ fn add_rows<O: Office>(
             return Err(FAILED);
         }
         for group in rows.as_slice().chunks(LANES) {
-            add_digests(hasher, &mut joined, group)?;
+            add_group(hasher, &mut room, group);
         }
         from = from.saturating_add(rows.len() as u64);
     }
     Ok(())
 }
 
-/// Adds the digest of each row. Those of eight rows of one length, of whole blocks, are computed side by side, for which they are joined.
-fn add_digests(hasher: &mut Sha256, joined: &mut Vec<u8>, rows: &[Row]) -> Result<(), Fault> {
-    let size = common_length(rows);
-    if rows.len() == LANES && size % BLOCK_LEN == 0 {
-        joined.clear();
-        for row in rows {
-            joined.extend_from_slice(row.octets())?;
-        }
-        if size > 0 && joined.len() / LANES >= size {
-            for digest in digests_of_eight(joined, size, size) {
-                hasher.update(digest.as_slice());
-            }
-            return Ok(());
-        }
+/// Adds the digest of each of at most eight rows.
+fn add_group(hasher: &mut Sha256, room: &mut Vec<u8>, rows: &[Row]) {
+    let mut messages: [&[u8]; LANES] = [&[]; LANES];
+    for (message, row) in messages.iter_mut().zip(rows) {
+        *message = row.octets();
     }
-    for row in rows {
-        hasher.update(Sha256::digest(row.octets()).as_slice());
-    }
-    Ok(())
-}
-
-/// The length of each of these rows, or 0 if they are of several.
-fn common_length(rows: &[Row]) -> usize {
-    let size = rows.first().map_or(0, Row::len);
-    if rows.iter().all(|row| row.len() == size) {
-        size
-    } else {
-        0
-    }
+    let count = rows.len().min(LANES);
+    add_digests(hasher, room, messages.get(..count).unwrap_or(&[]));
 }

@@ -1,8 +1,11 @@
 //! Eight messages and eight entries at once. The digests were worked out by Python's hashlib.
 
 use oftp_contents::{ContentFields, SessionOctets};
-use oftp_digest::digests_of_eight;
-use oftp_record::{ChainDigest, HEADER_LEN, NextEntry, RecordKind, next_eight, next_entry};
+use oftp_digest::{LANES, add_digests, digests_of_eight};
+use oftp_record::{
+    ChainDigest, HEADER_LEN, NextEntry, ReadAhead, RecordKind, next_eight, next_entry,
+};
+use sha2::{Digest, Sha256};
 use std::alloc::Global;
 use std::process::Abort;
 use std::test::Fail;
@@ -40,6 +43,43 @@ fn eight_messages(rt: HostRuntime) {
     assert!(rt; first_words(&digests_of_eight(&octets, 128, 128)) == pairs);
     assert!(rt; first_words(&digests_of_eight(&octets, 100, 64)) == apart);
     assert!(rt; first_words(&digests_of_eight(&octets, 0, 64)) == alike);
+}
+
+/// How many octets are digested in messages of how many, and the first word of the digest of their digests. Octet k is k modulo 251.
+const ADDED: [(usize, usize, u32); 7] = [
+    // none, and three
+    (0, 64, 0xE3B0_C442),
+    (192, 64, 0xE164_E5F0),
+    // eight of one block, and of two
+    (512, 64, 0xD163_AB53),
+    (1024, 128, 0xB1B2_B225),
+    // eight of no whole block, and of which the last is shorter
+    (480, 60, 0x9CFC_F04F),
+    (500, 64, 0xD909_EFD6),
+    // a long one
+    (512, 512, 0xA8AA_7B61),
+];
+
+// This is also run with each allocation refused in turn, and then tells the same.
+#[test]
+fn messages_added(rt: HostRuntime) {
+    let mut octets = [0; 1024];
+    for (at, octet) in octets.iter_mut().enumerate() {
+        *octet = (at % 251) as u8;
+    }
+    let mut room = Vec::new(rt.alloc());
+    for (count, size, word) in ADDED {
+        let mut messages: [&[u8]; LANES] = [&[]; LANES];
+        let mut there = 0usize;
+        for (message, part) in messages.iter_mut().zip(octets[..count].chunks(size)) {
+            *message = part;
+            there = there.saturating_add(1);
+        }
+        let mut hasher = Sha256::new();
+        add_digests(&mut hasher, &mut room, &messages[..there]);
+        let [a, b, c, d, ..] = hasher.finalize();
+        assert_eq!(rt; u32::from_be_bytes([a, b, c, d]), word);
+    }
 }
 
 /// What a session heard in its whole, of which octet k is 7 k modulo 251: how many octets, how many entries they make, how many octets these have, and
@@ -93,8 +133,9 @@ fn read_back(
         digest = ChainDigest::first();
         count = 0;
     }
+    let mut ahead = ReadAhead::new();
     for _ in 0..100 {
-        let NextEntry::Whole(stored) = next_entry(rest, &digest) else {
+        let NextEntry::Whole(stored) = ahead.next(rest, &digest) else {
             break;
         };
         let Some(fields) = ContentFields::of(stored.entry.content) else {
@@ -106,6 +147,7 @@ fn read_back(
         digest = stored.digest;
         count = count.saturating_add(1);
     }
+    assert!(rt; matches!(ahead.next(rest, &digest), NextEntry::End));
     assert!(rt; matches!(next_entry(rest, &digest), NextEntry::End));
     Ok((octets, count, digest))
 }
