@@ -10,4 +10,5 @@ pub mod Pacing
 pub mod Resent
 pub mod Soughts
 pub mod Standings
+pub mod Talking
 pub mod Verbs
