@@ -3,6 +3,7 @@ pub mod Due
 pub mod Ended
 pub mod Fetched
 pub mod Judged
+pub mod Lines
 pub mod Listed
 pub mod LookedUp
 pub mod Operated
