@@ -10,7 +10,7 @@ use oftp_files::{EventFile, Noted, book_of, open_events};
 use oftp_life::Life;
 use oftp_outcomes::{Fault, Outcome};
 use oftp_partners::Book;
-use oftp_requests::{Again, Backend, look_up, operate, resend};
+use oftp_requests::{Again, Backend, changes_register, look_up, operate, resend};
 use oftp_store::StoreFault;
 use oftp_watching::{News, Occasion};
 use std::alloc::Global;
@@ -296,8 +296,10 @@ impl Own<'_, '_> {
 impl Backend for Own<'_, '_> {
     fn ask(&mut self, request: &Request<'_>, out: &mut impl Write) -> Result<Ending, Fault> {
         self.tell();
+        if changes_register(request) {
+            return self.change(request);
+        }
         match *request {
-            Request::Operate { .. } | Request::Resend { .. } => self.change(request),
             Request::Backup { to } => {
                 if let Some(recording) = &self.recording {
                     recording.back_up(to, &mut self.life)?;

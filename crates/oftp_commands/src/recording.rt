@@ -4,12 +4,12 @@ use crate::backing::Telling;
 use oftp_channel::{Ending, Request};
 use oftp_command_line::VERSION;
 use oftp_contents::EndCause;
-use oftp_engine::RunFault;
 use oftp_files::own_user;
+use oftp_listing::OfficeState;
 use oftp_outcomes::Fault;
 use oftp_recording::{Recorder, Syncing};
 use oftp_register::Office;
-use oftp_requests::{line_of_ending, recorded_request};
+use oftp_requests::{ending_with, line_of_ending, office_after, recorded_request};
 use std::alloc::Global;
 
 /// The record of a command.
@@ -48,7 +48,7 @@ impl<'t> Recording<'t> {
             .called(self.calls, Some(own_user()), octets.as_slice())
     }
 
-    /// Records the answer to the last call, unless the office failed: then nothing more is recorded, as after a kill.
+    /// Records the answer to the last call, unless the office failed.
     ///
     /// # Errors
     /// Those of [`Recording::ask`].
@@ -57,14 +57,15 @@ impl<'t> Recording<'t> {
         alloc: Global,
         answer: &Result<Ending, Fault>,
     ) -> Result<(), Fault> {
-        let ending = match answer {
-            Ok(ending) => *ending,
-            Err(Fault::Run(RunFault::Office)) => return Ok(()),
-            Err(fault) => Ending::Failed(fault.in_memory()),
-        };
-        let line = line_of_ending(alloc, ending)?;
-        self.recorder
-            .ended(self.calls, EndCause::Itself, line.as_str())
+        let ending = ending_with(*answer);
+        match office_after(&ending) {
+            OfficeState::Failed => Ok(()),
+            OfficeState::Working => {
+                let line = line_of_ending(alloc, ending)?;
+                self.recorder
+                    .ended(self.calls, EndCause::Itself, line.as_str())
+            }
+        }
     }
 
     /// Records that the database is about to be copied to a file.

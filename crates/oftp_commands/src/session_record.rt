@@ -2,12 +2,14 @@
 
 use oftp_command_line::VERSION;
 use oftp_contents::RecordSide;
-use oftp_engine::{End, RunFault};
+use oftp_engine::End;
 use oftp_life::Stage;
+use oftp_listing::OfficeState;
 use oftp_outcomes::Fault;
 use oftp_partners::Partner;
 use oftp_recording::{Recorder, Syncing, cause_of, line_of_end};
 use oftp_register::Office;
+use oftp_requests::{office_behind, office_under};
 use std::alloc::Global;
 
 /// The number of the session: its program has no other one.
@@ -75,14 +77,14 @@ impl<'r> SessionRecord<'r> {
         }
     }
 
-    /// Records what a session that stands like this has said, unless its office failed: then nothing more is recorded, as after a kill.
+    /// Records what a session that stands like this has said, unless its office failed.
     ///
     /// # Errors
     /// Those of [`Recorder::said`].
     pub(crate) fn said(&self, octets: &[u8], stage: Stage) -> Result<(), Fault> {
-        match (&self.recorder, stage) {
-            (_, Stage::Lost | Stage::Failed(RunFault::Office)) | (None, _) => Ok(()),
-            (Some(recorder), _) => recorder.said(NUMBER, octets),
+        match (&self.recorder, office_behind(stage)) {
+            (Some(recorder), OfficeState::Working) => recorder.said(NUMBER, octets),
+            _ => Ok(()),
         }
     }
 
@@ -91,12 +93,9 @@ impl<'r> SessionRecord<'r> {
     /// # Errors
     /// That with which it ended; those of [`Recorder::ended`].
     pub(crate) fn ended(&self, alloc: Global, ended: Result<End, Fault>) -> Result<End, Fault> {
-        match (&self.recorder, &ended) {
-            (None, _) | (_, Err(Fault::Run(RunFault::Office))) => {}
-            (Some(recorder), _) => {
-                let line = line_of_end(alloc, &ended)?;
-                recorder.ended(NUMBER, cause_of(&ended), line.as_str())?;
-            }
+        if let (Some(recorder), OfficeState::Working) = (&self.recorder, office_under(&ended)) {
+            let line = line_of_end(alloc, &ended)?;
+            recorder.ended(NUMBER, cause_of(&ended), line.as_str())?;
         }
         ended
     }
@@ -110,9 +109,8 @@ impl<'r> SessionRecord<'r> {
         ended: Result<End, Fault>,
         office: &mut O,
     ) -> Result<End, Fault> {
-        match (&self.recorder, &ended) {
-            (None, _) | (_, Err(Fault::Run(RunFault::Office))) => {}
-            (Some(recorder), _) => recorder.mark(office)?,
+        if let (Some(recorder), OfficeState::Working) = (&self.recorder, office_under(&ended)) {
+            recorder.mark(office)?;
         }
         ended
     }

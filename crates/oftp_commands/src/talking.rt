@@ -2,11 +2,15 @@
 
 use crate::session_record::SessionRecord;
 use oftp_contents::RecordSide;
-use oftp_engine::{Admission, End, Port, Role, RunFault};
-use oftp_life::{Guest, Life, LifeSession, Opening, Stage};
-use oftp_outcomes::Fault;
+use oftp_engine::{End, Port, Role, RunFault};
+use oftp_life::{Guest, Life, LifeSession, Opening};
+use oftp_outcomes::{Fault, plain};
 use oftp_partners::Book;
 use oftp_register::Office;
+use oftp_requests::{
+    Came, Need, Saying, Welcome, came_of, end_after, end_of_input, need_of, trouble_greeting,
+    trouble_hearing, welcome_after,
+};
 use std::alloc::Global;
 use std::io::{Read, Write};
 
@@ -70,25 +74,22 @@ impl<R: Read, W: Write> Wire<'_, R, W> {
         let mut heard = Vec::new(self.alloc);
         for _ in 0..u64::MAX {
             let said = opening.take_out(self.alloc);
-            let is_sent = self.send(said.as_slice());
-            match opening.admission() {
-                // What an opening says is kept in memory.
-                Err(_) => return Err(Fault::MEMORY),
-                Ok(Admission::LetIn) => return self.admitted(book, opening, heard.as_slice()),
-                Ok(_) if !is_sent => return Err(Fault::Run(RunFault::Write)),
-                Ok(Admission::SentAway(ending)) => return Ok(Met::Nobody(End::from(ending))),
-                Ok(Admission::Undecided) => {}
+            let saying = self.send(said.as_slice());
+            match welcome_after(opening.admission(), saying) {
+                Welcome::Undecided => {}
+                Welcome::LetIn => return self.admitted(book, opening, heard.as_slice()),
+                Welcome::SentAway(end) => return Ok(Met::Nobody(end)),
+                Welcome::Failed(trouble) => return Err(trouble.fault()),
             }
             let mut piece = [0; PIECE];
-            let count = match self.reader.read(&mut piece) {
-                None => return Err(Fault::Run(RunFault::Read)),
-                Some(0) => return Ok(Met::Nobody(End::Input)),
-                Some(count) => count,
-            };
-            heard.extend_from_slice(&piece[..count])?;
-            // How it stands is told once what it said was sent.
-            if let Err(RunFault::Memory) = opening.hear(&piece[..count]) {
-                return Err(Fault::MEMORY);
+            let came = came_of(self.reader.read(&mut piece));
+            if let Some(ended) = end_of_input(came) {
+                return plain(&ended).map(Met::Nobody);
+            }
+            let octets = piece.get(..came.count()).unwrap_or(&[]);
+            heard.extend_from_slice(octets)?;
+            if let Some(trouble) = trouble_greeting(opening.hear(octets)) {
+                return Err(trouble.fault());
             }
         }
         Err(Fault::Run(RunFault::Read))
@@ -142,15 +143,8 @@ impl<R: Read, W: Write> Wire<'_, R, W> {
     fn say<O: Office>(&mut self, session: &mut LifeSession<'_, O>) -> Result<Option<End>, Fault> {
         let said = session.take_out(self.alloc);
         self.record.said(said.as_slice(), session.stage())?;
-        let is_sent = self.send(said.as_slice());
-        match session.stage() {
-            // The octets that a session says are kept in memory, so they fail only where memory runs out.
-            Stage::Failed(fault) => Err(Fault::Run(fault).in_memory()),
-            Stage::Lost => Err(Fault::Run(RunFault::Office)),
-            _ if !is_sent => Err(Fault::Run(RunFault::Write)),
-            Stage::Ended(ending) => Ok(Some(End::from(ending))),
-            Stage::Waits | Stage::Sends => Ok(None),
-        }
+        let saying = self.send(said.as_slice());
+        end_after(session.stage(), saying)
     }
 
     /// Lets the session hear the next octets of its partner, or go on if it sends a file. Returns its end if there are no more octets.
@@ -159,27 +153,28 @@ impl<R: Read, W: Write> Wire<'_, R, W> {
     /// The reader or the record returned an error; or there is no memory for the octets.
     fn hear<O: Office>(&mut self, session: &mut LifeSession<'_, O>) -> Result<Option<End>, Fault> {
         let mut piece = [0; PIECE];
-        let count = match session.stage() {
-            // It goes on without more octets.
-            Stage::Sends => 0,
-            _ => match self.reader.read(&mut piece) {
-                None => return Err(Fault::Run(RunFault::Read)),
-                Some(0) => return Ok(Some(End::Input)),
-                Some(count) => count,
-            },
+        let came = match need_of(Some(session.stage())) {
+            Need::Octets => came_of(self.reader.read(&mut piece)),
+            Need::Nothing => Came::Nothing,
         };
-        self.record.heard(&piece[..count])?;
-        let heard = session.hear(&piece[..count]);
-        match (heard, session.stage()) {
-            // There was no room for the octets.
-            (Err(fault), Stage::Waits | Stage::Sends) => Err(Fault::Run(fault)),
-            // How it stands is told once what it said was sent.
-            _ => Ok(None),
+        if let Some(ended) = end_of_input(came) {
+            return plain(&ended).map(Some);
+        }
+        let octets = piece.get(..came.count()).unwrap_or(&[]);
+        self.record.heard(octets)?;
+        let heard = session.hear(octets);
+        match trouble_hearing(heard, session.stage()) {
+            Some(trouble) => Err(trouble.fault()),
+            None => Ok(None),
         }
     }
 
-    /// Sends octets, if there are any. Returns whether they went.
-    fn send(&mut self, octets: &[u8]) -> bool {
-        octets.is_empty() || self.writer.send(octets)
+    /// Sends octets, if there are any.
+    fn send(&mut self, octets: &[u8]) -> Saying {
+        if octets.is_empty() || self.writer.send(octets) {
+            Saying::Sent
+        } else {
+            Saying::Unsent
+        }
     }
 }

@@ -15,6 +15,7 @@ use Rattle.oftp_life.specs.declared.stage.Stage.{Stage}
 use Rattle.oftp_life.specs.declared.stage.Stage.TheVariants as stage
 use Rattle.oftp_listing.specs.declared.state.OfficeState.{OfficeState}
 use Rattle.oftp_listing.specs.declared.state.OfficeState.TheVariants as state
+use Rattle.oftp_outcomes.specs.Printed.{fault_in_memory}
 use Rattle.oftp_outcomes.specs.declared.outcome.Fault.{Fault}
 use Rattle.oftp_outcomes.specs.declared.outcome.Fault.TheVariants as fault
 use Rattle.oftp_outcomes.specs.declared.service.Trouble.{Trouble}
@@ -146,6 +147,11 @@ closing_of None term = closing.Nothing
 closing_of (Some (OfJob it)) term = closing.Tell it
 closing_of (Some (OfService it)) term.OfJob = closing.Fail it
 closing_of (Some (OfService it)) term.OfService = closing.Nothing
+
+-- how a request ended that had this end, or this error; what it says is kept in memory
+abbrev pub ending_with : Result Ending Fault → Ending
+ending_with (Ok it) = it
+ending_with (Err it) = answered.Failed (fault_in_memory it)
 
 -- whether the office failed under a request that ended like this
 abbrev pub office_after : Ending → OfficeState

@@ -3,6 +3,7 @@ pub mod Due
 pub mod Ended
 pub mod Fetched
 pub mod Judged
+pub mod Lines
 pub mod Listed
 pub mod LookedUp
 pub mod Operated
@@ -10,4 +11,5 @@ pub mod Pacing
 pub mod Resent
 pub mod Soughts
 pub mod Standings
+pub mod Talking
 pub mod Verbs

@@ -1,7 +1,7 @@
 //! What a request asks of the schedule, how a session ended, and what becomes of an error.
 
 ghost use Rattle.std.specs.Prelude.{◌≡◌};
-ghost use Rattle.oftp_requests.specs.Judged.{asking_of, changes_register, closing_of, declined, ended_for, farewell_of, goes_on, office_after, office_within, told_reason, result_at, result_of, signal_of, last_status, told_status, trouble_of, trouble_within};
+ghost use Rattle.oftp_requests.specs.Judged.{asking_of, changes_register, closing_of, declined, ended_for, ending_with, farewell_of, goes_on, office_after, office_within, told_reason, result_at, result_of, signal_of, last_status, told_status, trouble_of, trouble_within};
 
 use oftp_channel::{Ending as Answered, Haste, Request};
 use oftp_engine::{End, RunFault};
@@ -79,7 +79,7 @@ pub fn trouble_of(fault: RunFault) -> Trouble
 }
 
 /// An error within a session. What it says is kept in memory, so a failed write there is out of memory.
-fn trouble_within(fault: RunFault) -> Trouble
+pub(crate) fn trouble_within(fault: RunFault) -> Trouble
     ensures { result ≡ trouble_within fault }
 {
     match fault {
@@ -188,8 +188,18 @@ pub fn closing_of(trouble: Option<Trouble>, term: Term) -> Closing
     }
 }
 
-/// Whether the office failed under a request that ended like this.
-pub(crate) fn office_after(ending: &Answered) -> OfficeState
+/// How a request ended that had this end, or this error. What it says is kept in memory, so a failed write there is out of memory.
+pub fn ending_with(told: Result<Answered, Fault>) -> Answered
+    ensures { result ≡ ending_with told }
+{
+    match told {
+        Ok(ending) => ending,
+        Err(fault) => Answered::Failed(fault.in_memory()),
+    }
+}
+
+/// Whether the office failed under a request that ended like this. Then nothing more is recorded, as after a kill.
+pub fn office_after(ending: &Answered) -> OfficeState
     ensures { result ≡ office_after ending.now }
 {
     match ending {

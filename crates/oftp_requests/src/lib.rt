@@ -20,6 +20,7 @@ mod resending;
 mod settled;
 mod sought;
 mod standings;
+mod talking;
 
 pub use answers::{answer_of, answer_of_call, bare_answer, copy_let};
 pub use asked::{Asked, Order, Wanted, partner_of, recorded_request, request_octets};
@@ -31,8 +32,9 @@ pub use ended::{GONE, number_in, outcome_in, refusal_in, stopped_in};
 pub use entries::{FileEntry, FileList};
 pub use fetched::entry_to_fetch;
 pub use judging::{
-    Closing, changes_register, closing_of, declined, ended_for, farewell_of, goes_on, last_status,
-    office_within, result_at, result_of, told_reason, told_status, trouble_of,
+    Closing, changes_register, closing_of, declined, ended_for, ending_with, farewell_of, goes_on,
+    last_status, office_after, office_within, result_at, result_of, told_reason, told_status,
+    trouble_of,
 };
 pub use lines::{line_of_answer, line_of_ending};
 pub use made::{Made, stopping};
@@ -41,3 +43,7 @@ pub use pacing::Pace;
 pub use resending::{Again, resend};
 pub use sought::{Sought, sought_by};
 pub use standings::{Counting, Whose, counted_as, files_in, standing_in, standing_out};
+pub use talking::{
+    Came, Need, Saying, Welcome, came_of, end_after, end_of_input, need_of, office_behind,
+    office_under, trouble_greeting, trouble_hearing, welcome_after, welcome_of,
+};

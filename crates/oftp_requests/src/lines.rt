@@ -1,5 +1,8 @@
 //! The lines of answers.
 
+ghost use Rattle.std.specs.Prelude.{◌≡◌, IfOk, string_bytes};
+ghost use Rattle.oftp_requests.specs.Lines.{line_of_ending};
+
 use oftp_channel::{AnswerPart, Ending, read_part};
 use oftp_engine::Port;
 use oftp_outcomes::Fault;
@@ -29,7 +32,9 @@ pub fn line_of_answer(alloc: Global, answer: &[u8]) -> Result<String, Fault> {
 ///
 /// # Errors
 /// [`Fault::MEMORY`].
-pub fn line_of_ending(alloc: Global, ending: Ending) -> Result<String, Fault> {
+pub fn line_of_ending(alloc: Global, ending: Ending) -> Result<String, Fault>
+    ensures { IfOk result (λ line. string_bytes line ≡ line_of_ending ending) }
+{
     match ending {
         Ending::Outcome(outcome) => Ok(format!(in alloc; "{outcome}")?),
         Ending::Failed(fault) => Ok(format!(in alloc; "{fault}")?),

@@ -2,7 +2,7 @@
 
 use crate::answers::answer_of;
 use crate::asked::Order;
-use crate::judging::office_after;
+use crate::judging::{ending_with, office_after};
 use oftp_channel::Ending;
 use oftp_listing::{ListFault, OfficeState, Query, Reply, stopping_reply};
 use oftp_outcomes::{Fault, Outcome, Trouble};
@@ -39,12 +39,9 @@ impl Made {
         Made::of(alloc, &[], Err(fault))
     }
 
-    /// The answer to a command with this content and this end, or this error. What was written to memory fails only where memory runs out.
+    /// The answer to a command with this content and this end, or this error.
     pub(crate) fn of(alloc: Global, content: &[u8], ending: Result<Ending, Fault>) -> Made {
-        let ending = match ending {
-            Ok(ending) => ending,
-            Err(fault) => Ending::Failed(fault.in_memory()),
-        };
+        let ending = ending_with(ending);
         let office = office_after(&ending);
         Made {
             octets: answer_of(alloc, content, ending).unwrap_or(Vec::new(alloc)),

@@ -1,12 +1,11 @@
 //! What the sockets have is read, what is to go out is sent, and both are told to the schedule.
 
-use crate::peer::{Came, MOST_REQUEST_OCTETS, Peer, Reading, Task};
+use crate::peer::{MOST_REQUEST_OCTETS, Peer, Reading, Task};
 use crate::service::{Shell, peer_in};
-use oftp_engine::{Admission, End};
 use oftp_listing::{Site, read_query};
 use oftp_outcomes::{Fault, Trouble};
 use oftp_partners::Book;
-use oftp_requests::{Asked, sought_by};
+use oftp_requests::{Asked, Came, Welcome, sought_by, welcome_of};
 use oftp_schedule::connection::{Request, Signal};
 use oftp_sockets::socket_fault;
 use std::alloc::Global;
@@ -116,9 +115,9 @@ impl Peer<'_> {
         let Task::Caller(Some(opening)) = &mut self.task else {
             return None;
         };
-        match opening.hear(piece.as_slice()) {
-            Ok(Admission::Undecided) => None,
-            Ok(Admission::LetIn) => {
+        match welcome_of(opening.hear(piece.as_slice())) {
+            Welcome::Undecided => None,
+            Welcome::LetIn => {
                 self.code = match opening.code() {
                     Some(code) => code_of(alloc, code.octets()),
                     None => None,
@@ -126,16 +125,15 @@ impl Peer<'_> {
                 self.reading = Reading::Nothing;
                 Some(Signal::LetIn)
             }
-            Ok(Admission::SentAway(ending)) => {
+            Welcome::SentAway(end) => {
                 let last = opening.take_out(alloc);
-                self.note(Ok(End::from(ending)));
+                self.note(Ok(end));
                 let _ = self.say(last);
                 let _ = self.send();
                 Some(Signal::Rejected)
             }
-            // What an opening says is kept in memory.
-            Err(fault) => {
-                self.note(Err(Trouble::OfService(Fault::Run(fault).in_memory())));
+            Welcome::Failed(trouble) => {
+                self.note(Err(trouble));
                 Some(Signal::Lost)
             }
         }

@@ -10,6 +10,7 @@ use crate::watch::Source;
 use oftp_channel::READY;
 use oftp_life::Opening;
 use oftp_outcomes::{Fault, Trouble};
+use oftp_requests::{Welcome, welcome_of};
 use oftp_schedule::accepting::{Attempt, arrival_of};
 use oftp_schedule::connection::{Arrival, Door, Event, Signal};
 use oftp_sockets::{is_short, passes};
@@ -123,7 +124,7 @@ impl<'a> Shell<'a> {
     fn caller(&self, id: u64, stream: Stream) -> Peer<'a> {
         let alloc = self.rt.alloc();
         let mut opening = Opening::new(alloc, self.station.book);
-        let has_failed = opening.admission().is_err();
+        let welcome = welcome_of(opening.admission());
         let greeting = opening.take_out(alloc);
         let task = Task::Caller(Some(opening));
         let mut peer = Peer::new(alloc, id, task, stream, Reading::Opening);
@@ -134,8 +135,10 @@ impl<'a> Shell<'a> {
         if self.config.recorder.is_some() {
             peer.recorded = Recorded::Later(Vec::new(alloc));
         }
-        if has_failed || peer.say(greeting).is_err() {
-            peer.note(Err(Trouble::OfService(Fault::MEMORY)));
+        if let Welcome::Failed(trouble) = welcome {
+            peer.note(Err(trouble));
+        } else if let Err(fault) = peer.say(greeting) {
+            peer.note(Err(Trouble::OfService(fault)));
         }
         peer
     }

@@ -10,7 +10,7 @@ use oftp_life::Opening;
 use oftp_listing::{LONGEST_HEAD, ListFault, Query};
 use oftp_outcomes::{Fault, Trouble};
 use oftp_partners::Book;
-use oftp_requests::{Asked, Sought, trouble_of};
+use oftp_requests::{Asked, Came, Sought, came_of, end_of_input};
 use oftp_schedule::connection::Signal;
 use std::alloc::Global;
 use std::io::ErrorKind;
@@ -71,19 +71,6 @@ pub(crate) struct Readiness {
     pub(crate) is_writable: bool,
     /// Nothing can be sent to it any more.
     pub(crate) is_gone: bool,
-}
-
-/// What reading a socket gave.
-#[derive(Clone, Copy)]
-pub(crate) enum Came {
-    /// So many octets.
-    Octets(usize),
-    /// Nothing yet.
-    Nothing,
-    /// The end.
-    End,
-    /// An error.
-    Lost,
 }
 
 /// A connection.
@@ -226,24 +213,31 @@ impl<'a> Peer<'a> {
         match (came, self.reading) {
             (Came::Octets(_), Reading::Copy | Reading::Rest) => {}
             (Came::Octets(count), _) => return self.keep(room.get(..count).unwrap_or(&[])),
-            (Came::End, Reading::Opening | Reading::Session) => self.note(Ok(End::Input)),
-            (Came::Lost, Reading::Session) => self.note(Err(trouble_of(RunFault::Read))),
+            // How an opening ends that is lost is told by the schedule.
+            (Came::Lost, Reading::Opening) => {}
+            (_, Reading::Opening | Reading::Session) => self.note_input(came),
             _ => {}
         }
         came
     }
 
+    /// Notes how its session ends of whose partner this came, if it does.
+    fn note_input(&mut self, came: Came) {
+        if let Some(ended) = end_of_input(came) {
+            self.note(ended);
+        }
+    }
+
     /// Reads a piece.
     fn read(&mut self, piece: &mut [u8]) -> Came {
         match self.stream.read(piece) {
-            Ok(0) => Came::End,
-            Ok(count) => Came::Octets(count),
+            Ok(count) => came_of(Some(count)),
             Err(error) if error.kind() == ErrorKind::WouldBlock => {
                 self.readiness.is_readable = false;
                 Came::Nothing
             }
             Err(error) if error.kind() == ErrorKind::Interrupted => Came::Nothing,
-            Err(_) => Came::Lost,
+            Err(_) => came_of(None),
         }
     }
 

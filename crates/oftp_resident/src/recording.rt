@@ -5,14 +5,13 @@ use crate::peer::{Peer, Task};
 use crate::service::{Shell, peer_in};
 use crate::telling::Progress;
 use oftp_contents::{EndCause, RecordSide, left_to_mark};
-use oftp_engine::RunFault;
 use oftp_life::{Life, Stage};
 use oftp_listing::OfficeState;
 use oftp_outcomes::{Fault, plain};
 use oftp_partners::Partner;
 use oftp_recording::{Recorder, cause_of, line_of_end};
 use oftp_register::Office;
-use oftp_requests::{Made, line_of_answer};
+use oftp_requests::{Made, line_of_answer, office_behind, office_under};
 use oftp_sockets::Keeper;
 use std::alloc::{AllocError, Global};
 use std::mem;
@@ -40,17 +39,16 @@ pub(crate) fn record_heard(
     }
 }
 
-/// Records what a session that stands like this has said, unless its office failed: then nothing more is recorded, as after a kill.
+/// Records what a session that stands like this has said, unless its office failed.
 pub(crate) fn record_said(
     recorder: Option<&Recorder<'_>>,
     id: u64,
     octets: &[u8],
     stage: Stage,
 ) -> Result<(), Fault> {
-    match (recorder, stage) {
-        (_, Stage::Lost | Stage::Failed(RunFault::Office)) => Ok(()),
-        (Some(recorder), _) => recorder.said(id, octets),
-        (None, _) => Ok(()),
+    match (recorder, office_behind(stage)) {
+        (Some(recorder), OfficeState::Working) => recorder.said(id, octets),
+        _ => Ok(()),
     }
 }
 
@@ -132,7 +130,7 @@ impl Shell<'_> {
         }
     }
 
-    /// Records the answer to an operator's call, unless the office failed: then nothing more is recorded, as after a kill.
+    /// Records the answer to an operator's call, unless the office failed.
     pub(crate) fn record_answer(&self, id: u64, made: &Made) -> Result<(), Fault> {
         match (self.config.recorder, made.office) {
             (Some(recorder), OfficeState::Working) => {
@@ -184,7 +182,7 @@ impl Peer<'_> {
         }
     }
 
-    /// Records how its session ended, if that was recorded.
+    /// Records how its session ended, if that was recorded and the office didn't fail.
     pub(crate) fn record_end(
         &mut self,
         alloc: Global,
@@ -198,10 +196,12 @@ impl Peer<'_> {
         }
         self.recorded = Recorded::Nothing;
         let ended = plain(&ended);
-        if let Err(Fault::Run(RunFault::Office)) = &ended {
-            return Ok(());
+        match office_under(&ended) {
+            OfficeState::Failed => Ok(()),
+            OfficeState::Working => {
+                let line = line_of_end(alloc, &ended)?;
+                recorder.ended(self.id, cause_of(&ended), line.as_str())
+            }
         }
-        let line = line_of_end(alloc, &ended)?;
-        recorder.ended(self.id, cause_of(&ended), line.as_str())
     }
 }

@@ -1,7 +1,7 @@
 //! The sessions of a service, step by step, and their ends.
 
 use crate::home::Home;
-use crate::peer::{Came, Peer, Reading, Task};
+use crate::peer::{Peer, Reading, Task};
 use crate::recording::{record_heard, record_said};
 use crate::service::{Shell, peer_in};
 use oftp_engine::{End, Role};
@@ -10,7 +10,8 @@ use oftp_outcomes::{Fault, Trouble, Way, plain};
 use oftp_recording::Recorder;
 use oftp_register::Office;
 use oftp_requests::{
-    Pace, answer_of_call, ended_for, farewell_of, goes_on, result_of, told_reason, trouble_of,
+    Came, Need, Pace, answer_of_call, ended_for, farewell_of, goes_on, need_of, result_of,
+    told_reason, trouble_hearing,
 };
 use oftp_schedule::connection::{self as schedule, Input, Reason, Signal, Step};
 use oftp_sockets::{Keeper, Reporter};
@@ -54,8 +55,8 @@ impl<'a> Shell<'a> {
             count = u32::try_from(piece.len()).unwrap_or(u32::MAX);
             record_heard(recorder, id, piece.as_slice())?;
             let heard = session.hear(piece.as_slice());
-            if let (Err(fault), Stage::Waits | Stage::Sends) = (heard, session.stage()) {
-                peer.note(Err(trouble_of(fault)));
+            if let Some(trouble) = trouble_hearing(heard, session.stage()) {
+                peer.note(Err(trouble));
             }
         }
         self.step(id, home, count)
@@ -78,7 +79,7 @@ impl<'a> Shell<'a> {
         // What fails there is noted.
         let _ = peer.send();
         if goes_on(stage) && peer.ended.is_none() {
-            let step = peer.step(&stage, heard);
+            let step = peer.step(stage, heard);
             return self.tell_now(id, Signal::Waits(step));
         }
         peer.note(result_of(stage));
@@ -183,14 +184,17 @@ impl<'a> Peer<'a> {
         Ok(stage)
     }
 
-    /// What a step leaves that heard so many octets. A session that sends a file goes on without more octets.
-    fn step(&mut self, stage: &Option<Stage>, heard: u32) -> Step {
-        let input = if let Some(Stage::Sends) = stage {
-            self.reading = Reading::Sending;
-            Input::Here
-        } else {
-            self.reading = Reading::Session;
-            self.input()
+    /// What a step leaves that heard so many octets.
+    fn step(&mut self, stage: Option<Stage>, heard: u32) -> Step {
+        let input = match need_of(stage) {
+            Need::Nothing => {
+                self.reading = Reading::Sending;
+                Input::Here
+            }
+            Need::Octets => {
+                self.reading = Reading::Session;
+                self.input()
+            }
         };
         Step {
             heard,
