@@ -16,7 +16,9 @@ use Rattle.oftp_outcomes.specs.Service.{trouble_fault}
 use Rattle.oftp_outcomes.specs.declared.outcome.Fault.{Fault}
 use Rattle.oftp_outcomes.specs.declared.outcome.Fault.TheVariants as fault
 use Rattle.oftp_outcomes.specs.declared.service.Trouble.{Trouble}
-use Rattle.oftp_requests.specs.Judged.{trouble_of, trouble_within}
+use Rattle.oftp_requests.specs.Judged.{farewell_of, result_of, trouble_of, trouble_within}
+use Rattle.oftp_requests.specs.declared.talking.Sequel.{Sequel}
+use Rattle.oftp_requests.specs.declared.talking.Sequel.TheVariants as sequel
 use Rattle.oftp_requests.specs.declared.talking.Came.{Came}
 use Rattle.oftp_requests.specs.declared.talking.Came.TheVariants as came
 use Rattle.oftp_requests.specs.declared.talking.Need.{Need}
@@ -48,6 +50,13 @@ end_after stage.Lost _ = Err (fault.Run run.Office)
 end_after it saying.Unsent = Err (fault.Run run.Write)
 end_after (stage.Ended it) saying.Sent = Ok (Some (ended_as it))
 end_after it saying.Sent = Ok None
+
+-- What follows a step after which a session stands like this, if this end of it is noted already. What is noted first is how it ended.
+abbrev pub sequel_of : Option Stage → Option (Result End Trouble) → Sequel
+sequel_of (Some stage.Waits) None = sequel.GoesOn
+sequel_of (Some stage.Sends) None = sequel.GoesOn
+sequel_of it None = sequel.Ends (result_of it) (farewell_of it)
+sequel_of it (Some ended) = sequel.Ends ended (farewell_of it)
 
 -- what a session hears next that stands like this: one that sends a file goes on without octets
 abbrev pub need_of : Option Stage → Need

@@ -44,6 +44,6 @@ pub use resending::{Again, resend};
 pub use sought::{Sought, sought_by};
 pub use standings::{Counting, Whose, counted_as, files_in, standing_in, standing_out};
 pub use talking::{
-    Came, Need, Saying, Welcome, came_of, end_after, end_of_input, need_of, office_behind,
-    office_under, trouble_greeting, trouble_hearing, welcome_after, welcome_of,
+    Came, Need, Saying, Sequel, Welcome, came_of, end_after, end_of_input, need_of, office_behind,
+    office_under, sequel_of, trouble_greeting, trouble_hearing, welcome_after, welcome_of,
 };

@@ -1,13 +1,14 @@
 //! What becomes of a session, or of a caller, by what was said, read and heard.
 
 ghost use Rattle.std.specs.Prelude.{◌≡◌};
-ghost use Rattle.oftp_requests.specs.Talking.{came_of, came_count, end_after, end_of_input, need_of, office_behind, office_under, trouble_greeting, trouble_hearing, welcome_after, welcome_of};
+ghost use Rattle.oftp_requests.specs.Talking.{came_of, came_count, end_after, end_of_input, need_of, office_behind, office_under, sequel_of, trouble_greeting, trouble_hearing, welcome_after, welcome_of};
 
-use crate::judging::{result_of, trouble_of, trouble_within};
+use crate::judging::{farewell_of, goes_on, result_of, trouble_of, trouble_within};
 use oftp_engine::{Admission, End, RunFault};
 use oftp_life::Stage;
 use oftp_listing::OfficeState;
 use oftp_outcomes::{Fault, Trouble, plain};
+use oftp_schedule::connection as schedule;
 use oftp_session::Ending;
 
 /// Whether what was said went out.
@@ -39,6 +40,15 @@ pub enum Came {
     End,
     /// An error.
     Lost,
+}
+
+/// What follows a step of a session.
+#[derive(Clone, Copy)]
+pub enum Sequel {
+    /// It goes on.
+    GoesOn,
+    /// It ended like this, and its last words are still to go out or not.
+    Ends(Result<End, Trouble>, schedule::End),
 }
 
 /// What comes of a caller.
@@ -90,6 +100,17 @@ pub fn end_after(stage: Stage, saying: Saying) -> Result<Option<End>, Fault>
             Ok(end) => Ok(Some(end)),
             Err(fault) => Err(fault),
         },
+    }
+}
+
+/// What follows a step after which a session stands like this, if this end of it is noted already: that is how it ended.
+pub fn sequel_of(stage: Option<Stage>, noted: Option<Result<End, Trouble>>) -> Sequel
+    ensures { result ≡ sequel_of stage noted }
+{
+    match noted {
+        None if goes_on(stage) => Sequel::GoesOn,
+        None => Sequel::Ends(result_of(stage), farewell_of(stage)),
+        Some(ended) => Sequel::Ends(ended, farewell_of(stage)),
     }
 }
 

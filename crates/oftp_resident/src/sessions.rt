@@ -10,8 +10,8 @@ use oftp_outcomes::{Fault, Trouble, Way, plain};
 use oftp_recording::Recorder;
 use oftp_register::Office;
 use oftp_requests::{
-    Came, Need, Pace, answer_of_call, ended_for, farewell_of, goes_on, need_of, result_of,
-    told_reason, trouble_hearing,
+    Came, Need, Pace, Sequel, answer_of_call, ended_for, need_of, sequel_of, told_reason,
+    trouble_hearing,
 };
 use oftp_schedule::connection::{self as schedule, Input, Reason, Signal, Step};
 use oftp_sockets::{Keeper, Reporter};
@@ -78,13 +78,17 @@ impl<'a> Shell<'a> {
         let stage = peer.take_said(alloc, home, recorder)?;
         // What fails there is noted.
         let _ = peer.send();
-        if goes_on(stage) && peer.ended.is_none() {
-            let step = peer.step(stage, heard);
-            return self.tell_now(id, Signal::Waits(step));
+        match sequel_of(stage, peer.ended) {
+            Sequel::GoesOn => {
+                let step = peer.step(stage, heard);
+                self.tell_now(id, Signal::Waits(step))
+            }
+            Sequel::Ends(ended, farewell) => {
+                peer.note(ended);
+                home.end();
+                self.tell_now(id, Signal::Ended(farewell))
+            }
         }
-        peer.note(result_of(stage));
-        home.end();
-        self.tell_now(id, Signal::Ended(farewell_of(stage)))
     }
 
     /// Reports the end of a session that is over for this reason, unless it ended by itself.
