@@ -1,0 +1,2 @@
+-- The definitions that contracts cite: why sessions ended.
+pub mod Ends
