@@ -28,16 +28,21 @@
 mod codes;
 mod days;
 mod fields;
+mod handling;
 pub mod laws;
+mod links;
 mod marks;
 mod pieces;
 mod places;
 mod playing;
+mod registers;
 mod standing;
 
 pub use codes::{EndCause, Marked, RecordSide};
 pub use days::{DayTurn, RECORD_ENDING, day_at, day_in, days_passed, number_of_day, turn_of};
 pub use fields::ContentFields;
+pub use handling::{Listening, Playing, Talking, is_joined};
+pub use links::DayLink;
 pub use marks::left_to_mark;
 pub use pieces::{LEAST_PIECE, PieceMark, SessionOctets};
 pub use places::EntryPlace;
