@@ -12,7 +12,7 @@ in which an octet was changed, is told, and so is a database that isn't the stat
 write its record ends with `fault: 7 file`. What `listen`, `call`, `feed` and commands without a station record gives their tables, too, also after
 kills of commands and of `feed`. No password of a session is in a record, and sessions with wrong ones are played as they were. The register is marked each hour if no session goes on, and before a backup. A part of a record is played from an entry, and up to one.
 An audit against a record tells a database that isn't the last one of it, or never was.
-`explain` shows what isn't to be seen in a changed record by its escape
+`explain` shows what isn't to be seen in a changed record by its escape. It tells of each session, or of the one with a number, which may be 0
 """
 
 import contextlib
@@ -947,6 +947,28 @@ def hostile_record(room):
     expect(done.stdout.decode().splitlines()[0], "session 5: A\\u{1b}[2J\\u{202e}B x\\u{a}y", "the line of the session")
 
 
+def told_of(room, *words):
+    """The status of `explain` over the record, and the sessions that it tells of."""
+    done = subprocess.run([PROGRAM, "explain", "--record", room / "record", *words], capture_output=True, timeout=LONG, check=False)
+    lines = (done.stdout + done.stderr).decode().splitlines()
+    return done.returncode, [line.split(": ")[0] for line in lines if not line.startswith(("command", " "))]
+
+
+def sessions_explained(room):
+    """The first session of a station has the number 0, and is told of alone by it. Without a number each session is told of."""
+    octets = session_of("receiving/one_octet").joined("in")
+    with recording(room, "--jobs", "2") as service:
+        for name in (b"first_name", b"other_name"):
+            converse(service, octets.replace(b"ASN.0001  ", name))
+        service.ends()
+    numbers = [struct.unpack(">Q", content[:8])[0] for kind, content in entries_of(file_of(room)) if kind == SESSION]
+    expect(numbers[0], 0, "the number of the first session")
+    expect(told_of(room), (1, [f"session {number}" for number in numbers]), "each session")
+    for number in numbers:
+        expect(told_of(room, "--session", str(number)), (1, [f"session {number}"]), f"session {number}")
+    expect(told_of(room, "--session", str(max(numbers) + 1)), (1, ["refused"]), "a session that there isn't")
+
+
 def audits(room):
     """An audit against the record: the last register, an earlier one, one that it hasn't, a record that is cut off, and a killed station."""
     (room / "record").mkdir()
@@ -987,7 +1009,7 @@ def killed_behind_the_copy(room):
         expect((done.returncode, done.stdout.decode()), (1, f"register: {line}\n"), f"{database} of a killed station")
 
 
-CASES = [commands, rows, two_stations, book_read_again, killed_at_moments, killed_beside_partners, changed_octet, cut_record, most_at_once, killed_within_pieces, torn_pieces, backup, days, two_in_one_folder, without_syncing, other_database, full_disk, full_disk_of_the_database, commands_alone, killed_commands, listen_and_call, feeds, feeds_refused, passwords, books_with_passwords, killed_feeds, backups_recorded, parts, marks, hostile_record, audits]
+CASES = [commands, rows, two_stations, book_read_again, killed_at_moments, killed_beside_partners, changed_octet, cut_record, most_at_once, killed_within_pieces, torn_pieces, backup, days, two_in_one_folder, without_syncing, other_database, full_disk, full_disk_of_the_database, commands_alone, killed_commands, listen_and_call, feeds, feeds_refused, passwords, books_with_passwords, killed_feeds, backups_recorded, parts, marks, hostile_record, sessions_explained, audits]
 
 
 def tried(case):

@@ -1,12 +1,12 @@
--- An argument that takes numbers, and is required or has a default, always has one of them as its value.
-use Rattle.std.proofs.Common.{◌≡◌, ◌∙◌, ap, ◌==◌, ◌<◌, ℕ, true, false, List, [], ◌∷◌, length, is_some, Option, Some, None, refl, sym, subst, true≢false, inl, inr, arith, unwrap_or}
+-- An argument that takes numbers has one of them as its value, if it has one; if it is required or has a default, it always has one.
+use Rattle.std.proofs.Common.{◌≡◌, ◌∙◌, ap, ◌==◌, ◌<◌, ℕ, Bool, true, false, List, [], ◌∷◌, length, is_some, Option, Some, None, refl, sym, subst, true≢false, inl, inr, arith, unwrap_or}
 use Rattle.std.specs.List.{All, slice_index_or}
 use Rattle.std.specs.Str.{bytes_eq}
-use Rattle.std.specs.Prelude.{option_map, slice_get}
+use Rattle.std.specs.Prelude.{IsSome, option_map, slice_get}
 use Rattle.std.specs.Borrow.{Bor}
 use Rattle.std.proofs.lemmas.List.Elements.{All-get_or}
 use Rattle.std.proofs.lemmas.Slice.Eq.{bytes_eq-Decides}
-use Rattle.clap.specs.Words.{Row, Text, app_of, first_of, found_of, one_of, rows_of, rule_of}
+use Rattle.clap.specs.Words.{Row, Rule, Text, app_of, first_of, found_of, one_of, rows_of, rule_of}
 use Rattle.clap.specs.Facts.{Entry, EntryPasses, HasReading, PassesArg, ValuesPass, args_of, groups_of, parser_of, parser_of_value}
 use Rattle.clap.specs.Built.{IsParsedFrom}
 use Rattle.clap.specs.Matches.{first_value, matched_of, one_text}
@@ -22,7 +22,7 @@ use Rattle.clap.specs.declared.parser.matches.Found.{Found}
 use Rattle.clap.specs.declared.parser.matches.MatchedArg.{MatchedArg}
 use Rattle.clap.proofs.CallerLemmas.{entry_by_id, same_rules_by_id}
 use Rattle.clap.proofs.WalkLemmas.{both, first_value-rows, one_text-rows}
-use Rattle.oftp_command_line.specs.Arguments.{HasValues, IsNumber, always_has, given, is_certain, is_certain_number, is_range}
+use Rattle.oftp_command_line.specs.Arguments.{HasValues, IsNumber, always_has, given, is_certain, is_certain_number, is_number, is_range}
 use Rattle.oftp_command_line.proofs.CertainValues.{Always, always, has_texts, value_at}
 
 -- a parser of the numbers from low to high
@@ -104,13 +104,14 @@ value_read c f id values no_groups named reads has = go (matched_of f id) refl h
 
 -- ---- such an argument at a parse
 
-module _ (low high : ℕ) (c : Command) (m : ArgMatches) (p : IsParsedFrom c m) (id : Text) (h : Always (is_certain_number low high) c id) where
+module _ (low high : ℕ) (is_such : Rule → Bool) (takes : (r : Rule) → is_such r ≡ true → is_number low high r ≡ true)
+    (c : Command) (m : ArgMatches) (p : IsParsedFrom c m) (id : Text) (h : Always is_such c id) where
   -- the caller's argument
   abbrev own : Arg
   own = slice_index_or (args_of c) h.at.place h.some
 
   own_parser : own.value_parser ≡ Some (Unsigned low high)
-  own_parser = range_parser low high own.value_parser (both (is_certain (rule_of own)) (is_range low high own.value_parser) (h.at.such h.some)).1
+  own_parser = range_parser low high own.value_parser (takes (rule_of own) (h.at.such h.some))
 
   -- the argument of the built command with its id takes the same numbers
   built_parser : (j : ℕ) (x : Arg) → j < length (args_of p.built) → slice_index_or (args_of p.built) j x ≡ x → bytes_eq x.id.now id ≡ true
@@ -129,19 +130,27 @@ module _ (low high : ℕ) (c : Command) (m : ArgMatches) (p : IsParsedFrom c m) 
   passing : (t : Text) → PassesArg p.built id t → IsUnsignedIn low high t
   passing t any = subst (λ (w : ValueParser). Accepts any.1.ignore_case w t) (built_parser any.0 any.1 any.2 any.3 any.4.0) any.4.1
 
-  has_value : is_some (first_value (found_of m) id) ≡ true
-  has_value = value_at (is_certain_number low high) (λ r sure. (both (is_certain r) (is_range low high r.parser) sure).0) c m p id h
-
-  number_read : IsNumber low high id (rows_of (found_of m))
-  number_read =
+  number_read : is_some (first_value (found_of m) id) ≡ true → IsNumber low high id (rows_of (found_of m))
+  number_read has =
       let f = found_of m in
       let parsed = p.parsed (p.from.globals ∙ h.globals) in
-      let value = value_read p.built f id parsed.values (p.from.plain h.plain).1 h.named reading has_value in
+      let value = value_read p.built f id parsed.values (p.from.plain h.plain).1 h.named reading has in
       number_is low high id (rows_of f) value.0 (sym (first_value-rows f id) ∙ value.1) (sym (one_text-rows f id) ∙ value.2) (passing value.0 value.3)
 
 has_numbers : (c : Command) (m : ArgMatches) → IsParsedFrom c m → (low high : ℕ) (id : Text) → always_has (is_certain_number low high) (app_of c) id ≡ true
     → IsNumber low high id (rows_of (found_of m))
-has_numbers c m p low high id e = number_read low high c m p id (always (is_certain_number low high) c id e)
+has_numbers c m p low high id e =
+    let parts : (r : Rule) → is_certain_number low high r ≡ true → (is_certain r ≡ true) × (is_number low high r ≡ true) =
+    λ r sure. both (is_certain r) (is_number low high r) sure in
+    let h = always (is_certain_number low high) c id e in
+    number_read low high (is_certain_number low high) (λ r sure. (parts r sure).1) c m p id h
+    (value_at (is_certain_number low high) (λ r sure. (parts r sure).0) c m p id h)
+
+has_optional : (c : Command) (m : ArgMatches) → IsParsedFrom c m → (low high : ℕ) (id : Text) → always_has (is_number low high) (app_of c) id ≡ true
+    → IsSome (first_of id (rows_of (found_of m))) → IsNumber low high id (rows_of (found_of m))
+has_optional c m p low high id e has =
+    number_read low high (is_number low high) (λ r takes. takes) c m p id (always (is_number low high) c id e)
+    (subst (λ (o : Option Text). is_some o ≡ true) (sym (first_value-rows (found_of m) id)) has)
 
 pub has_values : (c : Command) (m : ArgMatches) → IsParsedFrom c m → HasValues (app_of c) (rows_of (found_of m))
-has_values c m p = record { texts = has_texts c m p; numbers = has_numbers c m p }
+has_values c m p = record { texts = has_texts c m p; numbers = has_numbers c m p; optional = has_optional c m p }

@@ -646,13 +646,16 @@ explain_lines : AreRead (
     -- or what the station sent, too
     ∷ asks (codes "explain i o") (said_explain (of_octets (codes "i") (Some (codes "o"))))
     -- or a record, and a session of it
-    ∷ asks (codes "explain --record r") (said_explain (of_record (codes "r") 0))
-    ∷ asks (codes "explain --session=7 --record=r") (said_explain (of_record (codes "r") 7))
+    ∷ asks (codes "explain --record r") (said_explain (of_record (codes "r") None))
+    ∷ asks (codes "explain --session=7 --record=r") (said_explain (of_record (codes "r") (Some 7)))
+    -- the first session has the number 0
+    ∷ asks (codes "explain --record r --session 0") (said_explain (of_record (codes "r") (Some 0)))
     -- either is required, and not both
     ∷ bad (codes "explain")
     ∷ bad (codes "explain i --record r")
     -- only a record has sessions
     ∷ bad (codes "explain i --session 1")
+    ∷ bad (codes "explain i o --session 0")
     -- there is a word too many
     ∷ bad (codes "explain i o w")
     ∷ [])

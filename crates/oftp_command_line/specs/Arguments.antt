@@ -1,5 +1,5 @@
 -- The arguments of commands, as they are declared to the parser, and what a parse of the words gives.
-use Rattle.std.specs.Prelude.{ℕ, Bool, List, [], ◌∷◌, Option, None, Some, IsSome, codes, false, fold, if◌then◌else◌, is_some, not, true, unwrap_or, ◌&&◌, ◌||◌, ◌==◌, ◌≡◌, ◌≤◌, ◌<◌, ◌^◌}
+use Rattle.std.specs.Prelude.{ℕ, Bool, List, [], ◌∷◌, Option, None, Some, IsSome, codes, false, fold, if◌then◌else◌, is_some, not, option_map, true, unwrap_or, ◌&&◌, ◌||◌, ◌==◌, ◌≡◌, ◌≤◌, ◌<◌, ◌^◌}
 use Rattle.std.specs.List.{list_all, list_any}
 use Rattle.std.specs.Str.{bytes_eq}
 use Rattle.std.specs.Str.Parse.{IsNumeral, digits_value, without_leading_plus}
@@ -110,9 +110,9 @@ own_record = optional (codes "record")
 abbrev pub own_record_sync : Rule
 own_record_sync = defaulted (codes "record-sync") (codes "yes")
 
--- the option for the session of a record; 0 is each
+-- the option for the number of the session of a record
 abbrev pub own_session : Rule
-own_session = numbered 0 MOST_SESSION (defaulted (codes "session") (codes "0"))
+own_session = numbered 0 MOST_SESSION (optional (codes "session"))
 
 -- the command with this name and these arguments
 abbrev pub app_with : Text → List Rule → App
@@ -141,6 +141,10 @@ given id rows = unwrap_or (first_of id rows) []
 abbrev pub number : Text → List Row → ℕ
 number id rows = digits_value 10 (without_leading_plus (given id rows))
 
+-- the value, where there is one, as a decimal number, which may begin with a plus
+abbrev pub optional_number : Text → List Row → Option ℕ
+optional_number id rows = option_map (λ text. digits_value 10 (without_leading_plus text)) (first_of id rows)
+
 -- whether an option without a value was given
 abbrev pub has_flag : Text → List Row → Bool
 has_flag id rows = bytes_eq (given id rows) (codes "true")
@@ -150,7 +154,7 @@ abbrev pub named : {X : Type 0} → List (Text × X) → Text → Option X
 named [] text = None
 named ((name, x) ∷ rest) text = if bytes_eq text name then Some x else named rest text
 
--- ---- the arguments that always have a value
+-- ---- the arguments that always have a value, and those that take numbers
 
 -- the argument takes one value
 abbrev pub is_set : Option ArgAction → Bool
@@ -167,9 +171,13 @@ abbrev pub is_range : ℕ → ℕ → Option ValueParser → Bool
 is_range low high (Some (Unsigned least most)) = (least == low) && (most == high)
 is_range low high other = false
 
+-- the argument takes numbers from low to high
+abbrev pub is_number : ℕ → ℕ → Rule → Bool
+is_number low high r = is_range low high r.parser
+
 -- the argument takes one number from low to high, and is required or has a default
 abbrev pub is_certain_number : ℕ → ℕ → Rule → Bool
-is_certain_number low high r = is_certain r && is_range low high r.parser
+is_certain_number low high r = is_certain r && is_number low high r
 
 -- exactly one argument has this id, and it has the property
 abbrev pub has_alone : (Rule → Bool) → Text → List Rule → Bool
@@ -197,8 +205,9 @@ pub record IsNumber (low high : ℕ) (id : Text) (rows : List Row) : Type 0 wher
   pub least : low ≤ number id rows
   pub most : number id rows ≤ high
 
--- each argument that always has a value has one among the rows; if it takes numbers, the value is one in its range
+-- each argument that always has a value has one among the rows; if an argument takes numbers, a value that it has is one in its range
 pub record HasValues (a : App) (rows : List Row) : Type 0 where
   pub texts : (id : Text) → always_has is_certain a id ≡ true → IsSome (first_of id rows)
   pub numbers : (low high : ℕ) (id : Text) → always_has (is_certain_number low high) a id ≡ true
       → IsNumber low high id rows
+  pub optional : (low high : ℕ) (id : Text) → always_has (is_number low high) a id ≡ true → IsSome (first_of id rows) → IsNumber low high id rows

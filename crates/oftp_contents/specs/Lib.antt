@@ -3,6 +3,9 @@ pub mod Fields
 pub mod Passwords
 pub mod Pieces
 pub mod Places
+pub mod Links
+pub mod Registers
+pub mod Handling
 pub mod Days
 pub mod Playing
 pub mod Standings

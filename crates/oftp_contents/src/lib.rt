@@ -28,12 +28,15 @@
 mod codes;
 mod days;
 mod fields;
+mod handling;
 pub mod laws;
+mod links;
 mod marks;
 mod passwords;
 mod pieces;
 mod places;
 mod playing;
+mod registers;
 mod standing;
 
 pub use codes::{EndCause, Marked, RecordSide};
@@ -42,6 +45,8 @@ pub use days::{
     turn_of,
 };
 pub use fields::ContentFields;
+pub use handling::{Listening, Playing, Talking, is_joined};
+pub use links::DayLink;
 pub use marks::left_to_mark;
 pub use passwords::{PasswordFinder, SsidOrder};
 pub use pieces::{LEAST_PIECE, PieceMark, SessionOctets};

@@ -1,7 +1,8 @@
 //! The places of entries in a record.
 
-ghost use Rattle.std.specs.Prelude.{◌↔◌, IsTrue};
+ghost use Rattle.std.specs.Prelude.{◌≡◌, ◌↔◌, IsTrue, Some};
 ghost use Rattle.oftp_contents.specs.Places.{IsUpTo};
+ghost use Rattle.oftp_contents.specs.declared.places.EntryPlace.{EntryPlace};
 
 /// The place of an entry: its day, and its number in the file of that day.
 #[derive(Clone, Copy, Debug, PartialEq, Eq, Drop)]
@@ -18,5 +19,15 @@ impl EntryPlace {
         ensures { IsTrue result ↔ IsUpTo self.now last.now }
     {
         self.day < last.day || self.day == last.day && self.number <= last.number
+    }
+
+    /// Whether it isn't behind the last place, if there is one.
+    pub fn is_within(&self, last: Option<EntryPlace>) -> bool
+        ensures { IsTrue result ↔ ((place : EntryPlace) → last ≡ Some place → IsUpTo self.now place) }
+    {
+        match &last {
+            Some(last) => self.is_up_to(last),
+            None => true,
+        }
     }
 }

@@ -1,7 +1,7 @@
 //! What partners did in the sessions of a record.
 
 use crate::tape::{At, Tape, text_of};
-use oftp_contents::{ContentFields, RecordSide};
+use oftp_contents::{ContentFields, Listening, RecordSide};
 use oftp_engine::{Refusal, RunFault};
 use oftp_files::explained;
 use oftp_notes::seen_line;
@@ -14,22 +14,14 @@ use std::io::Write;
 /// With what a station greets each caller, before there is a session to be recorded: the stream header, and SSRM (RFC 5024, section 5.3.1).
 const GREETING: &[u8; 23] = b"\x10\0\0\x17IODETTE FTP READY \r";
 
-/// Whether a session is being read.
-#[derive(Clone, Copy, PartialEq, Eq)]
-enum Reading {
-    /// The session with this number.
-    Session(u64),
-    /// None.
-    Nothing,
-}
-
 /// What was read of the sessions that are asked for.
 #[derive(Drop)]
 struct Listener {
     alloc: Global,
-    // The number of the one session that is asked for; 0 for each.
-    wanted: u64,
-    reading: Reading,
+    // The number of the sessions that are asked for; `None` for each.
+    wanted: Option<u64>,
+    // The number of the session that is read, if one is.
+    reading: Option<u64>,
     // The line that says which session it is.
     title: String,
     heard: Vec<u8>,
@@ -40,16 +32,16 @@ struct Listener {
     broken: u64,
 }
 
-/// Tells what partners did that RFC 5024 doesn't allow, or that this station doesn't take, in the sessions of the record in a folder: in the one with a
-/// number, or with 0 in each. A record that is cut off or was changed is told of, up to there. Returns the exit status: 1 if there was something to
-/// tell, and that of a refusal if there is no such session.
+/// Tells what partners did that RFC 5024 doesn't allow, or that this station doesn't take, in the sessions of the record in a folder: in those with a
+/// number, or with `None` in each. A record that is cut off or was changed is told of, up to there. Returns the exit status: 1 if there was something
+/// to tell, and that of a refusal if there is no such session.
 ///
 /// # Errors
 /// [`Fault::File`] if the record can't be read; [`Fault::Run`] if `out` returned an error; [`Fault::MEMORY`].
 pub fn explain_record(
     rt: &HostRuntime,
     folder: &str,
-    session: u64,
+    session: Option<u64>,
     out: &mut impl Write,
 ) -> Result<u8, Fault> {
     let mut tape = Tape::open(rt, folder)?;
@@ -73,11 +65,11 @@ pub fn explain_record(
 
 impl Listener {
     /// Nothing was read yet.
-    fn new(alloc: Global, wanted: u64) -> Listener {
+    fn new(alloc: Global, wanted: Option<u64>) -> Listener {
         Listener {
             alloc,
             wanted,
-            reading: Reading::Nothing,
+            reading: None,
             title: String::new(alloc),
             heard: Vec::new(alloc),
             said: Vec::new(alloc),
@@ -97,19 +89,15 @@ impl Listener {
         let Some(fields) = ContentFields::of(content) else {
             return Ok(());
         };
-        match kind {
-            RecordKind::Session => {
+        match Listening::at(kind, fields.number, self.wanted, self.reading) {
+            Listening::Begins => {
                 self.close(out)?;
                 self.begin(&fields)
             }
-            RecordKind::OctetsIn if self.reading == Reading::Session(fields.number) => {
-                self.hear(fields.rest)
-            }
-            RecordKind::OctetsOut if self.reading == Reading::Session(fields.number) => {
-                self.say(fields.rest)
-            }
-            RecordKind::End if self.reading == Reading::Session(fields.number) => self.close(out),
-            _ => Ok(()),
+            Listening::Hears => self.hear(fields.rest),
+            Listening::Says => self.say(fields.rest),
+            Listening::Closes => self.close(out),
+            Listening::Passes => Ok(()),
         }
     }
 
@@ -131,17 +119,14 @@ impl Listener {
         Ok(self.said.extend_from_slice(instead(&shown, octets))?)
     }
 
-    /// Begins a session, if it is asked for.
+    /// Begins a session.
     fn begin(&mut self, fields: &ContentFields<'_>) -> Result<(), Fault> {
-        if self.wanted != 0 && self.wanted != fields.number {
-            return Ok(());
-        }
         let partner = text_of(fields.first);
         let peer = text_of(fields.second);
         let number = fields.number;
         let title = format!(in self.alloc; "session {number}: {partner} {peer}")?;
         self.title = seen_line(self.alloc, title.as_str())?;
-        self.reading = Reading::Session(number);
+        self.reading = Some(number);
         let side = RecordSide::of_code(fields.code);
         if side == Some(RecordSide::Responder) {
             self.said.extend_from_slice(GREETING.as_slice())?;
@@ -156,10 +141,10 @@ impl Listener {
 
     /// Tells of the session that was read, if there is one.
     fn close(&mut self, out: &mut impl Write) -> Result<(), Fault> {
-        if self.reading == Reading::Nothing {
+        if self.reading.is_none() {
             return Ok(());
         }
-        self.reading = Reading::Nothing;
+        self.reading = None;
         let lines = explained(
             self.alloc,
             self.heard.as_slice(),
@@ -177,7 +162,7 @@ impl Listener {
 
     /// The exit status.
     fn status(&self, out: &mut impl Write) -> Result<u8, Fault> {
-        if self.sessions == 0 && self.wanted != 0 {
+        if self.sessions == 0 && self.wanted.is_some() {
             return tell(Outcome::Refused(Refusal::Unknown), out);
         }
         Ok(if self.broken == 0 { DONE } else { FAILED })

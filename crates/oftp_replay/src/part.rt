@@ -33,14 +33,6 @@ impl Part {
         };
         Some(Part { from, to })
     }
-
-    /// Whether an entry isn't behind the last one.
-    pub(crate) fn reaches(&self, place: &EntryPlace) -> bool {
-        match &self.to {
-            Some(last) => place.is_up_to(last),
-            None => true,
-        }
-    }
 }
 
 /// The place that a text names: the digits of the day, a colon, and the number of the entry.

@@ -4,6 +4,7 @@ use crate::part::Part;
 use crate::player::Player;
 use crate::tape::{At, Stop, Tape};
 use oftp_command_line::Replay;
+use oftp_contents::Playing;
 use oftp_engine::Refusal;
 use oftp_life::Life;
 use oftp_outcomes::{DONE, FAILED, Fault, Outcome, tell, write_line};
@@ -73,26 +74,27 @@ impl Player<'_> {
             match self.tape.at() {
                 At::End => return Ok(()),
                 At::Broken(what) => return Err(Stop::Differs(what)),
-                At::Entry(RecordKind::Session) => life = self.session(life, book)?,
-                At::Entry(kind) => self.play_entry(kind, &mut life)?,
+                At::Entry(kind) => life = self.play_entry(kind, life, book)?,
             }
         }
         Ok(())
     }
 
-    /// Plays an entry that is no session's beginning.
+    /// Plays an entry, or the session that begins with it. Returns the life.
     fn play_entry<O: Office + Drop>(
         &mut self,
         kind: RecordKind,
-        life: &mut Life<O>,
-    ) -> Result<(), Stop> {
-        match kind {
-            RecordKind::Opening | RecordKind::Backup | RecordKind::Mark => self.compare(life),
-            RecordKind::Call => self.call(life),
-            RecordKind::End => self.compare_end(),
-            RecordKind::Session | RecordKind::OctetsIn | RecordKind::OctetsOut => {
-                Err(Stop::Differs("it belongs to no session"))
-            }
+        life: Life<O>,
+        book: &Book,
+    ) -> Result<Life<O>, Stop> {
+        let mut life = life;
+        match Playing::at(kind) {
+            Playing::Begins => return self.session(life, book),
+            Playing::Compares => self.compare(&mut life)?,
+            Playing::Calls => self.call(&mut life)?,
+            Playing::Ends => self.compare_end()?,
+            Playing::Strays => return Err(Stop::Differs("it belongs to no session")),
         }
+        Ok(life)
     }
 }

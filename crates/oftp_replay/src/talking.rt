@@ -1,18 +1,20 @@
 //! Playing a session.
 
 use crate::player::Player;
-use crate::tape::{At, Stop};
-use oftp_contents::{ContentFields, Doing, RecordSide, is_settled};
+use crate::tape::Stop;
+use oftp_contents::{ContentFields, Doing, RecordSide, Talking, is_joined, is_settled};
 use oftp_engine::{Admission, End, Role};
 use oftp_files::book_of;
 use oftp_life::{Life, LifeSession, Opening, Stage};
 use oftp_outcomes::Fault;
 use oftp_partners::{Book, Partner};
-use oftp_record::RecordKind;
 use oftp_recording::{Digest, SessionPasswords, instead, line_of_end, register_digest};
 use oftp_register::Office;
 use oftp_requests::goes_on;
 use std::alloc::Global;
+
+/// What is wrong with octets that aren't those of the session.
+const STRAY: &str = "it is no piece of the session";
 
 /// A session that is played.
 #[derive(Drop)]
@@ -77,12 +79,14 @@ impl Player<'_> {
         number: u64,
         partner: Option<&Partner>,
     ) -> Result<Life<O>, Stop> {
-        if self.tape.at() != At::Entry(RecordKind::OctetsIn) {
-            return Ok(life);
+        match self.talking(number) {
+            Some(Talking::Hears) => {}
+            Some(Talking::Strays) => return Err(Stop::Differs(STRAY)),
+            _ => return Ok(life),
         }
         let content = self.tape.copied(self.alloc)?;
         let Some(fields) = ContentFields::of(content.as_slice()) else {
-            return Err(Stop::Differs("it is no piece of a session"));
+            return Err(Stop::Differs(STRAY));
         };
         let mut passwords =
             SessionPasswords::of_partner(self.alloc, RecordSide::Responder, partner)?;
@@ -111,24 +115,24 @@ impl Player<'_> {
             self.hear_on(&mut talk, octets)?;
         }
         for _ in 0..u64::MAX {
-            match self.tape.at() {
-                At::Entry(RecordKind::OctetsIn) => self.hear(&mut talk)?,
-                At::Entry(RecordKind::OctetsOut) => self.compare_said(&mut talk)?,
-                At::Entry(RecordKind::End) => {
-                    if self.compare_talk(&mut talk)? {
-                        break;
-                    }
+            match self.talking(talk.number) {
+                Some(Talking::Hears) => self.hear(&mut talk)?,
+                Some(Talking::Compares) => self.compare_said(&mut talk)?,
+                Some(Talking::OtherEnds) => self.compare_end()?,
+                Some(Talking::Strays) => return Err(Stop::Differs(STRAY)),
+                Some(Talking::Ends) => {
+                    self.keep_line(&mut talk)?;
+                    self.compare_end()?;
+                    break;
                 }
-                At::Entry(RecordKind::Opening) => {
+                Some(Talking::Settles) => {
                     self.settle(&mut talk, &[])?;
                     break;
                 }
-                _ => break,
+                Some(Talking::Leaves) | None => break,
             }
         }
-        if let Some(line) = talk.line()? {
-            self.keep(talk.number, line)?;
-        }
+        self.keep_line(&mut talk)?;
         let Talk { session, .. } = talk;
         let (life, _) = session.end();
         Ok(life)
@@ -138,11 +142,8 @@ impl Player<'_> {
     fn hear<O: Office + Drop>(&mut self, talk: &mut Talk<'_, O>) -> Result<(), Stop> {
         let content = self.tape.copied(self.alloc)?;
         let Some(fields) = ContentFields::of(content.as_slice()) else {
-            return Err(Stop::Differs("it is no piece of a session"));
+            return Err(Stop::Differs(STRAY));
         };
-        if fields.number != talk.number {
-            return Err(Stop::Differs("the session"));
-        }
         let octets = self.joined(fields.rest)?;
         let shown = talk.passwords.show_heard(octets.as_slice())?;
         self.hear_on(talk, instead(&shown, octets.as_slice()))
@@ -154,7 +155,7 @@ impl Player<'_> {
         let mut octets = Vec::from_slice(self.alloc, first).map_err(Fault::from)?;
         self.tape.advance()?;
         for _ in 0..u64::MAX {
-            if piece.is_none() || self.tape.piece() != piece {
+            if !is_joined(piece, self.tape.piece()) {
                 break;
             }
             let Some(fields) = ContentFields::of(self.tape.content()) else {
@@ -215,11 +216,8 @@ impl Player<'_> {
     fn compare_said<O: Office + Drop>(&mut self, talk: &mut Talk<'_, O>) -> Result<(), Stop> {
         let content = self.tape.copied(self.alloc)?;
         let Some(fields) = ContentFields::of(content.as_slice()) else {
-            return Err(Stop::Differs("it is no piece of a session"));
+            return Err(Stop::Differs(STRAY));
         };
-        if fields.number != talk.number {
-            return Err(Stop::Differs("the session"));
-        }
         if talk.says(fields.rest)? {
             Ok(self.tape.advance()?)
         } else {
@@ -227,18 +225,18 @@ impl Player<'_> {
         }
     }
 
-    /// Compares the end at which the record stands. Returns whether it is that of this session.
-    fn compare_talk<O: Office + Drop>(&mut self, talk: &mut Talk<'_, O>) -> Result<bool, Stop> {
-        let number = match ContentFields::of(self.tape.content()) {
-            Some(fields) => fields.number,
-            None => return Err(Stop::Differs("it is no end")),
-        };
-        let is_own = number == talk.number;
-        if is_own && let Some(line) = talk.line()? {
-            self.keep(number, line)?;
+    /// What the session with a number does at the entry at which the record stands, if it stands at one.
+    fn talking(&self, own: u64) -> Option<Talking> {
+        let kind = self.tape.kind()?;
+        Some(Talking::at(kind, self.tape.number(), own))
+    }
+
+    /// Keeps the line of a session, if it has ended by itself.
+    fn keep_line<O: Office + Drop>(&mut self, talk: &mut Talk<'_, O>) -> Result<(), Stop> {
+        match talk.line()? {
+            Some(line) => self.keep(talk.number, line),
+            None => Ok(()),
         }
-        self.compare_end()?;
-        Ok(is_own)
     }
 }
 

@@ -1,10 +1,10 @@
 //! The entries of a record, one after another, over all its days.
 
 use crate::part::Part;
-use oftp_contents::{ContentFields, EntryPlace, Marked, PieceMark, number_of_day};
+use oftp_contents::{ContentFields, DayLink, EntryPlace, PieceMark, number_of_day};
 use oftp_outcomes::Fault;
 use oftp_progress::{Extent, Gauge};
-use oftp_record::{ChainDigest, RecordKind};
+use oftp_record::RecordKind;
 use oftp_recording::{Digest, Found, RecordReader, file_of, record_files};
 use std::alloc::{AllocError, Global};
 
@@ -120,7 +120,7 @@ impl<'a> Tape<'a> {
     /// Where it stands, if an entry behind the part isn't there.
     fn within(&self, at: At) -> At {
         match at {
-            At::Entry(_) if !self.part.reaches(&self.place()) => At::End,
+            At::Entry(_) if !self.place().is_within(self.part.to) => At::End,
             at => at,
         }
     }
@@ -209,18 +209,14 @@ impl<'a> Tape<'a> {
     fn seen(&self) -> Option<At> {
         let reader = self.reader.as_ref()?;
         let kind = reader.kind();
-        let fields = ContentFields::of(reader.content());
-        let link = match (kind, fields) {
-            (RecordKind::Mark, Some(fields)) if fields.code == Marked::DayBefore.code() => {
-                Some(fields.first)
-            }
-            _ => None,
+        let named = match ContentFields::of(reader.content()) {
+            Some(fields) => fields.day_before(kind),
+            None => None,
         };
-        match (reader.count(), &self.before, link) {
-            (1, None, Some(_)) => None,
-            (1, Some(before), Some(digest)) if digest == before.as_slice() => None,
-            (1, Some(_), _) => Some(At::Broken("it doesn't follow the day before")),
-            _ => Some(At::Entry(kind)),
+        match DayLink::at(reader.count(), self.before, named) {
+            DayLink::Entry => Some(At::Entry(kind)),
+            DayLink::Link => None,
+            DayLink::Broken => Some(At::Broken("it doesn't follow the day before")),
         }
     }
 
@@ -252,6 +248,12 @@ impl<'a> Tape<'a> {
         PieceMark::of(kind, self.moment(), fields.number)
     }
 
+    /// The number that the entry has at which it stands, if its content has one.
+    pub(crate) fn number(&self) -> Option<u64> {
+        let fields = ContentFields::of(self.content())?;
+        Some(fields.number)
+    }
+
     /// How many days were begun, that of the entry at which it stands among them.
     pub(crate) fn count(&self) -> usize {
         self.next
@@ -261,12 +263,7 @@ impl<'a> Tape<'a> {
     pub(crate) fn register(&self) -> Option<Digest> {
         let kind = self.kind()?;
         let fields = ContentFields::of(self.content())?;
-        let text = match kind {
-            RecordKind::Opening | RecordKind::Backup => fields.second,
-            RecordKind::Mark if fields.code == Marked::Register.code() => fields.first,
-            _ => return None,
-        };
-        digest_of(text)
+        fields.register(kind)
     }
 
     /// The line for what differs where it stands: at the entry that was read last, or behind it if that is broken.
@@ -290,16 +287,4 @@ pub(crate) fn text_of(octets: &[u8]) -> &str {
         Ok(text) => text,
         Err(_) => "?",
     }
-}
-
-/// The digest with these octets.
-fn digest_of(octets: &[u8]) -> Option<Digest> {
-    let mut digest = ChainDigest::first().0;
-    if octets.len() != digest.len() {
-        return None;
-    }
-    for (place, octet) in digest.iter_mut().zip(octets) {
-        *place = *octet;
-    }
-    Some(digest)
 }

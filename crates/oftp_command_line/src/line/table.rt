@@ -249,7 +249,7 @@ const SHOW: Declaration =
 const EXPLAIN: Declaration =
     declaration! { Explain, "explain", "Tells what the partner did in a session that the standard doesn't allow", [
         Optional("record", "FOLDER", "The folder of a station's record, in the place of IN and OUT"),
-        Defaulted("session", "NUMBER", "The session of the record, 0 to 999999999, 0 for each", "0", 0, MOST_SESSION),
+        Optional("session", "NUMBER", "The session of the record, 0 to 999999999; each if it is missing", 0, MOST_SESSION),
         Last("in", "IN", "The file that holds what the partner sent"),
         Last("out", "OUT", "The file that holds what the station sent"),
     ] };

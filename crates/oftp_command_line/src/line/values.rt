@@ -78,6 +78,18 @@ pub(super) fn number(matches: &ArgMatches<'_>, id: &str) -> u64
     matches.get_one::<u64>(id).unwrap()
 }
 
+/// The value of an argument that takes numbers, if it has one.
+pub(super) fn optional_number(matches: &ArgMatches<'_>, id: &str) -> Option<u64>
+    requires { IsSome (first_of id.now (values_in matches.now))
+        → (low : ℕ) × ((high : ℕ) × IsNumber low high id.now (values_in matches.now)) }
+    ensures { result ≡ spec.optional_number id.now (values_in matches.now) }
+{
+    match value_of(matches, id) {
+        Some(_) => Some(number(matches, id)),
+        None => None,
+    }
+}
+
 /// The value of an argument that takes ports, and is required or has a default.
 pub(super) fn port(matches: &ArgMatches<'_>, id: &str) -> u16
     requires { (low : ℕ) × IsNumber low MOST_PORT id.now (values_in matches.now) }

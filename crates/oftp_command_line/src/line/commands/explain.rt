@@ -7,7 +7,7 @@ ghost use Rattle.oftp_command_line.specs.ExplainLine.{explain_app, explain_in, e
 ghost use Rattle.oftp_command_line.specs.Fault.{is_bad};
 
 use crate::line::LineFault;
-use crate::line::values::{number, value_of};
+use crate::line::values::{optional_number, value_of};
 use clap::ArgMatches;
 use std::alloc::Global;
 
@@ -20,8 +20,8 @@ const UNCLEAR: &str =
 pub enum Explain<'a> {
     /// The session of the partner's octets, in a file, and the station's, in another if there is one.
     Octets(&'a str, Option<&'a str>),
-    /// The session with a number of the record in a folder; with 0, each of them.
-    Recorded(&'a str, u64),
+    /// The sessions with a number of the record in a folder; with `None`, each of them.
+    Recorded(&'a str, Option<u64>),
 }
 
 // What is explained, if one thing is named.
@@ -29,14 +29,14 @@ fn explained<'a>(
     folder: Option<&'a str>,
     input: Option<&'a str>,
     output: Option<&'a str>,
-    session: u64,
+    session: Option<u64>,
 ) -> Option<Explain<'a>>
     ensures { option_map explain_said result
         ≡ explained_of (option_map (λ s. s.now) folder.entry) (option_map (λ s. s.now) input.entry) (option_map (λ s. s.now) output.entry) session }
 {
-    match (folder, input, output) {
-        (Some(folder), None, None) => Some(Explain::Recorded(folder, session)),
-        (None, Some(input), output) if session == 0 => Some(Explain::Octets(input, output)),
+    match (folder, input, output, session) {
+        (Some(folder), None, None, session) => Some(Explain::Recorded(folder, session)),
+        (None, Some(input), output, None) => Some(Explain::Octets(input, output)),
         _ => None,
     }
 }
@@ -53,7 +53,8 @@ pub(super) fn explain_read<'a>(
     let folder = value_of(matches, "record");
     let input = value_of(matches, "in");
     let output = value_of(matches, "out");
-    match explained(folder, input, output, number(matches, "session")) {
+    let session = optional_number(matches, "session");
+    match explained(folder, input, output, session) {
         Some(explain) => Ok(explain),
         None => Err(LineFault::Bad(String::from_str(alloc, UNCLEAR)?)),
     }

@@ -3,6 +3,6 @@ use Rattle.oftp_command_line.specs.ExplainLine.{explain_app}
 use Rattle.oftp_command_line.specs.declared.line.arguments.TheConstants.{MOST_SESSION}
 use Rattle.oftp_command_line.proofs.line.commands.explain.explain_read.Goals as goal
 
-pub number-requires : goal.number-requires
+pub optional_number-session-requires : goal.optional_number-session-requires
 unfolding explain_app
-number-requires c = (0, (MOST_SESSION, c.requires.numbers 0 MOST_SESSION (codes "session") refl))
+optional_number-session-requires c = λ has. (0, (MOST_SESSION, c.requires.optional 0 MOST_SESSION (codes "session") refl has))
