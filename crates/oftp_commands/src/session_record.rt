@@ -55,11 +55,7 @@ impl<'r> SessionRecord<'r> {
     ///
     /// # Errors
     /// Those of [`Recorder::session`].
-    pub(crate) fn session(
-        &self,
-        side: RecordSide,
-        partner: Option<&Partner>,
-    ) -> Result<(), Fault> {
+    pub(crate) fn session(&self, side: RecordSide, partner: Option<&Partner>) -> Result<(), Fault> {
         match &self.recorder {
             Some(recorder) => recorder.session(NUMBER, side, partner, self.peer, &[]),
             None => Ok(()),

@@ -1,11 +1,10 @@
 -- Behind the place of the password each octet stays as it is.
-use Rattle.std.proofs.Common.{Bool, ◌≡◌, ◌==◌, ◌||◌, ℕ, ◌+◌, ◌≤◌, ◌<◌, List, [], ◌∷◌, ◌++◌, Option, None, Some, true, false, refl, sym, ap, ◌∙◌, arith, nat_lt, nat_le, if◌then◌else◌}
+use Rattle.std.proofs.Common.{Bool, ◌≡◌, ◌==◌, ◌||◌, ℕ, ◌≤◌, List, [], ◌∷◌, ◌++◌, Option, None, Some, true, false, refl, sym, ap, ◌∙◌, arith, if◌then◌else◌}
 use Rattle.std.proofs.lemmas.Bool.Decides.{nat_tests}
 use Rattle.std.proofs.lemmas.List.{append-nil, append_assoc}
 use Rattle.oftp_wire.specs.Octets.{is_allowed}
-use Rattle.oftp_contents.specs.Passwords.{IsTakenAlike, LeavesOctets, followed, hidden_octet, letter_at, own_octet, passed_by, password_end, shown_octet}
+use Rattle.oftp_contents.specs.Passwords.{IsTakenAlike, LeavesOctets, followed, hidden_octet, own_octet, passed_by, password_end, shown_octet}
 use Rattle.oftp_contents.specs.declared.passwords.PasswordFinder.{PasswordFinder}
-use Rattle.oftp_contents.specs.declared.passwords.SsidOrder.TheVariants.{BehindSsrm, First}
 
 -- no password is there
 none_there : (password : List ℕ) (f : PasswordFinder) → password_end f.order ≤ f.passed → own_octet password f ≡ None

@@ -1,5 +1,5 @@
 -- The password of an SSID in what a session hears or says: hidden where that is recorded, and put back where it is played.
-use Rattle.std.specs.Prelude.{◌≡◌, ℕ, ◌+◌, ◌-◌, ◌==◌, ◌&&◌, Bool, false, List, [], ◌∷◌, ◌++◌, Option, None, Some, fold, get_or, nat_le, nat_lt, if◌then◌else◌}
+use Rattle.std.specs.Prelude.{◌≡◌, ℕ, ◌+◌, ◌-◌, ◌==◌, ◌&&◌, false, List, [], ◌∷◌, ◌++◌, Option, None, Some, fold, get_or, nat_le, nat_lt, if◌then◌else◌}
 use Rattle.oftp_wire.specs.Octets.{is_allowed}
 use Rattle.oftp_contents.specs.declared.codes.RecordSide.{RecordSide}
 use Rattle.oftp_contents.specs.declared.codes.RecordSide.TheVariants as sides

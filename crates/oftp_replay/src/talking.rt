@@ -61,7 +61,10 @@ impl Player<'_> {
                 let side = RecordSide::Initiator;
                 let passwords = SessionPasswords::of_partner(self.alloc, side, Some(partner))?;
                 let session = life.begin(self.alloc, book, Role::Initiator(partner));
-                self.play(Talk::new(self.alloc, fields.number, session, passwords), &[])
+                self.play(
+                    Talk::new(self.alloc, fields.number, session, passwords),
+                    &[],
+                )
             }
             Some(RecordSide::Responder) => {
                 let partner = book.partner(fields.first);
@@ -88,8 +91,11 @@ impl Player<'_> {
         let Some(fields) = ContentFields::of(content.as_slice()) else {
             return Err(Stop::Differs(STRAY));
         };
-        let mut passwords =
-            SessionPasswords::of_partner(self.alloc, RecordSide::Responder, partner)?;
+        let mut passwords = SessionPasswords::of_partner(
+            self.alloc,
+            RecordSide::Responder,
+            partner,
+        )?;
         let shown = passwords.show_heard(fields.rest)?;
         let octets = instead(&shown, fields.rest);
         let mut opening = Opening::new(self.alloc, book);
@@ -100,7 +106,10 @@ impl Player<'_> {
         };
         let rest = self.joined(octets.get(count..).unwrap_or(&[]))?;
         let session = life.admit(self.alloc, guest);
-        self.play(Talk::new(self.alloc, number, session, passwords), rest.as_slice())
+        self.play(
+            Talk::new(self.alloc, number, session, passwords),
+            rest.as_slice(),
+        )
     }
 
     /// Plays a session to its end, which hears these octets first. Returns the life.
@@ -279,7 +288,10 @@ impl<'b, O: Office + Drop> Talk<'b, O> {
     fn pull(&mut self) -> Result<(), Stop> {
         let said = self.session.take_out(self.alloc);
         let hidden = self.passwords.hide_said(said.as_slice())?;
-        match self.said.extend_from_slice(instead(&hidden, said.as_slice())) {
+        match self
+            .said
+            .extend_from_slice(instead(&hidden, said.as_slice()))
+        {
             Ok(()) => Ok(()),
             Err(_) => Err(Stop::Failed(Fault::MEMORY)),
         }

@@ -115,7 +115,13 @@ impl Shell<'_> {
         let before = peer.take_recorded(alloc);
         let address = peer.address_text(alloc)?;
         let side = peer.side();
-        recorder.session(id, side, peer.partner_of_book(), address.as_str(), peer.latest)?;
+        recorder.session(
+            id,
+            side,
+            peer.partner_of_book(),
+            address.as_str(),
+            peer.latest,
+        )?;
         recorder.heard(id, before.as_slice())
     }
 

@@ -2,4 +2,4 @@
 
 /// The SHA-256 of the sources, but of this file, as `checks/lint/version.py` computes it.
 pub const SOURCES: &str =
-    "sources 123ca443e8cc799fa2c54fb6dc3030e7460118bfd1af1d82bcb3164e4b6f3dfc";
+    "sources c95bd6104490d46e632209c6c0f59cc98276c896c8bb80b7a6973185a99649f1";
