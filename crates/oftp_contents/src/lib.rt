@@ -1,4 +1,5 @@
-//! What the entries of a station's record tell, as octets, written and read.
+//! What the entries of a station's record tell, as octets, written and read; and what is done with each entry that is read ([`Playing`], [`Talking`],
+//! [`Listening`]).
 //!
 //! The content of each entry has the same layout ([`ContentFields`]):
 //!
