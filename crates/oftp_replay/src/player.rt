@@ -1,7 +1,7 @@
 //! What was played so far, and the ends of sessions and calls that are still to be compared.
 
 use crate::tape::{At, Stop, Tape};
-use oftp_contents::{ContentFields, Doing, EndCause, EndLine, was_made};
+use oftp_contents::{ContentFields, Doing, EndCause, EndLine, Likeness, was_made};
 use oftp_life::Life;
 use oftp_outcomes::Fault;
 use oftp_record::RecordKind;
@@ -27,6 +27,8 @@ pub(crate) struct Player<'a> {
     pub(crate) sessions: u64,
     calls: u64,
     ended: Vec<Ended>,
+    // The digest of the register, as far as it was worked out since an entry behind which the register may be another one.
+    register: Option<Digest>,
 }
 
 impl<'a> Player<'a> {
@@ -39,7 +41,25 @@ impl<'a> Player<'a> {
             sessions: 0,
             calls: 0,
             ended: Vec::new(alloc),
+            register: None,
         }
+    }
+
+    /// Forgets the digest of the register, if that may be another one behind an entry of this kind.
+    pub(crate) fn pass(&mut self, kind: RecordKind) {
+        if Likeness::behind(kind).is_some() {
+            self.register = None;
+        }
+    }
+
+    /// The digest of the register.
+    pub(crate) fn register<O: Office>(&mut self, life: &mut Life<O>) -> Result<Digest, Stop> {
+        if let Some(register) = self.register {
+            return Ok(register);
+        }
+        let register = register_digest(self.alloc, life)?;
+        self.register = Some(register);
+        Ok(register)
     }
 
     /// How many sessions and calls were played.
@@ -67,7 +87,7 @@ impl<'a> Player<'a> {
         let Some(wanted) = self.tape.register() else {
             return Err(Stop::Differs("it is none that a station records"));
         };
-        if register_digest(self.alloc, life)? != wanted {
+        if self.register(life)? != wanted {
             return Err(Stop::Differs("the register"));
         }
         if self.tape.at() == At::Entry(RecordKind::Opening) && !self.has_book()? {

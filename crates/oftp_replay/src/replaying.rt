@@ -11,7 +11,6 @@ use oftp_outcomes::{DONE, FAILED, Fault, Outcome, tell, write_line};
 use oftp_partners::Book;
 use oftp_progress::Gauge;
 use oftp_record::RecordKind;
-use oftp_recording::register_digest;
 use oftp_register::Office;
 use std::io::Write;
 
@@ -66,7 +65,7 @@ impl Player<'_> {
         match part.from {
             Some(place) => self.tape.pass_to(place)?,
             None => {
-                let register = register_digest(self.alloc, &mut life)?;
+                let register = self.register(&mut life)?;
                 self.find(&register)?;
             }
         }
@@ -88,6 +87,7 @@ impl Player<'_> {
         book: &Book,
     ) -> Result<Life<O>, Stop> {
         let mut life = life;
+        self.pass(kind);
         match Playing::at(kind) {
             Playing::Begins => return self.session(life, book),
             Playing::Compares => self.compare(&mut life)?,
