@@ -84,7 +84,7 @@ impl<R: Read, W: Write> Wire<'_, R, W> {
             let mut piece = [0; PIECE];
             let came = came_of(self.reader.read(&mut piece));
             if let Some(ended) = end_of_input(came) {
-                return plain(&ended).map(Met::Nobody);
+                return Ok(Met::Nobody(plain(&ended)?));
             }
             let octets = piece.get(..came.count()).unwrap_or(&[]);
             heard.extend_from_slice(octets)?;
@@ -158,7 +158,7 @@ impl<R: Read, W: Write> Wire<'_, R, W> {
             Need::Nothing => Came::Nothing,
         };
         if let Some(ended) = end_of_input(came) {
-            return plain(&ended).map(Some);
+            return Ok(Some(plain(&ended)?));
         }
         let octets = piece.get(..came.count()).unwrap_or(&[]);
         self.record.heard(octets)?;
