@@ -51,12 +51,22 @@ end_after it saying.Unsent = Err (fault.Run run.Write)
 end_after (stage.Ended it) saying.Sent = Ok (Some (ended_as it))
 end_after it saying.Sent = Ok None
 
--- What follows a step after which a session stands like this, if this end of it is noted already. What is noted first is how it ended.
+-- the office of a session that stands like this; one that isn't there hasn't failed
+abbrev pub office_of : Option Stage → OfficeState
+office_of None = state.Working
+office_of (Some it) = office_behind it
+
+-- What follows a step after which a session stands like this, if this end of it is noted already. An office that failed comes before what was noted,
+-- since it is the end of the station too. What was noted comes before how the session stands else.
+abbrev pub sequel_by : OfficeState → Option Stage → Option (Result End Trouble) → Sequel
+sequel_by state.Failed it _ = sequel.Ends (result_of it) (farewell_of it)
+sequel_by state.Working it (Some ended) = sequel.Ends ended (farewell_of it)
+sequel_by state.Working (Some stage.Waits) None = sequel.GoesOn
+sequel_by state.Working (Some stage.Sends) None = sequel.GoesOn
+sequel_by state.Working it None = sequel.Ends (result_of it) (farewell_of it)
+
 abbrev pub sequel_of : Option Stage → Option (Result End Trouble) → Sequel
-sequel_of (Some stage.Waits) None = sequel.GoesOn
-sequel_of (Some stage.Sends) None = sequel.GoesOn
-sequel_of it None = sequel.Ends (result_of it) (farewell_of it)
-sequel_of it (Some ended) = sequel.Ends ended (farewell_of it)
+sequel_of it noted = sequel_by (office_of it) it noted
 
 -- what a session hears next that stands like this: one that sends a file goes on without octets
 abbrev pub need_of : Option Stage → Need

@@ -1,7 +1,7 @@
 //! What becomes of a session, or of a caller, by what was said, read and heard.
 
 ghost use Rattle.std.specs.Prelude.{◌≡◌};
-ghost use Rattle.oftp_requests.specs.Talking.{came_of, came_count, end_after, end_of_input, need_of, office_behind, office_under, sequel_of, trouble_greeting, trouble_hearing, welcome_after, welcome_of};
+ghost use Rattle.oftp_requests.specs.Talking.{came_of, came_count, end_after, end_of_input, need_of, office_behind, office_of, office_under, sequel_of, trouble_greeting, trouble_hearing, welcome_after, welcome_of};
 
 use crate::judging::{farewell_of, goes_on, result_of, trouble_of, trouble_within};
 use oftp_engine::{Admission, End, RunFault};
@@ -103,14 +103,24 @@ pub fn end_after(stage: Stage, saying: Saying) -> Result<Option<End>, Fault>
     }
 }
 
-/// What follows a step after which a session stands like this, if this end of it is noted already: that is how it ended.
+// Whether the office of a session failed that stands like this, or is none.
+fn office_of(stage: Option<Stage>) -> OfficeState
+    ensures { result ≡ office_of stage }
+{
+    match stage {
+        Some(stage) => office_behind(stage),
+        None => OfficeState::Working,
+    }
+}
+
+/// What follows a step after which a session stands like this, if this end of it is noted already: that is how it ended, unless its office failed.
 pub fn sequel_of(stage: Option<Stage>, noted: Option<Result<End, Trouble>>) -> Sequel
     ensures { result ≡ sequel_of stage noted }
 {
-    match noted {
-        None if goes_on(stage) => Sequel::GoesOn,
-        None => Sequel::Ends(result_of(stage), farewell_of(stage)),
-        Some(ended) => Sequel::Ends(ended, farewell_of(stage)),
+    match (office_of(stage), noted) {
+        (OfficeState::Working, Some(ended)) => Sequel::Ends(ended, farewell_of(stage)),
+        (OfficeState::Working, None) if goes_on(stage) => Sequel::GoesOn,
+        _ => Sequel::Ends(result_of(stage), farewell_of(stage)),
     }
 }
 

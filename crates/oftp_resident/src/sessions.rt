@@ -84,7 +84,7 @@ impl<'a> Shell<'a> {
                 self.tell_now(id, Signal::Waits(step))
             }
             Sequel::Ends(ended, farewell) => {
-                peer.note(ended);
+                peer.ended = Some(ended);
                 home.end();
                 self.tell_now(id, Signal::Ended(farewell))
             }
