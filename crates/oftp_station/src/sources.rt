@@ -2,4 +2,4 @@
 
 /// The SHA-256 of the sources, but of this file, as `checks/lint/version.py` computes it.
 pub const SOURCES: &str =
-    "sources c95bd6104490d46e632209c6c0f59cc98276c896c8bb80b7a6973185a99649f1";
+    "sources 3658251cbb19e871904d3e5fdebe442cbdf844f198ea02c560aeafe2f60cdedc";
