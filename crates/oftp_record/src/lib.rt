@@ -15,11 +15,12 @@
 //!
 //! Numbers have their most significant octet first. Before the first entry of a record the digest is 32 octets of 0 ([`ChainDigest::first`]).
 //!
-//! [`append_entry`] writes an entry, and [`next_entry`] reads one. Both are proved against the one encoding of an entry (specs/Entries.antt). The
-//! theorems are in [`laws`]. What was written is what is read, and a record that is cut anywhere is read up to the cut. A changed octet is told
-//! if SHA-256 gives another value. That it does so is no theorem: there are octets with the same digest, and nobody has found any. Who changes an
-//! entry and computes each digest after it anew isn't found out by the record alone, since nothing in it is signed. A digest that was kept
-//! elsewhere, as that of another day's first entry, finds it out.
+//! [`append_entry`] writes an entry, and [`next_entry`] reads one. Both are proved against the one encoding of an entry (specs/Entries.antt).
+//! [`ReadAhead`] tells what [`next_entry`] would, entry after entry, and reads eight at once where that can be. The theorems are in [`laws`]. What
+//! was written is what is read, and a record that is cut anywhere is read up to the cut. A changed octet is told if SHA-256 gives another value. That
+//! it does so is no theorem: there are octets with the same digest, and nobody has found any. Who changes an entry and computes each digest after it
+//! anew isn't found out by the record alone, since nothing in it is signed. A digest that was kept elsewhere, as that of another day's first entry,
+//! finds it out.
 #![tactic(auto)]
 
 mod ahead;
