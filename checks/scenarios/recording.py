@@ -824,6 +824,27 @@ def books_with_passwords(room):
         expect_same(folder, 1, 2, book=book)
 
 
+def books_changed(room):
+    """A station that is started by one book after another is replayed by the last one, which has all passwords, and goes on from a backup between."""
+    first, second = room / "first.toml", room / "second.toml"
+    first.write_text(BOOK.read_text())
+    # Another size of buffers, other names of keys, and one more partner, by whom the octets of sessions are others.
+    second.write_text(BOOK.read_text().replace("buffer = 128", "buffer = 256") + "\n[[partner]]\ncode = 'O0013NEWONE'\nexpects = 'NEWPW'\nsends = 'SUPPW'\nmode = 'B'\naddress = '127.0.0.1:1'\n")
+    expect("buffer = 256" in second.read_text(), True, "the second book")
+    for turn, book in enumerate((first, second, first)):
+        with recording(room, book=book) as service:
+            converse(service, one_file.session(3000, 128, 2).replace(b"ASN.0001", b"ASN.%04d" % turn))
+            if turn == 1:
+                expect(service.give("backup", room / "copy").stdout, b"done: backup\n", "backup")
+                converse(service, one_file.session(3000, 128, 2).replace(b"ASN.0001", b"ASN.0009"))
+            service.give("stop")
+            service.ends()
+    expect_same(room, 4, 0, book=second)
+    expect_same(room, 2, 0, database="copy", book=second)
+    status, out, _ = replayed(room, "other", first)
+    expect((status, out[-9:]), (1, "the book\n"), "replay by a book without the password of a partner")
+
+
 def killed_feed(room, seed):
     """SIGKILL at any moment of `feed`, whose partner sends in pieces."""
     chance = random.Random(seed)
@@ -1010,7 +1031,7 @@ def killed_behind_the_copy(room):
         expect((done.returncode, done.stdout.decode()), (1, f"register: {line}\n"), f"{database} of a killed station")
 
 
-CASES = [commands, rows, two_stations, book_read_again, killed_at_moments, killed_beside_partners, changed_octet, cut_record, most_at_once, killed_within_pieces, torn_pieces, backup, days, two_in_one_folder, without_syncing, other_database, full_disk, full_disk_of_the_database, commands_alone, killed_commands, listen_and_call, feeds, feeds_refused, passwords, books_with_passwords, killed_feeds, backups_recorded, parts, marks, hostile_record, sessions_explained, audits]
+CASES = [commands, rows, two_stations, book_read_again, killed_at_moments, killed_beside_partners, changed_octet, cut_record, most_at_once, killed_within_pieces, torn_pieces, backup, days, two_in_one_folder, without_syncing, other_database, full_disk, full_disk_of_the_database, commands_alone, killed_commands, listen_and_call, feeds, feeds_refused, passwords, books_with_passwords, books_changed, killed_feeds, backups_recorded, parts, marks, hostile_record, sessions_explained, audits]
 
 
 def tried(case):

@@ -1,11 +1,13 @@
 //! What was played so far, and the ends of sessions and calls that are still to be compared.
 
 use crate::tape::{At, Stop, Tape};
-use oftp_contents::{ContentFields, Doing, EndCause, EndLine, Likeness, was_made};
+use oftp_contents::{ContentFields, Doing, EndCause, EndLine, EntryPlace, Likeness, was_made};
+use oftp_files::book_of;
 use oftp_life::Life;
 use oftp_outcomes::Fault;
+use oftp_partners::Book;
 use oftp_record::RecordKind;
-use oftp_recording::{Digest, end_for, hidden, line_of_end, register_digest};
+use oftp_recording::{Digest, end_for, line_of_end, register_digest, shown_book};
 use oftp_register::Office;
 use oftp_requests::{Asked, line_of_answer};
 use std::alloc::Global;
@@ -17,13 +19,26 @@ struct Ended {
     line: String,
 }
 
+/// By which book sessions are played.
+#[derive(Drop)]
+pub(crate) enum PlayedBook {
+    /// The one that was named.
+    Named,
+    /// The one by which the station was started, with passwords of the one that was named.
+    Recorded(Book),
+    /// None: that one has a password that the one that was named lacks.
+    Lacking,
+}
+
 /// A record that is played.
 #[derive(Drop)]
 pub(crate) struct Player<'a> {
     pub(crate) alloc: Global,
     pub(crate) tape: Tape<'a>,
-    // The station's book.
+    // The octets of the book that was named.
     octets: &'a [u8],
+    /// By which book sessions are played.
+    pub(crate) book: PlayedBook,
     pub(crate) sessions: u64,
     calls: u64,
     ended: Vec<Ended>,
@@ -38,6 +53,7 @@ impl<'a> Player<'a> {
             alloc,
             tape,
             octets,
+            book: PlayedBook::Named,
             sessions: 0,
             calls: 0,
             ended: Vec::new(alloc),
@@ -74,7 +90,7 @@ impl<'a> Player<'a> {
                 return Ok(());
             }
             match self.tape.at() {
-                At::Entry(_) => self.tape.advance()?,
+                At::Entry(kind) => self.skip(kind)?,
                 At::End => return Err(Stop::Differs("no entry has the register of the database")),
                 At::Broken(what) => return Err(Stop::Differs(what)),
             }
@@ -82,7 +98,28 @@ impl<'a> Player<'a> {
         Ok(())
     }
 
-    /// Compares the register with that of an opening, a backup or a mark, and the book with that of an opening.
+    /// Goes on to the entry at a place.
+    pub(crate) fn pass_to(&mut self, place: EntryPlace) -> Result<(), Stop> {
+        for _ in 0..u64::MAX {
+            match self.tape.at() {
+                At::Entry(_) if self.tape.place() == place => return Ok(()),
+                At::Entry(kind) => self.skip(kind)?,
+                At::End => return Err(Stop::Unknown),
+                At::Broken(what) => return Err(Stop::Differs(what)),
+            }
+        }
+        Ok(())
+    }
+
+    /// Passes over an entry of this kind. The book of an opening is that of the sessions behind it.
+    fn skip(&mut self, kind: RecordKind) -> Result<(), Stop> {
+        if kind == RecordKind::Opening {
+            self.take_book()?;
+        }
+        Ok(self.tape.advance()?)
+    }
+
+    /// Compares the register with that of an opening, a backup or a mark. The book of an opening is that of the sessions behind it.
     pub(crate) fn compare<O: Office>(&mut self, life: &mut Life<O>) -> Result<(), Stop> {
         let Some(wanted) = self.tape.register() else {
             return Err(Stop::Differs("it is none that a station records"));
@@ -90,19 +127,29 @@ impl<'a> Player<'a> {
         if self.register(life)? != wanted {
             return Err(Stop::Differs("the register"));
         }
-        if self.tape.at() == At::Entry(RecordKind::Opening) && !self.has_book()? {
-            return Err(Stop::Differs("the book"));
+        if self.tape.at() == At::Entry(RecordKind::Opening) {
+            self.take_book()?;
+            if let PlayedBook::Lacking = self.book {
+                return Err(Stop::Differs("the book"));
+            }
         }
         Ok(self.tape.advance()?)
     }
 
-    /// Whether an opening has the station's book. That of a command has none.
-    fn has_book(&self) -> Result<bool, Stop> {
+    /// Takes the book of the opening at which the record stands. That of a command has none.
+    fn take_book(&mut self) -> Result<(), Stop> {
         let Some(fields) = ContentFields::of(self.tape.content()) else {
-            return Ok(false);
+            return Ok(());
         };
-        let book = hidden(self.alloc, self.octets, fields.number)?;
-        Ok(fields.rest.is_empty() || book.as_slice() == fields.rest)
+        if fields.rest.is_empty() {
+            return Ok(());
+        }
+        self.book = match shown_book(self.alloc, fields.rest, fields.number, self.octets)? {
+            None => PlayedBook::Lacking,
+            Some(text) if text.as_slice() == self.octets => PlayedBook::Named,
+            Some(text) => PlayedBook::Recorded(book_of(self.alloc, text.as_slice())?),
+        };
+        Ok(())
     }
 
     /// Makes an operator's call again. One behind which the station was killed may have been made or not.

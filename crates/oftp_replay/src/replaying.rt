@@ -1,7 +1,7 @@
 //! Playing a record over a register.
 
 use crate::part::Part;
-use crate::player::Player;
+use crate::player::{PlayedBook, Player};
 use crate::tape::{At, Stop, Tape};
 use oftp_command_line::Replay;
 use oftp_contents::Playing;
@@ -13,8 +13,10 @@ use oftp_progress::Gauge;
 use oftp_record::RecordKind;
 use oftp_register::Office;
 use std::io::Write;
+use std::mem;
 
-/// Plays a record over the register of a life, by the station's book, whose octets are given too. It begins with the entry that the command line
+/// Plays a record over the register of a life. The station's books are in the record, without the passwords, which are taken from a book whose octets are
+/// given too. It begins with the entry that the command line
 /// names, or else with the first that has the digest of the register. Writes what came of it to `out`: that all is the same, or the first
 /// difference. Returns the exit status. It is refused if an entry is named by what is no place, or isn't there.
 ///
@@ -63,7 +65,7 @@ impl Player<'_> {
     ) -> Result<(), Stop> {
         let mut life = life;
         match part.from {
-            Some(place) => self.tape.pass_to(place)?,
+            Some(place) => self.pass_to(place)?,
             None => {
                 let register = self.register(&mut life)?;
                 self.find(&register)?;
@@ -89,12 +91,29 @@ impl Player<'_> {
         let mut life = life;
         self.pass(kind);
         match Playing::at(kind) {
-            Playing::Begins => return self.session(life, book),
+            Playing::Begins => return self.session_by_its_book(life, book),
             Playing::Compares => self.compare(&mut life)?,
             Playing::Calls => self.call(&mut life)?,
             Playing::Ends => self.compare_end()?,
             Playing::Strays => return Err(Stop::Differs("it belongs to no session")),
         }
         Ok(life)
+    }
+
+    /// Plays a session by the book of its station: the one that was named, or the one that the record has. Returns the life.
+    fn session_by_its_book<O: Office + Drop>(
+        &mut self,
+        life: Life<O>,
+        book: &Book,
+    ) -> Result<Life<O>, Stop> {
+        match mem::replace(&mut self.book, PlayedBook::Named) {
+            PlayedBook::Named => self.session(life, book),
+            PlayedBook::Lacking => Err(Stop::Differs("the book")),
+            PlayedBook::Recorded(recorded) => {
+                let life = self.session(life, &recorded)?;
+                self.book = PlayedBook::Recorded(recorded);
+                Ok(life)
+            }
+        }
     }
 }

@@ -138,19 +138,6 @@ impl<'a> Tape<'a> {
         EntryPlace { day, number }
     }
 
-    /// Goes on to the entry at a place.
-    pub(crate) fn pass_to(&mut self, place: EntryPlace) -> Result<(), Stop> {
-        for _ in 0..u64::MAX {
-            match self.at {
-                At::Entry(_) if self.place() == place => return Ok(()),
-                At::Entry(_) => self.advance()?,
-                At::End => return Err(Stop::Unknown),
-                At::Broken(what) => return Err(Stop::Differs(what)),
-            }
-        }
-        Ok(())
-    }
-
     /// Counts an entry at which it stands, and shows how many were read.
     fn show(&mut self) {
         if let At::Entry(_) = self.at {
