@@ -442,6 +442,30 @@ def backup(room):
     expect_same(room, 0, 1, database="copy")
 
 
+def lost_database(room):
+    """A station is killed, and its database is lost: it is the backup and the record since, and the next life goes on there. As docs/howto/backup.md says."""
+    file = room / "file"
+    file.write_bytes(b"ABC")
+    with recording(room) as service:
+        expect(submit(service, "A", file), "done: submit 1\n", "submit")
+        expect(service.give("backup", room / "copy").stdout, b"done: backup\n", "backup")
+        expect(submit(service, "B", file), "done: submit 2\n", "submit behind the backup")
+        expect(converse(service, session_of("receiving/one_octet").joined("in"))[-15:], "end: partner 00", "the session")
+        expect(service.give("release", "1").stdout, b"done: release 1\n", "release")
+        service.program.kill()
+        service.program.wait()
+    copied(room, "lost")
+    for end in ("", "-wal"):
+        (room / f"database{end}").unlink(missing_ok=True)
+    shutil.copyfile(room / "copy", room / "database")
+    expect(replayed(room, "database"), (0, "same: 1 sessions, 2 calls\n", ""), "replay over the backup")
+    expect(tables.read(room / "database"), tables.read(room / "lost"), "the tables")
+    with recording(room, "--jobs", "1") as service:
+        expect(submit(service, "C", file), "done: submit 3\n", "submit to the next life")
+        service.ends()
+    expect_same(room, 1, 4)
+
+
 def days(room):
     """A file for each day, which follows the one before: a day that is missing is told, and the first ones may be gone."""
     file = room / "file"
@@ -1031,7 +1055,7 @@ def killed_behind_the_copy(room):
         expect((done.returncode, done.stdout.decode()), (1, f"register: {line}\n"), f"{database} of a killed station")
 
 
-CASES = [commands, rows, two_stations, book_read_again, killed_at_moments, killed_beside_partners, changed_octet, cut_record, most_at_once, killed_within_pieces, torn_pieces, backup, days, two_in_one_folder, without_syncing, other_database, full_disk, full_disk_of_the_database, commands_alone, killed_commands, listen_and_call, feeds, feeds_refused, passwords, books_with_passwords, books_changed, killed_feeds, backups_recorded, parts, marks, hostile_record, sessions_explained, audits]
+CASES = [commands, rows, two_stations, book_read_again, killed_at_moments, killed_beside_partners, changed_octet, cut_record, most_at_once, killed_within_pieces, torn_pieces, backup, lost_database, days, two_in_one_folder, without_syncing, other_database, full_disk, full_disk_of_the_database, commands_alone, killed_commands, listen_and_call, feeds, feeds_refused, passwords, books_with_passwords, books_changed, killed_feeds, backups_recorded, parts, marks, hostile_record, sessions_explained, audits]
 
 
 def tried(case):

@@ -2,4 +2,4 @@
 
 /// The SHA-256 of the sources, but of this file, as `checks/lint/version.py` computes it.
 pub const SOURCES: &str =
-    "sources 3658251cbb19e871904d3e5fdebe442cbdf844f198ea02c560aeafe2f60cdedc";
+    "sources e44536083d42bb5a956ebf3c1adb638341d72f77d08cb991298d80e482efc9ba";
