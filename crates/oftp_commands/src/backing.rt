@@ -32,17 +32,25 @@ pub(crate) struct Telling<'t> {
     pub(crate) book: &'t str,
     /// The folder of the record, if there is one.
     pub(crate) record: Option<&'t str>,
+    /// The line with the sum of the program's sources, which the record has.
+    pub(crate) sources: &'t str,
 }
 
 impl<'t> Telling<'t> {
     /// Where those of a command go that names these files.
-    pub(crate) fn of(rt: &'t HostRuntime, files: &Files<'t>, news: &'t News) -> Telling<'t> {
+    pub(crate) fn of(
+        rt: &'t HostRuntime,
+        files: &Files<'t>,
+        sources: &'t str,
+        news: &'t News,
+    ) -> Telling<'t> {
         Telling {
             rt,
             news,
             path: files.events,
             book: files.book,
             record: files.record,
+            sources,
         }
     }
 
@@ -50,6 +58,7 @@ impl<'t> Telling<'t> {
     pub(crate) fn of_record(
         rt: &'t HostRuntime,
         record: Option<&'t str>,
+        sources: &'t str,
         news: &'t News,
     ) -> Telling<'t> {
         Telling {
@@ -58,6 +67,7 @@ impl<'t> Telling<'t> {
             path: None,
             book: "",
             record,
+            sources,
         }
     }
 

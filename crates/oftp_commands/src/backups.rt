@@ -30,10 +30,11 @@ const READ_WITH_IT: [&str; 2] = ["-wal", "-journal"];
 pub fn back_up<'a>(
     rt: &'a HostRuntime,
     line: &Backup<'a>,
+    sources: &'a str,
     out: &mut impl Write,
 ) -> Result<Outcome, Fault> {
     let news = News::new(rt.alloc());
-    let telling = Telling::of_record(rt, line.record, &news);
+    let telling = Telling::of_record(rt, line.record, sources, &news);
     let backing = Backing::opened(rt, line.database, None, Some(telling))?;
     back_up_over(rt, line, backing, &news, out)
 }

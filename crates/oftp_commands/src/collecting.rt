@@ -14,10 +14,15 @@ use std::io::Write;
 /// # Errors
 /// [`Fault::Book`], [`Fault::File`] or [`Fault::Store`] if the book, the folder, the database or the events can't be opened; those of
 /// [`folders::collect`].
-pub fn collect(rt: &HostRuntime, line: &Collect<'_>, out: &mut impl Write) -> Result<u8, Fault> {
+pub fn collect(
+    rt: &HostRuntime,
+    line: &Collect<'_>,
+    sources: &str,
+    out: &mut impl Write,
+) -> Result<u8, Fault> {
     let (octets, book) = read_book_octets(rt, line.files.book)?;
     let folder = Folder::held(rt, line.folder)?;
-    let outcome = collect_to(rt, line, &folder, octets.as_slice(), &book, out);
+    let outcome = collect_to(rt, line, sources, &folder, octets.as_slice(), &book, out);
     folder.give_up(rt);
     Ok(status_where(outcome?))
 }
@@ -26,13 +31,14 @@ pub fn collect(rt: &HostRuntime, line: &Collect<'_>, out: &mut impl Write) -> Re
 fn collect_to<'a>(
     rt: &'a HostRuntime,
     line: &Collect<'a>,
+    sources: &'a str,
     folder: &Folder,
     octets: &[u8],
     book: &Book,
     out: &mut impl Write,
 ) -> Result<bool, Fault> {
     let news = News::new(rt.alloc());
-    let telling = Telling::of(rt, &line.files, &news);
+    let telling = Telling::of(rt, &line.files, sources, &news);
     let backing = Backing::opened(rt, line.files.database, Some(book), Some(telling))?;
     folders::collect(rt, line, folder, octets, backing, out)
 }

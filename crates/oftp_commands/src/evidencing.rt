@@ -6,17 +6,12 @@ use oftp_outcomes::Fault;
 use oftp_replay::write_evidence;
 use std::io::Write;
 
-/// Writes a folder of what proves a file's delivery, by a database and a record. `sources` is the sum of the program's sources. Returns the exit status.
+/// Writes a folder of what proves a file's delivery, by a database and a record. Returns the exit status.
 ///
 /// # Errors
 /// [`Fault::Store`] or [`Fault::File`] if the database or the record can't be read, or the folder can't be written. [`Fault::Run`] if the office
 /// failed, or `out` returned an error; [`Fault::MEMORY`].
-pub fn evidence(
-    rt: &HostRuntime,
-    line: &Evidence<'_>,
-    sources: &str,
-    out: &mut impl Write,
-) -> Result<u8, Fault> {
+pub fn evidence(rt: &HostRuntime, line: &Evidence<'_>, out: &mut impl Write) -> Result<u8, Fault> {
     let mut life = database::live(rt, line.database, PATIENCE, None)?;
-    write_evidence(rt, line, sources, &mut life, out)
+    write_evidence(rt, line, &mut life, out)
 }

@@ -15,13 +15,18 @@ use std::io::Write;
 /// # Errors
 /// [`Fault::Book`], [`Fault::File`] or [`Fault::Store`] if the book, the folder, the database or the events can't be opened; those of
 /// [`folders::offer`].
-pub fn offer(rt: &HostRuntime, line: &Offer<'_>, out: &mut impl Write) -> Result<u8, Fault> {
+pub fn offer(
+    rt: &HostRuntime,
+    line: &Offer<'_>,
+    sources: &str,
+    out: &mut impl Write,
+) -> Result<u8, Fault> {
     let (octets, book) = read_book_octets(rt, line.files.book)?;
     if let Some(refusal) = refusal_of(&book, line) {
         return tell(Outcome::Refused(refusal), out);
     }
     let folder = Folder::held(rt, line.folder)?;
-    let outcome = offer_from(rt, line, &folder, octets.as_slice(), &book, out);
+    let outcome = offer_from(rt, line, sources, &folder, octets.as_slice(), &book, out);
     folder.give_up(rt);
     Ok(status_where(outcome?))
 }
@@ -30,13 +35,14 @@ pub fn offer(rt: &HostRuntime, line: &Offer<'_>, out: &mut impl Write) -> Result
 fn offer_from<'a>(
     rt: &'a HostRuntime,
     line: &Offer<'a>,
+    sources: &'a str,
     folder: &Folder,
     octets: &[u8],
     book: &Book,
     out: &mut impl Write,
 ) -> Result<bool, Fault> {
     let news = News::new(rt.alloc());
-    let telling = Telling::of(rt, &line.files, &news);
+    let telling = Telling::of(rt, &line.files, sources, &news);
     let backing = Backing::opened(rt, line.files.database, Some(book), Some(telling))?;
     folders::offer(rt, line, folder, octets, backing, out)
 }

@@ -41,12 +41,13 @@ struct Given<'a> {
 pub fn submit<'a>(
     rt: &'a HostRuntime,
     submit: &Submit<'a>,
+    sources: &'a str,
     out: &mut impl Write,
 ) -> Result<Outcome, Fault> {
     let content = Content::of(rt, submit);
     let (octets, book) = read_book_octets(rt, submit.files.book)?;
     let news = News::new(rt.alloc());
-    let telling = Telling::of(rt, &submit.files, &news);
+    let telling = Telling::of(rt, &submit.files, sources, &news);
     let database = submit.files.database;
     let backing = Backing::opened(rt, database, Some(&book), Some(telling))?;
     submit_over(rt, submit, content, backing, octets.as_slice(), out)
@@ -81,11 +82,12 @@ fn submit_over(
 pub fn resend<'a>(
     rt: &'a HostRuntime,
     resend: &Resend<'a>,
+    sources: &'a str,
     out: &mut impl Write,
 ) -> Result<Outcome, Fault> {
     let (octets, book) = read_book_octets(rt, resend.files.book)?;
     let news = News::new(rt.alloc());
-    let telling = Telling::of(rt, &resend.files, &news);
+    let telling = Telling::of(rt, &resend.files, sources, &news);
     let database = resend.files.database;
     let backing = Backing::opened(rt, database, Some(&book), Some(telling))?;
     resend_over(rt, resend, backing, octets.as_slice(), out)
@@ -181,10 +183,11 @@ fn submission_at<'a>(
 pub fn release<'a>(
     rt: &'a HostRuntime,
     release: &Release<'a>,
+    sources: &'a str,
     out: &mut impl Write,
 ) -> Result<Outcome, Fault> {
     let call = Operator::Release { no: release.no };
-    respond(rt, release.files, call, out)
+    respond(rt, release.files, call, sources, out)
 }
 
 /// Issues the Negative End Response of an incoming file, and writes its line. Returns its outcome.
@@ -194,6 +197,7 @@ pub fn release<'a>(
 pub fn refuse<'a>(
     rt: &'a HostRuntime,
     refuse: &Refuse<'a>,
+    sources: &'a str,
     out: &mut impl Write,
 ) -> Result<Outcome, Fault> {
     let call = Operator::Refuse {
@@ -201,7 +205,7 @@ pub fn refuse<'a>(
         reason: refuse.reason,
         text: refuse.text,
     };
-    respond(rt, refuse.files, call, out)
+    respond(rt, refuse.files, call, sources, out)
 }
 
 /// Issues a response, and writes the line of that.
@@ -209,11 +213,12 @@ fn respond<'a>(
     rt: &'a HostRuntime,
     files: Files<'a>,
     call: Operator<'_>,
+    sources: &'a str,
     out: &mut impl Write,
 ) -> Result<Outcome, Fault> {
     let (octets, book) = read_book_octets(rt, files.book)?;
     let news = News::new(rt.alloc());
-    let telling = Telling::of(rt, &files, &news);
+    let telling = Telling::of(rt, &files, sources, &news);
     let backing = Backing::opened(rt, files.database, Some(&book), Some(telling))?;
     let book = octets.as_slice();
     respond_over(backing, &Request::Operate { book, call }, out)

@@ -33,7 +33,7 @@ impl<'t> Recording<'t> {
             return Ok(None);
         };
         let recorder = Recorder::open(telling.rt, folder, Syncing::Synced)?;
-        recorder.begin(VERSION, &[], office)?;
+        recorder.begin(VERSION, telling.sources, &[], office)?;
         Ok(Some(Recording { recorder, calls: 0 }))
     }
 

@@ -40,13 +40,18 @@ impl<'r> SessionRecord<'r> {
         Ok(SessionRecord { recorder, peer })
     }
 
-    /// Records that the command begins, by a book with these octets.
+    /// Records that the command begins, by a book with these octets. `sources` is the line with the sum of the program's sources.
     ///
     /// # Errors
     /// Those of [`Recorder::begin`].
-    pub(crate) fn begin<O: Office>(&self, book: &[u8], office: &mut O) -> Result<(), Fault> {
+    pub(crate) fn begin<O: Office>(
+        &self,
+        sources: &str,
+        book: &[u8],
+        office: &mut O,
+    ) -> Result<(), Fault> {
         match &self.recorder {
-            Some(recorder) => recorder.begin(VERSION, book, office),
+            Some(recorder) => recorder.begin(VERSION, sources, book, office),
             None => Ok(()),
         }
     }

@@ -24,7 +24,7 @@ use std::io::ErrorKind;
 /// # Errors
 /// [`Fault::Book`], [`Fault::Store`] or [`Fault::File`] if the book, the database or a file can't be opened; [`Fault::File`] if the record can't be
 /// written; [`Fault::Run`] if the session failed.
-pub fn feed(rt: &HostRuntime, line: &Feed<'_>) -> Result<Outcome, Fault> {
+pub fn feed(rt: &HostRuntime, line: &Feed<'_>, sources: &str) -> Result<Outcome, Fault> {
     let (octets, book) = read_book_octets(rt, line.book)?;
     let Some(role) = role_of(&book, line) else {
         return Ok(Outcome::Refused(Refusal::Unknown));
@@ -32,17 +32,28 @@ pub fn feed(rt: &HostRuntime, line: &Feed<'_>) -> Result<Outcome, Fault> {
     match line.database {
         Some(path) => {
             let life = database::live(rt, path, PATIENCE, None)?;
-            feed_durable(rt, line, octets.as_slice(), &book, role, life)
+            let told = Told {
+                octets: octets.as_slice(),
+                sources,
+            };
+            feed_durable(rt, line, told, &book, role, life)
         }
         None => feed_in_memory(rt, line, &book, role),
     }
 }
 
-/// Runs the session in a life over a database, by a book whose octets are given too, and closes it.
+/// What the beginning of a record tells: the octets of the book, and the line with the sum of the program's sources.
+#[derive(Clone, Copy)]
+struct Told<'t> {
+    octets: &'t [u8],
+    sources: &'t str,
+}
+
+/// Runs the session in a life over a database, by a book, and closes it.
 fn feed_durable(
     rt: &HostRuntime,
     line: &Feed<'_>,
-    octets: &[u8],
+    told: Told<'_>,
     book: &Book,
     role: Role<'_>,
     life: Life<WatchedOffice<'_>>,
@@ -52,7 +63,7 @@ fn feed_durable(
     let trace = trace_of(rt, line)?;
     let record = SessionRecord::open(rt, line.record, line.input)?;
     let (reader, writer) = ports(rt, line, input, trace.as_ref())?;
-    record.begin(octets, &mut life)?;
+    record.begin(told.sources, told.octets, &mut life)?;
     let mut wire = Wire {
         alloc: rt.alloc(),
         reader,

@@ -14,7 +14,7 @@
 //!
 //! | Kind | Number | Code | First text | Second text | Octets |
 //! |---|---|---|---|---|---|
-//! | opening | the salt of the passwords | 0 | the program's version | the digest of its register | its book; none of a command |
+//! | opening | the salt of the passwords | 0 | the program's version, and behind a line end the sum of its sources | the digest of its register | its book; none of a command |
 //! | session | of the session | [`RecordSide`] | the partner's code | the partner's address | |
 //! | octets in, octets out | of the session | 0 | | | the octets |
 //! | call | of the call | 0 | the number of the user who asked, in digits; none where that isn't known | | the request |

@@ -90,23 +90,25 @@ impl<'a> Recorder<'a> {
         })
     }
 
-    /// Records that the program begins: its version, the octets of its book, of which passwords are hidden, and the register. A command has no
-    /// octets of a book.
+    /// Records that the program begins: its version, the line with the sum of its sources, the octets of its book, of which passwords are hidden, and
+    /// the register. A command has no octets of a book.
     ///
     /// # Errors
     /// [`Fault::File`] if the record can't be written; [`Fault::Run`] if the office failed; [`Fault::MEMORY`].
     pub fn begin<O: Office>(
         &self,
         version: &str,
+        sources: &str,
         book: &[u8],
         office: &mut O,
     ) -> Result<(), Fault> {
         let register = register_digest(self.rt.alloc(), office)?;
         let salt = salt_drawn(self.rt)?;
+        let program = format!(in self.rt.alloc(); "{version}\n{sources}")?;
         let book = hidden(self.rt.alloc(), book, salt)?;
         let fields = ContentFields {
             number: salt,
-            first: version.as_bytes(),
+            first: program.as_bytes(),
             second: register.as_slice(),
             rest: book.as_slice(),
             ..NOTHING

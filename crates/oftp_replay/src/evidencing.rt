@@ -2,7 +2,7 @@
 
 use crate::bundle::Bundle;
 use crate::searching::{FoundSession, Search, find_sessions};
-use oftp_command_line::{Evidence, VERSION};
+use oftp_command_line::Evidence;
 use oftp_engine::{Port, Refusal, RunFault, write_content};
 use oftp_events::Direction;
 use oftp_evidence::{FileFacts, ResponseFacts, SessionFacts, StationFacts, readme, verify_script};
@@ -47,9 +47,9 @@ struct Filed {
     standing: Standing,
 }
 
-/// Writes a folder of what proves the delivery of a file, by the register of an office and a record, and then its line. `sources` is the sum of this
-/// program's sources. It is refused if the register has no such file, or has not all of it, or if no session of the record says anything of it. A record
-/// that is cut off or was changed is told of, and the folder has no sums then. Returns the exit status.
+/// Writes a folder of what proves the delivery of a file, by the register of an office and a record, and then its line. It is refused if the register has
+/// no such file, or has not all of it, or if no session of the record says anything of it. A record that is cut off or was changed is told of, and the
+/// folder has no sums then. Returns the exit status.
 ///
 /// # Errors
 /// [`Fault::File`] if the record can't be read, the folder is there, or it can't be written; [`Fault::Run`] if the office failed, or `out` returned an
@@ -57,7 +57,6 @@ struct Filed {
 pub fn write_evidence<O: Office>(
     rt: &HostRuntime,
     line: &Evidence<'_>,
-    sources: &str,
     office: &mut O,
     out: &mut impl Write,
 ) -> Result<u8, Fault> {
@@ -74,7 +73,7 @@ pub fn write_evidence<O: Office>(
         bundle.remove();
         return tell(Outcome::Refused(Refusal::Unknown), out);
     }
-    fill(line.folder, sources, office, &filed, &search, &mut bundle)?;
+    fill(line.folder, office, &filed, &search, &mut bundle)?;
     tell_done(rt.alloc(), line.no, out)
 }
 
@@ -94,7 +93,6 @@ fn tell_done(alloc: Global, no: u64, out: &mut impl Write) -> Result<u8, Fault> 
 /// Writes what the folder has beside its sessions.
 fn fill<O: Office>(
     record: &str,
-    sources: &str,
     office: &mut O,
     filed: &Filed,
     search: &Search,
@@ -103,7 +101,7 @@ fn fill<O: Office>(
     let alloc = bundle.alloc();
     let sum = write_local(alloc, office, filed, bundle)?;
     bundle.copy_days(record, search.days)?;
-    write_texts(alloc, sources, filed, search, sum.as_str(), bundle)?;
+    write_texts(alloc, filed, search, sum.as_str(), bundle)?;
     bundle.seal()
 }
 
@@ -295,13 +293,12 @@ fn unwritten(fault: Fault) -> Fault {
 /// Writes what tells of the folder, and what checks it.
 fn write_texts(
     alloc: Global,
-    sources: &str,
     filed: &Filed,
     search: &Search,
     sum: &str,
     bundle: &mut Bundle<'_>,
 ) -> Result<(), Fault> {
-    let readme = readme_of(alloc, sources, filed, search, sum)?;
+    let readme = readme_of(alloc, filed, search, sum)?;
     bundle.put("README", readme.as_bytes())?;
     bundle.put("verify.sh", verify_script().as_bytes())
 }
@@ -309,7 +306,6 @@ fn write_texts(
 /// What is told of the folder.
 fn readme_of(
     alloc: Global,
-    sources: &str,
     filed: &Filed,
     search: &Search,
     sum: &str,
@@ -321,7 +317,7 @@ fn readme_of(
         &filed.facts(sum),
         &filed.answer(moment.as_str()),
         sessions.as_slice(),
-        &station_of(search.found.last(), sources),
+        &station_of(search.found.last()),
         filed.standing,
     )
 }
@@ -347,18 +343,17 @@ fn facts_of<'a>(
     Ok(facts)
 }
 
-/// What is told of the station, by the last session. Its sources are those of this program if it has the same version.
-fn station_of<'a>(last: Option<&'a FoundSession>, sources: &'a str) -> StationFacts<'a> {
+/// What is told of the station, by the last session.
+fn station_of(last: Option<&FoundSession>) -> StationFacts<'_> {
     match last {
-        Some(session) => StationFacts {
-            version: session.version.as_str(),
-            sources: if session.version.as_str() == VERSION {
-                sources
-            } else {
-                UNTOLD
-            },
-            book: session.book.as_str(),
-        },
+        Some(session) => {
+            let (version, sources) = session.program();
+            StationFacts {
+                version,
+                sources: sources.unwrap_or(UNTOLD),
+                book: session.book.as_str(),
+            }
+        }
         None => StationFacts {
             version: UNTOLD,
             sources: UNTOLD,

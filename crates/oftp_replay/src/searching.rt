@@ -54,8 +54,8 @@ pub(crate) struct FoundSession {
     ended: String,
     heard: SessionParts,
     said: SessionParts,
-    // The program's version by the record, and the sum of the book there.
-    pub(crate) version: String,
+    // The program's version and its sources by the record, and the sum of the book there.
+    version: String,
     pub(crate) book: String,
 }
 
@@ -302,6 +302,14 @@ fn write_part(
 }
 
 impl FoundSession {
+    /// The version of the program by the record, and the sum of its sources if the record has it.
+    pub(crate) fn program(&self) -> (&str, Option<&str>) {
+        match self.version.as_str().split_once("\nsources ") {
+            Some((version, sources)) => (version, Some(sources)),
+            None => (self.version.as_str(), None),
+        }
+    }
+
     /// What is told of it.
     pub(crate) fn facts(&self) -> SessionFacts<'_> {
         SessionFacts {

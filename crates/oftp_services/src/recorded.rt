@@ -7,9 +7,11 @@ use oftp_recording::{Recorder, Syncing};
 use oftp_register::Office;
 use oftp_sockets::Keeper;
 
-/// The record of a service, if it has one, and the book with which that begins.
+/// The record of a service, if it has one, and what stands at its beginning.
 #[derive(Clone, Copy)]
 pub(crate) struct Recorded<'a> {
+    /// The line with the sum of the program's sources.
+    pub(crate) sources: &'a str,
     /// The octets of its book.
     pub(crate) book: &'a [u8],
     /// Its record.
@@ -27,7 +29,7 @@ impl Recorded<'_> {
             return Ok(());
         };
         let mut life = keeper.open(rt).map_err(Trouble::fault)?;
-        let begun = recorder.begin(VERSION, self.book, &mut life);
+        let begun = recorder.begin(VERSION, self.sources, self.book, &mut life);
         keeper.close(rt, life);
         begun
     }

@@ -41,15 +41,21 @@ struct Written<'a> {
 /// [`Fault::Book`], [`Fault::File`], [`Fault::Store`] or [`Fault::Socket`] if the book, the trace, the events, the database or a port can't be
 /// opened;
 /// those of [`serve`].
-pub fn run(rt: &HostRuntime, line: &Run<'_>, out: &mut impl Write) -> Result<(), Fault> {
+pub fn run(
+    rt: &HostRuntime,
+    line: &Run<'_>,
+    sources: &str,
+    out: &mut impl Write,
+) -> Result<(), Fault> {
     let news = News::new(rt.alloc());
-    run_noting(rt, line, &news, out)
+    run_noting(rt, line, sources, &news, out)
 }
 
 /// Serves partners and commands as [`run`] says. Its events are noted here.
 fn run_noting<'n>(
     rt: &'n HostRuntime,
     line: &Run<'_>,
+    sources: &str,
     news: &'n News,
     out: &mut impl Write,
 ) -> Result<(), Fault> {
@@ -60,6 +66,7 @@ fn run_noting<'n>(
     let recorder = recorder_of(rt, line.files.record, line.sync)?;
     let station = station_of(&book, &line.terms, trace.as_ref());
     let recorded = Recorded {
+        sources,
         book: octets.as_slice(),
         recorder: recorder.as_ref(),
     };

@@ -109,17 +109,19 @@ fn bare_station(book: &Book) -> Station<'_> {
 pub fn listen(
     rt: &HostRuntime,
     line: &Listen<'_>,
+    sources: &str,
     out: &mut impl Write,
     err: &mut impl Write,
 ) -> Result<(), Fault> {
     let news = News::new(rt.alloc());
-    listen_noting(rt, line, &news, &mut EndLines { out, err })
+    listen_noting(rt, line, sources, &news, &mut EndLines { out, err })
 }
 
 /// Serves the sessions of callers as [`listen`] says. Their events are noted here.
 fn listen_noting<'n>(
     rt: &'n HostRuntime,
     line: &Listen<'_>,
+    sources: &str,
     news: &'n News,
     reporter: &mut impl Reporter,
 ) -> Result<(), Fault> {
@@ -137,6 +139,7 @@ fn listen_noting<'n>(
         ..config
     };
     let recorded = Recorded {
+        sources,
         book: octets.as_slice(),
         recorder: recorder.as_ref(),
     };
@@ -181,17 +184,19 @@ fn serve_recorded(
 pub fn call(
     rt: &HostRuntime,
     line: &Call<'_>,
+    sources: &str,
     octets: &[u8],
     book: &Book,
 ) -> Result<Outcome, Fault> {
     let news = News::new(rt.alloc());
-    call_noting(rt, line, octets, book, &news)
+    call_noting(rt, line, sources, octets, book, &news)
 }
 
 /// Calls a partner as [`call`] says. The events of that are noted here.
 fn call_noting<'n>(
     rt: &'n HostRuntime,
     line: &Call<'_>,
+    sources: &str,
     octets: &[u8],
     book: &Book,
     news: &'n News,
@@ -200,6 +205,7 @@ fn call_noting<'n>(
     let events = events_of(rt, &line.files, news)?;
     let recorder = recorder_of(rt, line.files.record, RecordSync::Synced)?;
     let recorded = Recorded {
+        sources,
         book: octets,
         recorder: recorder.as_ref(),
     };

@@ -108,16 +108,16 @@ fn outcome_of(
     out: &mut impl Write,
 ) -> Result<Option<Outcome>, Fault> {
     let outcome = match line {
-        Line::Submit(submit) => commands::submit(rt, submit, out)?,
-        Line::Resend(resend) => commands::resend(rt, resend, out)?,
-        Line::Release(release) => commands::release(rt, release, out)?,
-        Line::Refuse(refuse) => commands::refuse(rt, refuse, out)?,
-        Line::Backup(backup) => commands::back_up(rt, backup, out)?,
+        Line::Submit(submit) => commands::submit(rt, submit, SOURCES, out)?,
+        Line::Resend(resend) => commands::resend(rt, resend, SOURCES, out)?,
+        Line::Release(release) => commands::release(rt, release, SOURCES, out)?,
+        Line::Refuse(refuse) => commands::refuse(rt, refuse, SOURCES, out)?,
+        Line::Backup(backup) => commands::back_up(rt, backup, SOURCES, out)?,
         Line::Init { database } => told(commands::initiate(rt, database), out)?,
         Line::Migrate { database } => told(commands::migrate(rt, database), out)?,
         Line::Check { book } => told(check(rt, book), out)?,
         Line::Fetch(fetch) => told(commands::fetch(rt, fetch), out)?,
-        Line::Feed(feed) => told(commands::feed(rt, feed), out)?,
+        Line::Feed(feed) => told(commands::feed(rt, feed, SOURCES), out)?,
         Line::Stop(stop) => told(commands::stop(rt, stop), out)?,
         Line::Reload { database } => told(commands::reload(rt, database), out)?,
         Line::Call(call) => told(call_partner(rt, call), out)?,
@@ -143,8 +143,8 @@ fn carry_out_alone(
     match line {
         Line::Help => print_help(rt, out),
         Line::Version => print_version(out),
-        Line::Offer(offer) => commands::offer(rt, offer, out),
-        Line::Collect(collect) => commands::collect(rt, collect, out),
+        Line::Offer(offer) => commands::offer(rt, offer, SOURCES, out),
+        Line::Collect(collect) => commands::collect(rt, collect, SOURCES, out),
         Line::Report(what) => commands::write_report(rt, what, out),
         Line::Audit(audit) => commands::audit(rt, audit, out),
         Line::History(history) => commands::history(rt, history, out),
@@ -159,9 +159,9 @@ fn carry_out_alone(
             explain_record(rt, folder, *session, out)
         }
         Line::Replay(replay) => commands::replay(rt, replay, out),
-        Line::Evidence(evidence) => commands::evidence(rt, evidence, sum_of_sources(), out),
-        Line::Run(run) => done(services::run(rt, run, out)),
-        Line::Listen(listen) => done(services::listen(rt, listen, out, err)),
+        Line::Evidence(evidence) => commands::evidence(rt, evidence, out),
+        Line::Run(run) => done(services::run(rt, run, SOURCES, out)),
+        Line::Listen(listen) => done(services::listen(rt, listen, SOURCES, out, err)),
         Line::Http(http) => done(services::http(rt, http, out, err)),
         _ => Ok(DONE),
     }
@@ -171,7 +171,7 @@ fn carry_out_alone(
 fn call_partner(rt: &HostRuntime, line: &Call<'_>) -> Result<Outcome, Fault> {
     match commands::call(rt, line)? {
         Called::Told(outcome) => Ok(outcome),
-        Called::Alone(octets, book) => services::call(rt, line, octets.as_slice(), &book),
+        Called::Alone(octets, book) => services::call(rt, line, SOURCES, octets.as_slice(), &book),
     }
 }
 
@@ -207,11 +207,6 @@ fn print(text: &str, out: &mut impl Write) -> Result<u8, Fault> {
 fn print_version(out: &mut impl Write) -> Result<u8, Fault> {
     print(VERSION, out)?;
     print(SOURCES, out)
-}
-
-/// The sum of the sources that the program was built from.
-fn sum_of_sources() -> &'static str {
-    SOURCES.strip_prefix("sources ").unwrap_or(SOURCES)
 }
 
 /// Reads the book, and counts its partners.
