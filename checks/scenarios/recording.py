@@ -100,6 +100,8 @@ def commands(room):
         service.ends()
     expect([oct(file.stat().st_mode)[-3:] for file in (room / "record").iterdir()], ["600"], "the modes")
     expect(list(users_in(room)), [str(os.geteuid())] * 5, "the users of the calls")
+    program = subprocess.run([PROGRAM, "version"], capture_output=True, timeout=LONG, check=True).stdout.rstrip()
+    expect(program in file_of(room).read_bytes()[:300], True, "whether the beginning has the program's version and its sources")
     expect_same(room, 1, 5)
     # It goes on from its end, too.
     expect_same(room, 0, 0)
