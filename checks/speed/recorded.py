@@ -5,12 +5,12 @@
 
 Three stations receive 8 MiB in large windows by turns: without a record, with one, and with one that isn't synced. The least time of each counts.
 With a record a session may take 1.3 times as long on the clock, and 1.1 times without syncs. `replay` of such a session may take the processor no
-longer than `feed` of its octets, each over a new database. A record that is read to its end may take a processor 10 s for 1 GB. That is what `audit`
+longer than `feed` of its octets, with a record and without one, each over a new database. A record that is read to its end may take a processor 10 s for 1 GB. That is what `audit`
 takes against it, without what it takes against a record of four entries. With `--assert` it fails if something takes longer than it may. The last
 line is `N passed, M failed`.
 
-Shows: what a record adds to a session of 8 MiB, synced and not; what `replay` takes beside `feed`; what reading a record takes. It fails where that is
-more than 1.3 and 1.1 times, longer than `feed`, or more than 10 s of a processor for 1 GB
+Shows: what a record adds to a session of 8 MiB, synced and not; what `replay` takes beside `feed`, which records or not; what reading a record takes.
+It fails where that is more than 1.3 and 1.1 times, longer than `feed`, or more than 10 s of a processor for 1 GB
 """
 
 import argparse
@@ -124,18 +124,22 @@ def replays(room):
         station.program.wait()
     record, heard = station.database.parent / "record", room.path / "heard"
     heard.write_bytes(spoken(*file_of("IN", 64 * MEBI)))
-    of_book = ["--book", room.book]
-    replayed, fed = [], []
+    of_book, own = ["--book", room.book], room.path / "own"
+    replayed, fed, recorded = [], [], []
     for _ in range(3):
+        shutil.rmtree(own, ignore_errors=True)
+        own.mkdir()
         replayed.append(run([PROGRAM, "replay", "--record", record, "--db", room.again("again"), *of_book]))
         fed.append(run([PROGRAM, "feed", "--db", room.again("fed"), *of_book, heard, room.path / "said"]))
-    replayed, fed = (by_processor(runs).processor for runs in (replayed, fed))
+        recorded.append(run([PROGRAM, "feed", "--db", room.again("fed"), *of_book, "--record", own, heard, room.path / "said"]))
+    replayed, fed, recorded = (by_processor(runs).processor for runs in (replayed, fed, recorded))
     short = short_record(room, station.database)
     read = audited(station.database, record) - audited(station.database, short)
     size = sum(file.stat().st_size for file in record.iterdir())
     per_gigabyte = read / size * 1e9
     told = [
         (f"a session of 64 MiB: {fed:.2f} s by `feed`, {replayed:.2f} s by `replay`, {replayed / fed:.2f} times", replayed <= fed + OFF),
+        (f"it is recorded in {recorded:.2f} s by `feed`, and replayed in {replayed / recorded:.2f} times that", replayed <= recorded + OFF),
         (f"a record of {size / 1e6:.0f} MB is read in {read:.2f} s, {per_gigabyte:.1f} s for 1 GB", 0 < per_gigabyte <= 10),
     ]
     for line, is_well in told:
