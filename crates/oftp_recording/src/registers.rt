@@ -101,12 +101,23 @@ fn add_rows<O: Office>(
     Ok(())
 }
 
-/// Adds the digest of each of at most eight rows.
+/// Adds the digest of each row of a group. Those of eight are added at once.
 fn add_group(hasher: &mut Sha256, room: &mut Vec<u8>, rows: &[Row]) {
-    let mut messages: [&[u8]; LANES] = [&[]; LANES];
-    for (message, row) in messages.iter_mut().zip(rows) {
-        *message = row.octets();
+    if let [a, b, c, d, e, f, g, h] = rows {
+        let eight = [
+            a.octets(),
+            b.octets(),
+            c.octets(),
+            d.octets(),
+            e.octets(),
+            f.octets(),
+            g.octets(),
+            h.octets(),
+        ];
+        add_digests(hasher, room, &eight);
+    } else {
+        for row in rows {
+            add_digests(hasher, room, &[row.octets()]);
+        }
     }
-    let count = rows.len().min(LANES);
-    add_digests(hasher, room, messages.get(..count).unwrap_or(&[]));
 }

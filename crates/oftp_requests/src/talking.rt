@@ -117,10 +117,15 @@ fn office_of(stage: Option<Stage>) -> OfficeState
 pub fn sequel_of(stage: Option<Stage>, noted: Option<Result<End, Trouble>>) -> Sequel
     ensures { result ≡ sequel_of stage noted }
 {
-    match (office_of(stage), noted) {
-        (OfficeState::Working, Some(ended)) => Sequel::Ends(ended, farewell_of(stage)),
-        (OfficeState::Working, None) if goes_on(stage) => Sequel::GoesOn,
-        _ => Sequel::Ends(result_of(stage), farewell_of(stage)),
+    // It is copied more than once.
+    let standing = &stage;
+    match office_of(*standing) {
+        OfficeState::Failed => Sequel::Ends(result_of(*standing), farewell_of(*standing)),
+        OfficeState::Working => match noted {
+            Some(ended) => Sequel::Ends(ended, farewell_of(*standing)),
+            None if goes_on(*standing) => Sequel::GoesOn,
+            None => Sequel::Ends(result_of(*standing), farewell_of(*standing)),
+        },
     }
 }
 
