@@ -2,4 +2,4 @@
 
 /// The SHA-256 of the sources, but of this file, as `checks/lint/version.py` computes it.
 pub const SOURCES: &str =
-    "sources 5d0886813a54db9a0a495eeb2a72ba53dbca4f4d9f4f7aa55cf83e44c6203038";
+    "sources 18cce78faf904690c21737e064f1954e76c0984002e4fd678f5a4507f7a9ca0e";
