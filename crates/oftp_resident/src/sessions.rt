@@ -80,7 +80,7 @@ impl<'a> Shell<'a> {
         let _ = peer.send();
         match sequel_of(stage, peer.ended) {
             Sequel::GoesOn => {
-                let step = peer.step(stage, heard);
+                let step = peer.step(&stage, heard);
                 self.tell_now(id, Signal::Waits(step))
             }
             Sequel::Ends(ended, farewell) => {
@@ -189,8 +189,8 @@ impl<'a> Peer<'a> {
     }
 
     /// What a step leaves that heard so many octets.
-    fn step(&mut self, stage: Option<Stage>, heard: u32) -> Step {
-        let input = match need_of(stage) {
+    fn step(&mut self, stage: &Option<Stage>, heard: u32) -> Step {
+        let input = match need_of(*stage) {
             Need::Nothing => {
                 self.reading = Reading::Sending;
                 Input::Here
