@@ -12,7 +12,8 @@ done or not done.
 
 After each round both stations are stopped for a moment, and stock sqlite3 reads copies of both databases. What a command said is done is there,
 once. So is each file whose end a station has answered, with its octets, and each end response that it has answered. Both hold what two stations
-promise (checks/lib/pairs.py). At the end nothing breaks any more: then all is delivered or returned.
+promise (checks/lib/pairs.py). At the end nothing breaks any more: then all is delivered or returned. The record of each station, played over a new database,
+has to give the same tables.
 
 Two pairs live at once. In the second one the supplier's station is never killed. What it holds at the end is compared with what it held at the
 beginning (checks/lib/staying.py), and behind ten minutes, too. It goes on behind its time until commands and stations were killed, commands lost
@@ -23,7 +24,7 @@ Shows: two pairs of `run` for 30 s (`--minutes N` for longer), which call by the
 silent, and stations are killed by SIGKILL at any moment, also while they open. Two operators work at each station all the time; their commands are
 killed or lose their station. After each round what a command said is done is there, once. So are what was accepted and each response that was
 answered, and both stations have what they promise each other. At the end all is answered, and a station that stayed has the memory and descriptors
-that it had
+that it had. The record of each station, played again, gives the same tables
 """
 
 import argparse
@@ -48,6 +49,7 @@ sys.path.insert(0, str(Path(__file__).resolve().parents[1] / "lib"))
 
 import killed
 import oftp
+import replays
 import tables
 from killed import Wrong
 from listing_files import ask
@@ -154,6 +156,8 @@ class Station(killed.Station):
         self.life, self.heeding = threading.Lock(), threading.Lock()
         self.resident = None
         self.lines, self.faults = room / "lines", room / "faults"
+        self.record = room / "record"
+        self.record.mkdir()
         self.deaths = self.readies = self.read_to = 0
         self.has_ended = False
         self.ends = Counter()
@@ -162,7 +166,7 @@ class Station(killed.Station):
 
     def start(self):
         """Starts it, and waits until it is ready. It answers whether it was, or was killed before."""
-        words = ["--http-port", str(self.requests), "--call-every", "1", "--patience", str(PATIENCE), "--admission", "5"]
+        words = ["--http-port", str(self.requests), "--call-every", "1", "--patience", str(PATIENCE), "--admission", "5", "--record", self.record]
         with self.life, open(self.lines, "ab") as output, open(self.faults, "ab") as faults:
             if self.has_ended:
                 return True
@@ -317,6 +321,10 @@ def have_tasks_done(resident):
 # ---- its operators
 
 
+# The commands that change a database, which they have themselves while their station is dead.
+RECORDED = ("submit", "release", "refuse", "call")
+
+
 class Operator:
     """Who gives commands beside a station, one after another, some of which are killed."""
 
@@ -338,7 +346,8 @@ class Operator:
         """What a command tells, or None where that isn't known: it was killed within its line, or within a report, or its station was."""
         station = self.station
         of_book = ["--book", station.book] if command not in ("fetch", "report", "init") else []
-        words = [PROGRAM, command, "--db", station.database, *of_book, *rest]
+        recorded = ["--record", station.record] if command in RECORDED else []
+        words = [PROGRAM, command, "--db", station.database, *of_book, *recorded, *rest]
         deaths = station.deaths
         if not self.pair.is_calm and self.chance.random() < KILLED:
             done = station.end_of(command, words)
@@ -758,6 +767,11 @@ def lived(room, chance, stays, seconds):
     fault = None
     try:
         pair.live(seconds)
+        pair.end()
+        for station in pair.stations:
+            why = replays.why_other(station.room, station.database, station.record, [station.book.read_text()])
+            if why:
+                raise Wrong(f"{station.name}: {why}")
     except (Wrong, tables.Damaged, oftp.Unreadable, OSError, subprocess.SubprocessError) as why:
         fault = f"{type(why).__name__}: {why}"
         pair.tell(fault)

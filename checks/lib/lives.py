@@ -40,9 +40,12 @@ class Life:
     """A folder with the database of a row, and `run` over it, which begins where an act needs it. Another one begins where a session has
     another book, or another program changed the database."""
 
-    def __init__(self, room, **how):
+    def __init__(self, room, record=None, **how):
         self.room = room
         self.database = room / "database"
+        # The folder of its record, if it has one, and the texts of its books.
+        self.record = record
+        self.books = []
         self.how = how
         self.book = self.station = None
         self.turns = itertools.count()
@@ -69,8 +72,10 @@ class Life:
         self.end()
         self.book = book
         own = self.room / "served.toml"
-        own.write_text(book.read_text().replace(ADDRESS, f"127.0.0.1:{self.post.getsockname()[1]}"))
-        self.station = Resident(self.room, "--http-port", str(self.requests), book=own, port=self.port, **self.how)
+        self.books.append(book.read_text().replace(ADDRESS, f"127.0.0.1:{self.post.getsockname()[1]}"))
+        own.write_text(self.books[-1])
+        recorded = ["--record", self.record] if self.record else []
+        self.station = Resident(self.room, "--http-port", str(self.requests), *recorded, book=own, port=self.port, **self.how)
         expect(self.station.either(), "ready", "the first line")
 
     def end(self):

@@ -23,7 +23,8 @@ has said all that it has to, and also before, when it may be any of several. Ord
 session's end, and to be done then, in their order, unless the command is gone. An order beside a caller who isn't let in yet is done at once. Some
 sessions are cut off, by a close or by a reset. What is left has to be what the model had after the last change of which an octet of the answer was
 read. Or it is what the model had after a later one. At the end the station is killed, or ended by SIGTERM, some within a session. A life in which one
-of several registers was left may go on otherwise when it is played again.
+of several registers was left may go on otherwise when it is played again. Each second of these lives is recorded, and its record, played over a new
+database, has to give the same tables.
 
 The memory and descriptors of services and stations at the end are compared with those at the beginning (checks/lib/staying.py). The last
 line is `N passed, M failed`, which counts sessions.
@@ -33,7 +34,8 @@ Shows: random sessions in both roles with three partners, right, wrong, changed,
 last. Octets, lines, exit statuses and tables are those of a model that was written apart from the station's code (`checks/lib/model.py`). In the
 lives of `run` there are look-ups between two pieces of a session, by the commands and by HTTP. They show what the model has at that moment. Orders
 within a session are done behind it in their order, or not at all if their command is gone. There are calls; and sessions that are closed, reset or
-end with a kill. After these the database has what the model had after the last answered change, or after a later one that was asked for
+end with a kill. After these the database has what the model had after the last answered change, or after a later one that was asked for. The record of such a life,
+played again, gives the same tables
 """
 
 import argparse
@@ -43,6 +45,7 @@ import itertools
 import multiprocessing
 import os
 import random
+import shutil
 import socket
 import subprocess
 import sys
@@ -57,6 +60,7 @@ sys.path.insert(0, str(Path(__file__).resolve().parents[1] / "lib"))
 import acts
 import model
 import oftp
+import replays
 import tables
 from listing_files import END, ask, compare_report, reply_for, shown
 from partner import RECORDS, STATION, TEXTS, Partner, change
@@ -452,6 +456,13 @@ class ResidentLife(Life):
             book = self.room / "served"
             book.write_text(model.text_of(self.served, self.address))
             words = ["--http-port", str(self.requests)]
+            # Each second life is recorded.
+            self.books = [book.read_text()]
+            record = self.room / "record"
+            shutil.rmtree(record, ignore_errors=True)
+            if self.seed % 2:
+                record.mkdir()
+                words += ["--record", record]
             self.station = stack.enter_context(StayingStation(self.room, self.have_tasks_done, *words, book=book, port=port))
             self.station.begin()
             self.act_often()
@@ -459,6 +470,9 @@ class ResidentLife(Life):
             self.end()
             self.compare_tables()
             self.look_up_without()
+            why = replays.why_other(self.room, self.database, record, self.books) if record.is_dir() else None
+            if why:
+                raise Differs(why)
 
     def change_book(self):
         """The operator takes another one. The station may read it too; if not, it calls and serves callers by the one that it has."""
@@ -468,6 +482,7 @@ class ResidentLife(Life):
             self.served = served
             return
         (self.room / "served").write_text(model.text_of(self.served, self.address))
+        self.books.append((self.room / "served").read_text())
         self.told.append("    which the station reads")
         expect(self.give("reload", "--db", "database").stdout, b"done: reload\n", "reload")
 

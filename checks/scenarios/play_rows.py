@@ -11,13 +11,13 @@ memory too.
 
 Each row that has no error of the book or the database is also lived by one `run`, three times. The operator's commands ask it between the sessions,
 and the octets come in pieces of one octet, of 7 and of 100. Behind each piece, once its answers are there, something is looked up over HTTP or
-through the socket for commands. It shows what the model of a station has at that moment (checks/lib/model.py). The last line is `N passed, M
-failed`.
+through the socket for commands. It shows what the model of a station has at that moment (checks/lib/model.py). The life in pieces of one octet is recorded,
+and its record, played over a new database, has to give the same tables. The last line is `N passed, M failed`.
 
 Shows: the rows, each in one piece, octet by octet and as a conversation, against the script's own table of the commands. They are over a database,
 and those of one session in memory too. Stock sqlite3 reads what is left. Those without an error of the book or the database are lived by one `run`
 too. They are in pieces of one octet, of 7 and of 100, with the operator's commands between the sessions. A look-up behind each piece (behind each
-seventh of more than 300) shows what the model has
+seventh of more than 300) shows what the model has. A record of each life, played again, gives the same tables
 """
 
 import os
@@ -30,6 +30,7 @@ from pathlib import Path
 
 sys.path.insert(0, str(Path(__file__).resolve().parents[1] / "lib"))
 
+import replays
 import tables
 from acts import as_conversation, check_left, in_one_piece, octet_by_octet, play_act
 from lives import Life, is_lived
@@ -39,6 +40,8 @@ from services import Wrong
 WAYS = [in_one_piece, octet_by_octet, as_conversation]
 # The lengths of pieces in a life.
 LENGTHS = [1, 7, 100]
+# The one whose life is recorded.
+RECORDED = 1
 
 
 def play_over_database(row, way):
@@ -63,11 +66,20 @@ def play_over_memory(row, way):
         return play_act(way, row.acts[0], Path(room), None)
 
 
+def record_in(room, size, is_ours):
+    """The folder of the record of a life in pieces of this size, if that has one: not where another program changes the tables."""
+    if size != RECORDED or not is_ours:
+        return None
+    record = room / "record"
+    record.mkdir()
+    return record
+
+
 def live(row, size):
     """Plays a row over a life of `run`, its octets in pieces of this size. It returns why it differs, or None, and the tables that are left."""
     # Where another program changes the tables, they may be none that the model has.
     looks = not any(isinstance(act, Statement) for act in row.acts)
-    with tempfile.TemporaryDirectory() as room, Life(Path(room)) as life:
+    with tempfile.TemporaryDirectory() as room, Life(Path(room), record_in(Path(room), size, looks)) as life:
         try:
             for number, act in enumerate(row.acts, 1):
                 fault = life.play(act, lambda session: life.hold(session, size, looks))
@@ -75,6 +87,8 @@ def live(row, size):
                     return f"act {number}, {type(act).__name__.lower()}: {fault}", None
             life.end()
             left = tables.read(life.database)
+            if life.record and life.books:
+                replays.expect_same(Path(room), life.database, life.record, life.books)
         except (Wrong, tables.Damaged, OSError, subprocess.SubprocessError) as why:
             return str(why), None
         return tables.unfit(left) or check_left(row, left), left
