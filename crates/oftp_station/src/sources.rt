@@ -2,4 +2,4 @@
 
 /// The SHA-256 of the sources, but of this file, as `checks/lint/version.py` computes it.
 pub const SOURCES: &str =
-    "sources 18cce78faf904690c21737e064f1954e76c0984002e4fd678f5a4507f7a9ca0e";
+    "sources 66b16c02c00e899e079cba74e7213d8246c131fa37825d4c28cc4db2036f86c7";
