@@ -30,7 +30,7 @@ fn hidden(
 ) -> Option<Vec<u8>> {
     let mut finder = finder;
     let mut hidden = Vec::new(alloc);
-    for piece in octets.chunks(size) {
+    for piece in octets.chunks(size.max(1)) {
         if finder.hide(password, piece, &mut hidden).is_err() {
             return None;
         }
@@ -48,7 +48,7 @@ fn shown(
 ) -> Option<Vec<u8>> {
     let mut finder = finder;
     let mut shown = Vec::new(alloc);
-    for piece in octets.chunks(size) {
+    for piece in octets.chunks(size.max(1)) {
         if finder.show(password, piece, &mut shown).is_err() {
             return None;
         }
