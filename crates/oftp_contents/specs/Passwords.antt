@@ -40,12 +40,13 @@ passed_by f octet = record {
   is_ssid = if f.passed == letter_at f.order then octet == 88 else f.is_ssid;
 }
 
--- An octet as it is recorded. Of a password a space is itself, the right character is *, another one that is allowed is ?, any other octet is !
+-- An octet as it is recorded. Of a password a space is itself, the right character an asterisk (42), another one that is allowed a question mark (63),
+-- any other octet an exclamation mark (33)
 unfoldable pub hidden_octet : Option ℕ → ℕ → ℕ
 hidden_octet None octet = octet
 hidden_octet (Some own) octet = if octet == 32 then 32 else if octet == own then 42 else if is_allowed octet then 63 else 33
 
--- An octet as it is played. For * it is the right character, for ? another one that is allowed
+-- An octet as it is played. For an asterisk it is the right character, for a question mark another one that is allowed
 unfoldable pub shown_octet : Option ℕ → ℕ → ℕ
 shown_octet None octet = octet
 shown_octet (Some own) octet = if octet == 42 then own else if octet == 63 then (if own == 65 then 66 else 65) else octet

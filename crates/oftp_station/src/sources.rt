@@ -2,4 +2,4 @@
 
 /// The SHA-256 of the sources, but of this file, as `checks/lint/version.py` computes it.
 pub const SOURCES: &str =
-    "sources 66b16c02c00e899e079cba74e7213d8246c131fa37825d4c28cc4db2036f86c7";
+    "sources 352a8eeaf038e4ad7218b05c603dedb4882e9dfe322b155e040cd76eecea8ecf";
