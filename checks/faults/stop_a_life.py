@@ -1,19 +1,21 @@
 #!/usr/bin/env python3
-"""Stops `run` at each of its calls on its database within one life, and has another one go on.
+"""Stops `run` at each of its calls on its database and its record within one life, and has another one go on.
 
     checks/faults/stop_a_life.py [--every N]      at each Nth call (default: 1)
 
 In the life a file is submitted. A partner's file of 2,500 octets comes in two sessions, since it breaks off in the first. The submitted one goes
 out in the second. The file is released; and the station calls, its End-to-End Response goes out, and the partner's comes. The partner sends one
-command at a time, and between two of them something is looked up, mostly over HTTP. At the call on the database the station is killed before the
-call, or killed after half of a write. Or it gets an error, then and at each later call. What is left has each change whose command told that it is
+command at a time, and between two of them something is looked up, mostly over HTTP. At the call on the database, or at the sync of its record, the
+station is killed before the call, or killed after half of a write. Or it gets an error, then and at each later call. What is left has each change whose command told that it is
 done, or of whose answer an octet was read. It has at most one change more, as in the model of a station (checks/lib/model.py). Another `run` opens
 it, shows the same, and lives the life to its end. What broke is done again, by a partner that knows only what it heard. Then both files and both
-responses are there, once. It needs a C compiler. The last line is `N passed, M failed`.
+responses are there, once. Both lives are recorded in one folder, and `replay` of that over a new database gives the same tables. It needs a C compiler.
+The last line is `N passed, M failed`.
 
-Shows: where there is a C compiler: `run` is killed, torn and failed at each write and sync on its database within one life. In it are a submitted
-file that goes out, a partner's that comes in two sessions, its release, a call with both responses, and look-ups. What is left has each change
-that was answered or told as done, and at most one more. Another `run` shows the same and lives the life to its end
+Shows: where there is a C compiler: `run` is killed, torn and failed at each write and sync on its database, and at each sync of its record, within
+one life. In it are a submitted file that goes out, a partner's that comes in two sessions, its release, a call with both responses, and look-ups.
+What is left has each change that was answered or told as done, and at most one more. Another `run` shows the same and lives the life to its end.
+What both recorded, played again, gives the same tables
 """
 
 import argparse
@@ -29,6 +31,7 @@ sys.path.insert(0, str(Path(__file__).resolve().parents[1] / "lib"))
 import goes_on
 import model
 import oftp
+import replays
 import tables
 from lives import Life, wait
 from row_files import ROWS, Session, content
@@ -42,7 +45,7 @@ FILE, FIRST = content(0, 2500), 2250
 SUBMITTED = content(0, 250)
 IDENTITY = {"dataset": "INV.0001", "date": "20240201", "time": "0800000001"}
 NO_RESOURCES = oftp.frame(oftp.spell("ESID", {"reason": "08"}))
-OFFICE = b"fault: 3 office\n"
+OFFICE, RECORD = b"fault: 3 office\n", b"fault: 7 file\n"
 # How many lives are tried at once, until one of them goes through.
 AT_ONCE = 16
 
@@ -118,7 +121,7 @@ class Lived(Life):
         self.known = register
         self.at = at
         self.reached = reached
-        self.is_ready = False
+        self.is_ready = self.has_failed = False
 
     def live(self):
         for self.at in range(self.at, len(self.steps)):
@@ -181,6 +184,12 @@ class Lived(Life):
         except (Wrong, OSError, subprocess.SubprocessError) as why:
             raise self.stopped(self.left_by(talk)) or why
 
+    def next_line(self):
+        """The line of a session, or of the station, where its record failed at the end of that."""
+        told = super().next_line()
+        self.has_failed = told.encode() + b"\n" == RECORD
+        return told
+
     def left_by(self, talk):
         """What may be left of a session: the register of the last answer of which an octet was read, and the next one."""
         if talk is None:
@@ -222,22 +231,26 @@ class Lived(Life):
 def play(how, number, library):
     """A life that is stopped in this way at the call of this number. It returns whether there is such a call."""
     with tempfile.TemporaryDirectory() as path:
-        room, reached, partner = Path(path) / "room", Path(path) / "reached", Partner()
+        room, record, reached = (Path(path) / name for name in ("room", "record", "reached"))
+        partner = Partner()
         room.mkdir()
-        with Lived(room, partner, model.Register(), 0, reached, environment=stopping(how, number, library, reached)) as life:
+        record.mkdir()
+        with Lived(room, partner, model.Register(), 0, reached, record=record, environment=stopping(how, number, library, reached)) as life:
             try:
                 life.serve(BOOK)
                 life.live()
                 left = life.known
             except Stopped as stop:
                 left = register_left(life, how, stop.registers)
-        with Lived(room, partner, left, life.at) as next_life:
+        with Lived(room, partner, left, life.at, record=record) as next_life:
             next_life.serve(BOOK)
             for _ in range(12):
                 next_life.look(left)
             expect(next_life.unlike_left(left), None, "what the next station makes of it")
             next_life.live()
             next_life.expect_whole()
+            next_life.end()
+        replays.expect_same(Path(path), next_life.database, record, next_life.books)
         return reached.exists()
 
 
@@ -253,12 +266,14 @@ def register_left(life, how, registers):
 
 
 def expect_ended(life, how):
-    """The station has ended as one that is stopped in this way. What failed before it was ready was its first line."""
+    """The station has ended as one that is stopped in this way. What failed before it was ready was its first line. A sync of the record that failed is
+    told as such."""
     told = life.station.rest()
-    wanted = (-9, b"") if how != "fail" else (1, OFFICE if life.is_ready else b"")
+    faults = [OFFICE, RECORD] if life.is_ready and not life.has_failed else [b""]
+    wanted = [(-9, b"")] if how != "fail" else [(1, fault) for fault in faults]
     came = life.station.program.returncode, told[1]
-    if came != wanted:
-        raise Wrong(f"it ends by {came}, and not by {wanted}")
+    if came not in wanted:
+        raise Wrong(f"it ends by {came}, and not by one of {wanted}")
 
 
 def told(case):

@@ -142,11 +142,14 @@ class Life:
 
     def told(self, talk):
         """The line of the session, which the command that had the station call tells too."""
-        told = self.station.either()
+        told = self.next_line()
         if talk.session.called:
             out, err = self.calling.communicate(timeout=LONG)
             expect((self.calling.returncode, out, err), told_by_call(told), "the command `call`")
         return told
+
+    def next_line(self):
+        return self.station.either()
 
     def cut(self, act, place, how):
         """A session that ends after so many octets of the partner's. What is out, the line and what is left are the model's. It returns why

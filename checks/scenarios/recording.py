@@ -7,7 +7,8 @@ The last line is `N passed, M failed`.
 
 Shows: what a station recorded, played over a new database, gives the tables that the station has, read by stock sqlite3. That is after sessions
 with a partner who calls and who is called, with files both ways. It is after operators' commands and after a book that was read again. It is after
-SIGKILL between any two octets of sessions and within commands, with a start again each time. It goes on from a backup. A record that is cut off, or
+SIGKILL between any two octets of sessions and within commands, with a start again each time. It goes on from a backup. Of two replays at once one plays it all, and one that is killed leaves
+nothing that is called the same and isn't. A record that is cut off, or
 in which an octet was changed, is told, and so is a database that isn't the station's. A station goes on behind the last whole entry. One that can't
 write its record ends with `fault: 7 file`. What `listen`, `call`, `feed` and commands without a station record gives their tables, too, also after
 kills of commands and of `feed`. No password of a session or a book is in a record, and sessions with wrong ones are played as they were. The register
@@ -468,6 +469,115 @@ def lost_database(room):
     expect_same(room, 1, 4)
 
 
+def replay_words(room, database, book=BOOK):
+    return [PROGRAM, "replay", "--record", room / "record", "--db", room / database, "--book", book]
+
+
+def recorded_life(room):
+    """A backup between two commands and sessions, of which one takes a while to be played."""
+    file = room / "file"
+    file.write_bytes(b"ABC")
+    with recording(room) as service:
+        expect(submit(service, "A", file), "done: submit 1\n", "submit")
+        expect(service.give("backup", room / "copy").stdout, b"done: backup\n", "backup")
+        for turn in range(3):
+            converse(service, one_file.session(400_000, 1024, 3).replace(b"ASN.0001", b"ASN.%04d" % turn))
+            expect(submit(service, f"B{turn}", file), f"done: submit {turn + 2}\n", "submit behind the backup")
+        service.give("stop")
+        service.ends()
+
+
+def two_replays(room):
+    """Of two replays at once over one database one plays it all. The other one waits for the database in vain, or has it behind the first."""
+    recorded_life(room)
+    for turn in range(4):
+        for end in ("", "-wal"):
+            (room / f"again{end}").unlink(missing_ok=True)
+        begun = [subprocess.Popen(replay_words(room, "again"), stdout=subprocess.PIPE, stderr=subprocess.PIPE) for _ in range(2)]
+        told = sorted((b"".join(program.communicate(timeout=LONG)), program.returncode) for program in begun)
+        expect((b"same: 3 sessions, 4 calls\n", 0) in told, True, f"whether one of two replays is the whole: {told}")
+        others = [line for line, _ in told if line not in (b"same: 3 sessions, 4 calls\n", b"same: 0 sessions, 0 calls\n", b"fault: 6 store 1\n")]
+        expect(others, [], "what else the two replays tell")
+        expect(tables.read(room / "again"), tables.read(room / "database"), f"the tables of turn {turn}")
+
+
+def killed_replays(room):
+    """A replay that is killed over a copy of the backup is begun again over another copy. Over what it left it plays on from there, or tells that it can't."""
+    recorded_life(room)
+    chance = random.Random(3)
+    for turn in range(12):
+        for end in ("", "-wal"):
+            (room / f"again{end}").unlink(missing_ok=True)
+        shutil.copyfile(room / "copy", room / "again")
+        with subprocess.Popen(replay_words(room, "again"), stdout=subprocess.DEVNULL) as program:
+            time.sleep(chance.uniform(0, 0.25))
+            program.kill()
+        status, out, err = replayed(room, "again")
+        if status == 0:
+            expect(tables.read(room / "again"), tables.read(room / "database"), f"the tables behind a killed replay, turn {turn}")
+        else:
+            expect((status, out.startswith("differs: ") or err.startswith("fault: 6")), (1, True), f"what is told behind a killed replay: {out}{err}")
+    for end in ("", "-wal"):
+        (room / f"again{end}").unlink(missing_ok=True)
+    shutil.copyfile(room / "copy", room / "again")
+    expect_same(room, 3, 3)
+
+
+def hundred_partners(room):
+    """A book of a hundred partners, each with passwords of its own. A later book has them in another order, and with their keys turned."""
+    partner = "\n[[partner]]\ncode = 'O0013P%03d'\nexpects = 'IN%03d'\nsends = 'OUT%03d'\nmode = 'B'\naddress = '127.0.0.1:1'\n"
+    turned = "\n[[partner]]\nsends = 'OUT%03d'\nexpects = 'IN%03d'\ncode = 'O0013P%03d'\nmode = 'B'\naddress = '127.0.0.1:1'\n"
+    first, second = room / "first.toml", room / "second.toml"
+    first.write_text(BOOK.read_text() + "".join(partner % (n, n, n) for n in range(100)))
+    second.write_text(BOOK.read_text() + "".join(turned % (n, n, n) for n in reversed(range(100))))
+    with recording(room, book=first) as service:
+        for number, line in ((7, "end: partner 00"), (99, "end: partner 00"), (50, "end: own 04")):
+            octets = one_file.session(3000, 128, 2).replace(b"ASN.0001", b"ASN.%04d" % number)
+            octets = octets.replace(b"O0177CARMAKER", (b"O0013P%03d" % number).ljust(13)).replace(b"CARPW", b"IN%03d" % (number if number != 50 else 51))
+            expect(converse(service, octets)[-len(line) :], line, f"the session of partner {number}")
+        service.give("stop")
+        service.ends()
+    octets = file_of(room).read_bytes()
+    expect([word for n in range(100) for word in (b"IN%03d" % n, b"OUT%03d" % n) if word in octets], [], "the passwords in the record")
+    # The caller with another one's password isn't let in, so no session is recorded of it.
+    expect_same(room, 2, 0, book=second)
+
+
+def without_a_book(room):
+    """Without a book a command is played, which has its own, and a station whose book has passwords is told."""
+    (room / "record").mkdir()
+    (room / "file").write_bytes(b"ABC")
+    expect(alone(room, "submit", *IDENTITY, "--dataset", "A", "--time", "0800000001", room / "file"), "done: submit 1\n", "submit")
+    words = [PROGRAM, "replay", "--record", room / "record", "--db"]
+    done = subprocess.run([*words, room / "again"], capture_output=True, timeout=LONG, check=False)
+    expect((done.returncode, done.stdout, done.stderr), (0, b"same: 0 sessions, 1 calls\n", b""), "replay of a command")
+    expect(tables.read(room / "again"), tables.read(room / "database"), "the tables")
+    one_session(room)
+    done = subprocess.run([*words, room / "third"], capture_output=True, timeout=LONG, check=False)
+    expect((done.returncode, done.stdout[-9:], done.stderr), (1, b"the book\n", b""), "replay of a station")
+
+
+def password_over_a_socket(room):
+    """The password of a caller comes in pieces, cut at each of its octets, and none of it is in the record."""
+    octets = session_of("receiving/one_octet").joined("in")
+    with recording(room) as service:
+        for cut in range(30, 41):
+            with service.caller() as caller:
+                caller.setsockopt(socket.IPPROTO_TCP, socket.TCP_NODELAY, 1)
+                for piece in (octets[:cut], octets[cut : cut + 1], octets[cut + 1 :]):
+                    caller.sendall(piece)
+                    time.sleep(0.03)
+                caller.shutdown(socket.SHUT_WR)
+                rest_of(caller)
+            # Behind the first session the file is there already, and its answers are out of their place.
+            service.line()
+        service.give("stop")
+        service.ends()
+    expect(b"CARPW" in file_of(room).read_bytes(), False, "whether the password is in the record")
+    expect(octets_in(room, OCTETS_IN).count(b"*****   "), 11, "the hidden passwords")
+    expect_same(room, 11, 0)
+
+
 def days(room):
     """A file for each day, which follows the one before: a day that is missing is told, and the first ones may be gone."""
     file = room / "file"
@@ -823,6 +933,12 @@ BOOKS = [
     'expects = """CARPW"""\nsends = \'\'\'SUPPW\'\'\'',
     'expects = """\nCARPW"""\nsends = \'\'\'\nSUPPW\'\'\'',
     "expects\t =\t'CARPW' # expects = 'CARPW'\nsends='SUPPW'",
+    # The rest of a password behind an escape, in a string of one line and of several.
+    'expects = "\\u0043ARPW"\nsends = """\\\n  \\U00000053\\x55PPW"""',
+    # Keys that are spelled by escapes.
+    '"\\u0065xpects" = "CARPW"\n"s\\U00000065nd\\x73" = \'SUPPW\'',
+    # Comments with a quote that isn't closed.
+    "# expects = 'open\nexpects = 'CARPW'\n# sends = \"\nsends = '''SUPPW'''",
 ]
 
 
@@ -845,7 +961,7 @@ def books_with_passwords(room):
             service.give("stop")
             service.ends()
         octets = file_of(folder).read_bytes()
-        expect([word in octets for word in (b"CARPW", b"SUPPW")], [False, False], f"whether a password is in the record by {keys!r}")
+        expect([word in octets for word in (b"ARPW", b"PPW")], [False, False], f"whether the end of a password is in the record by {keys!r}")
         book.write_text(whole.replace("expects = 'CARPW'\nsends = 'SUPPW'", keys))
         expect_same(folder, 1, 2, book=book)
 
@@ -1057,7 +1173,7 @@ def killed_behind_the_copy(room):
         expect((done.returncode, done.stdout.decode()), (1, f"register: {line}\n"), f"{database} of a killed station")
 
 
-CASES = [commands, rows, two_stations, book_read_again, killed_at_moments, killed_beside_partners, changed_octet, cut_record, most_at_once, killed_within_pieces, torn_pieces, backup, lost_database, days, two_in_one_folder, without_syncing, other_database, full_disk, full_disk_of_the_database, commands_alone, killed_commands, listen_and_call, feeds, feeds_refused, passwords, books_with_passwords, books_changed, killed_feeds, backups_recorded, parts, marks, hostile_record, sessions_explained, audits]
+CASES = [without_a_book, two_replays, killed_replays, hundred_partners, password_over_a_socket, commands, rows, two_stations, book_read_again, killed_at_moments, killed_beside_partners, changed_octet, cut_record, most_at_once, killed_within_pieces, torn_pieces, backup, lost_database, days, two_in_one_folder, without_syncing, other_database, full_disk, full_disk_of_the_database, commands_alone, killed_commands, listen_and_call, feeds, feeds_refused, passwords, books_with_passwords, books_changed, killed_feeds, backups_recorded, parts, marks, hostile_record, sessions_explained, audits]
 
 
 def tried(case):

@@ -821,20 +821,22 @@ run_lines = refl
 -- lines of `replay`
 replay_lines : AreRead (
     -- options come in any order, and all entries are played by default
-    asks (codes "replay --book b --record=r --db=d") (said_replay (record { folder = codes "r"; files = r_beside; from = None; to = None }))
+    asks (codes "replay --book b --record=r --db=d") (said_replay (record { folder = codes "r"; database = codes "d"; book = Some (codes "b"); from = None; to = None }))
     -- or those from one to another
     ∷ asks (codes "replay --to=20240201:9 --from 20240131:7 --book b --record=r --db=d")
-    (said_replay (record { folder = codes "r"; files = r_beside; from = Some (codes "20240131:7"); to = Some (codes "20240201:9") }))
+    (said_replay (record { folder = codes "r"; database = codes "d"; book = Some (codes "b"); from = Some (codes "20240131:7"); to = Some (codes "20240201:9") }))
     -- either of them may be missing
-    ∷ asks (codes "replay --from=x --book b --record=r --db=d") (said_replay (record { folder = codes "r"; files = r_beside; from = Some (codes "x"); to = None }))
+    ∷ asks (codes "replay --from=x --book b --record=r --db=d") (said_replay (record { folder = codes "r"; database = codes "d"; book = Some (codes "b"); from = Some (codes "x"); to = None }))
     -- so may the other
-    ∷ asks (codes "replay --to=y --book b --record=r --db=d") (said_replay (record { folder = codes "r"; files = r_beside; from = None; to = Some (codes "y") }))
+    ∷ asks (codes "replay --to=y --book b --record=r --db=d") (said_replay (record { folder = codes "r"; database = codes "d"; book = Some (codes "b"); from = None; to = Some (codes "y") }))
     -- it appends no events
     ∷ bad (codes "replay --events=e --book b --record=r --db=d")
     -- the folder is required
     ∷ bad (codes "replay --db=d --book=b")
-    -- the book is required
-    ∷ bad (codes "replay --record=r --db=d")
+    -- the book may be missing
+    ∷ asks (codes "replay --record=r --db=d") (said_replay (record { folder = codes "r"; database = codes "d"; book = None; from = None; to = None }))
+    -- the database is required
+    ∷ bad (codes "replay --record=r --book=b")
     -- it takes no word
     ∷ bad (codes "replay --record=r --db=d --book=b w")
     ∷ [])

@@ -1,8 +1,7 @@
 -- The option `record-sync` of `run`, and the command line of `replay`.
 use Rattle.std.specs.Prelude.{List, [], ◌∷◌, Option, codes, option_map}
 use Rattle.clap.specs.Words.{App, Row, Text, first_of}
-use Rattle.oftp_command_line.specs.Arguments.{app_with, given, named, needed, optional, own_book, own_database}
-use Rattle.oftp_command_line.specs.Files.{FilesSaid, files_said, files_with}
+use Rattle.oftp_command_line.specs.Arguments.{app_with, given, named, needed, optional, own_database}
 use Rattle.oftp_command_line.specs.declared.line.commands.recording.RecordSync.{RecordSync}
 use Rattle.oftp_command_line.specs.declared.line.commands.recording.RecordSync.TheVariants.{Synced, Unsynced}
 use Rattle.oftp_command_line.specs.declared.line.commands.recording.Replay.{Replay}
@@ -14,7 +13,8 @@ record_sync_of = named ((codes "yes", Synced) ∷ (codes "no", Unsynced) ∷ [])
 -- the options of `replay`
 pub record ReplaySaid : Type 0 where
   pub folder : Text
-  pub files : FilesSaid
+  pub database : Text
+  pub book : Option Text
   pub from : Option Text
   pub to : Option Text
 
@@ -22,21 +22,23 @@ pub record ReplaySaid : Type 0 where
 abbrev pub replay_said : Replay → ReplaySaid
 replay_said r = record {
   folder = r.folder.now;
-  files = files_said r.files;
+  database = r.database.now;
+  book = option_map (λ s. s.now) r.book;
   from = option_map (λ s. s.now) r.from;
   to = option_map (λ s. s.now) r.to;
 }
 
 -- the declaration of `replay` to the parser
 unfoldable pub replay_app : App
-replay_app = app_with (codes "replay") (needed (codes "record") ∷ own_database ∷ own_book
+replay_app = app_with (codes "replay") (needed (codes "record") ∷ own_database ∷ optional (codes "book")
     ∷ optional (codes "from") ∷ optional (codes "to") ∷ [])
 
 -- the command `replay` with these values
 abbrev pub replay_with : List Row → ReplaySaid
 replay_with rows = record {
   folder = given (codes "record") rows;
-  files = files_with rows;
+  database = given (codes "db") rows;
+  book = first_of (codes "book") rows;
   from = first_of (codes "from") rows;
   to = first_of (codes "to") rows;
 }

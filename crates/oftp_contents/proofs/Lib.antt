@@ -1,4 +1,9 @@
+mod BookLemmas
+mod CharacterLemmas
 mod DayLemmas
 mod FieldLemmas
+mod HidingLemmas
 mod PasswordLemmas
 mod PieceLemmas
+mod Digits
+mod ProgramLemmas

@@ -30,3 +30,12 @@ standing_after standings.Earlier likenesses.Other = standings.Earlier
 abbrev pub likeness_at : RecordKind → Option (List ℕ) → List ℕ → Option Likeness
 likeness_at kind None register = likeness_behind kind
 likeness_at kind (Some digest) register = Some (if bytes_eq digest register then likenesses.Same else likenesses.Other)
+
+-- a digest that is known stays known behind an entry that tells nothing of the register
+abbrev pub known_with : Option Likeness → Option (List ℕ) → Option (List ℕ)
+known_with None known = known
+known_with (Some likeness) known = None
+
+-- the digest of the register behind an entry of a kind, as far as it was known before
+abbrev pub known_behind : RecordKind → Option (List ℕ) → Option (List ℕ)
+known_behind kind known = known_with (likeness_behind kind) known

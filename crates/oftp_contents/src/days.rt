@@ -7,7 +7,7 @@ ghost use Rattle.oftp_contents.specs.Days.{day_at, day_in, days_passed, last_bef
 pub const RECORD_ENDING: &str = ".record";
 
 /// The number of digits of a day.
-const DIGITS: usize = 8;
+pub(crate) const DIGITS: usize = 8;
 
 /// The microseconds of a day.
 const DAY: u64 = 86_400_000_000;

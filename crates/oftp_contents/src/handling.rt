@@ -92,6 +92,8 @@ pub enum Listening {
     Says,
     /// The session that is read is over.
     Closes,
+    /// The same, since the station begins: what follows is of the program and the book that the entry has.
+    Opens,
     /// Nothing.
     Passes,
 }
@@ -108,10 +110,10 @@ impl Listening {
             RecordKind::OctetsIn if reading == Some(number) => Listening::Hears,
             RecordKind::OctetsOut if reading == Some(number) => Listening::Says,
             RecordKind::End if reading == Some(number) => Listening::Closes,
+            RecordKind::Opening => Listening::Opens,
             RecordKind::OctetsIn
             | RecordKind::OctetsOut
             | RecordKind::End
-            | RecordKind::Opening
             | RecordKind::Call
             | RecordKind::Backup
             | RecordKind::Mark => Listening::Passes,

@@ -26,10 +26,13 @@
 //! theorem of [`laws`] is that octets are read in one way: so what was written is what is read.
 #![tactic(auto)]
 
+mod books;
 mod codes;
 mod days;
+mod escapes;
 mod fields;
 mod handling;
+mod hiding;
 pub mod laws;
 mod links;
 mod marks;
@@ -37,6 +40,7 @@ mod passwords;
 mod pieces;
 mod places;
 mod playing;
+mod program;
 mod registers;
 mod standing;
 
@@ -47,10 +51,12 @@ pub use days::{
 };
 pub use fields::ContentFields;
 pub use handling::{Listening, Playing, Talking, is_joined};
+pub use hiding::{hidden_book, shown_book, without_passwords};
 pub use links::DayLink;
-pub use marks::left_to_mark;
+pub use marks::{MarkBar, MarkTime};
 pub use passwords::{PasswordFinder, SsidOrder};
 pub use pieces::{LEAST_PIECE, PieceMark, SessionOctets};
-pub use places::EntryPlace;
-pub use playing::{Doing, EndLine, is_settled, was_made};
-pub use standing::{Likeness, RegisterStanding};
+pub use places::{EntryPlace, RecordPart};
+pub use playing::{BookTurn, Doing, EndLine, SaidOctets, is_left, was_made};
+pub use program::{SOURCES, program_text, sources_in, version_in};
+pub use standing::{Likeness, RegisterStanding, known_behind};

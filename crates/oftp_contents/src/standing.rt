@@ -1,7 +1,7 @@
 //! How a register stands to those of which a record has the digests.
 
 ghost use Rattle.std.specs.Prelude.{◌≡◌};
-ghost use Rattle.oftp_contents.specs.Standings.{likeness_at, likeness_behind, standing_after};
+ghost use Rattle.oftp_contents.specs.Standings.{known_behind, likeness_at, likeness_behind, standing_after};
 
 use oftp_record::{DIGEST_LEN, RecordKind};
 
@@ -54,6 +54,17 @@ impl Likeness {
             | RecordKind::Backup
             | RecordKind::Mark => None,
         }
+    }
+}
+
+/// The digest of the register as far as it is known behind an entry of a kind, before which it was known like this. It has to be worked out anew where
+/// the register may be another one.
+pub fn known_behind(kind: RecordKind, known: Option<[u8; DIGEST_LEN]>) -> Option<[u8; DIGEST_LEN]>
+    ensures { result ≡ known_behind kind known }
+{
+    match Likeness::behind(kind) {
+        Some(_) => None,
+        None => known,
     }
 }
 

@@ -1,4 +1,5 @@
 mod BitLemmas
+mod RotationLemmas
 pub mod LaneLemmas
 mod BlockLemmas
 mod JoinLemmas

@@ -1,4 +1,4 @@
--- Eight messages side by side: each word of a hash value is a vector, with one lane for each message.
+-- Four messages side by side: each word of a hash value is a vector, with one lane for each message.
 use Rattle.std.specs.Prelude.{ℕ, List, [], ◌∷◌, take, drop, slice_index, slice_index_or}
 
 -- lane j of vector k

@@ -10,7 +10,7 @@ use crate::constants::INITIAL;
 use crate::rounds::compress;
 use crate::words::Words;
 
-/// How many messages are digested side by side.
+/// How many messages are digested at once.
 pub const LANES: usize = 8;
 
 /// The length of a block of SHA-256 in octets.
@@ -21,7 +21,7 @@ const DIGEST_LEN: usize = 32;
 
 // The hash value of each message before its first block.
 fn initial() -> [Words; 8]
-    ensures { (j : ℕ) → j < 8 → lane result j ≡ initial_hash_256 }
+    ensures { (j : ℕ) → j < 4 → lane result j ≡ initial_hash_256 }
 {
     [
         Words::splat(INITIAL[0]),
@@ -48,8 +48,8 @@ fn padding(count: usize) -> [u8; 64]
 }
 
 // The words of one message.
-fn words_of(state: &[[u32; 8]; 8], message: usize) -> [u32; 8]
-    requires { message < 8 }
+fn words_of(state: &[[u32; 4]; 8], message: usize) -> [u32; 8]
+    requires { message < 4 }
     ensures { result ≡ lane state.now message }
 {
     [
@@ -76,8 +76,8 @@ fn octets_of(words: [u32; 8]) -> [u8; 32]
 }
 
 // The hash value of each message as octets.
-fn digests(state: &[Words; 8]) -> [[u8; 32]; 8]
-    ensures { (j : ℕ) → j < 8 → slice_index_or result j [] ≡ digest_bytes (lane state.now j) 8 }
+fn digests(state: &[Words; 8]) -> [[u8; 32]; 4]
+    ensures { (j : ℕ) → j < 4 → slice_index_or result j [] ≡ digest_bytes (lane state.now j) 8 }
 {
     let words = [
         state[0].to_array(),
@@ -94,11 +94,20 @@ fn digests(state: &[Words; 8]) -> [[u8; 32]; 8]
         octets_of(words_of(&words, 1)),
         octets_of(words_of(&words, 2)),
         octets_of(words_of(&words, 3)),
-        octets_of(words_of(&words, 4)),
-        octets_of(words_of(&words, 5)),
-        octets_of(words_of(&words, 6)),
-        octets_of(words_of(&words, 7)),
     ]
+}
+
+// The SHA-256 of each of four messages of `count` octets, side by side.
+fn digests_of_four(octets: &[u8], stride: usize, count: usize) -> [[u8; 32]; 4]
+    requires there { 3 * stride + count ≤ length octets.now }
+    requires blocks { count % BLOCK_LEN ≡ 0 }
+    ensures { (j : ℕ) → j < 4 → slice_index_or result j [] ≡ sha256 (part octets.now (j * stride) count) }
+{
+    let mut state = initial();
+    'absorb: for i in 0..count / BLOCK_LEN {
+        state = compress(&state, octets, stride, BLOCK_LEN * i);
+    }
+    digests(&compress(&state, &padding(count), 0, 0))
 }
 
 /// The SHA-256 of each of eight messages of `count` octets. The first one begins where `octets` begin, and each other one `stride` octets behind the
@@ -108,9 +117,7 @@ pub fn digests_of_eight(octets: &[u8], stride: usize, count: usize) -> [[u8; 32]
     requires blocks { count % BLOCK_LEN ≡ 0 }
     ensures { (j : ℕ) → j < 8 → slice_index_or result j [] ≡ sha256 (part octets.now (j * stride) count) }
 {
-    let mut state = initial();
-    'absorb: for i in 0..count / BLOCK_LEN {
-        state = compress(&state, octets, stride, BLOCK_LEN * i);
-    }
-    digests(&compress(&state, &padding(count), 0, 0))
+    let [a, b, c, d] = digests_of_four(octets, stride, count);
+    let [e, f, g, h] = digests_of_four(&octets[4 * stride..], stride, count);
+    [a, b, c, d, e, f, g, h]
 }

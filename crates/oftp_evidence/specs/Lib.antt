@@ -1,4 +1,6 @@
+pub mod Answers
 pub mod Facts
+pub mod Findings
 pub mod Folders
 pub mod Laws
 pub mod Parts

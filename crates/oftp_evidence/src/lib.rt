@@ -2,7 +2,9 @@
 //! folder of evidence tells of it.
 #![tactic(auto)]
 
+mod answers;
 mod facts;
+mod findings;
 mod folder;
 pub mod laws;
 mod names;
@@ -10,6 +12,8 @@ mod part;
 mod script;
 mod session_parts;
 
+pub use answers::response_in;
+pub use findings::{Findings, SideFinding, answered_after};
 pub use folder::{FileFacts, ResponseFacts, SessionFacts, StationFacts, readme};
 pub use part::{Part, part_in};
 pub use script::verify_script;

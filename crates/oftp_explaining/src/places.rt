@@ -14,6 +14,7 @@ pub(crate) fn database_of<'a>(line: &Line<'a>) -> Option<&'a str> {
         Line::Health(health) => Some(health.database),
         Line::Audit(audit) => Some(audit.database),
         Line::Evidence(evidence) => Some(evidence.database),
+        Line::Replay(replay) => Some(replay.database),
         Line::Fetch(fetch) => Some(fetch.database),
         Line::Report(report) => Some(report.database),
         Line::Backup(backup) => Some(backup.database),
@@ -28,6 +29,7 @@ pub(crate) fn book_of<'a>(line: &Line<'a>) -> Option<&'a str> {
     match line {
         Line::Check { book } => Some(*book),
         Line::Feed(feed) => Some(feed.book),
+        Line::Replay(replay) => replay.book,
         other => files_of(other).map(|files| files.book),
     }
 }
@@ -44,7 +46,6 @@ fn files_of<'a>(line: &Line<'a>) -> Option<Files<'a>> {
         Line::Run(run) => Some(run.files),
         Line::Listen(listen) => Some(listen.files),
         Line::Call(call) => Some(call.files),
-        Line::Replay(replay) => Some(replay.files),
         _ => None,
     }
 }

@@ -3,7 +3,6 @@
 
 mod access;
 mod book;
-mod book_passwords;
 mod content;
 mod drafts;
 mod events;
@@ -21,7 +20,6 @@ mod transcript;
 
 pub use access::{Access, make_private, make_private_folder};
 pub use book::{book_of, read_book, read_book_octets, read_regular_book};
-pub use book_passwords::{PasswordPlace, password_places, without_passwords};
 pub use content::{content_of, read_content, read_to_compare};
 pub use drafts::{Draft, bears, is_free, log_of, remove_log, sweep};
 pub use events::{EventFile, Found, Noted, open_events};

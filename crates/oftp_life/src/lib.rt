@@ -1,6 +1,7 @@
 //! The life of a station: one office, and all that is done with it.
 #![tactic(auto)]
 
+pub mod faults;
 mod history;
 pub mod laws;
 mod life;

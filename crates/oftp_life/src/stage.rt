@@ -1,11 +1,9 @@
 //! How a session of a life stands.
 
 ghost use Rattle.std.specs.Prelude.{◌≡◌};
-ghost use Rattle.oftp_register.specs.Offices.{Counts, next_count};
 ghost use Rattle.oftp_life.specs.Lives.{after_look, answer_of, ends_life, has_ceased, has_failed, is_of_office, is_over_at, stage_of};
 
 use oftp_engine::{Going, RunFault};
-use oftp_register::OfficeFault;
 use oftp_session::Ending;
 
 /// How a session of a life stands.
@@ -51,25 +49,6 @@ pub(crate) fn has_failed<T, E>(found: &Result<T, E>) -> bool
         Ok(_) => false,
         Err(_) => true,
     }
-}
-
-// Counts the error of a look-up, if it returned one. A refusal isn't counted.
-pub(crate) fn count<T>(faults: &mut u64, found: &Result<T, OfficeFault>)
-    ensures { Counts faults.old faults.new found.now }
-{
-    match found {
-        Ok(_) | Err(OfficeFault::Refused(_)) => {}
-        Err(OfficeFault::Store | OfficeFault::Memory) => *faults = faults.wrapping_add(1),
-    }
-}
-
-// The error of an office that isn't asked any more. It is counted.
-pub(crate) fn lost(faults: &mut u64) -> OfficeFault
-    ensures fault { result ≡ OfficeFault.Store }
-    ensures counts { faults.new ≡ next_count faults.old }
-{
-    *faults = faults.wrapping_add(1);
-    OfficeFault::Store
 }
 
 // How a session that stood like this stands after a look-up.

@@ -2,6 +2,7 @@
 pub mod Entries
 pub mod Pieces
 pub mod Next
+pub mod Streams
 pub mod Ahead
 pub mod Records
 pub mod Changes

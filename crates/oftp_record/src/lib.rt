@@ -32,6 +32,7 @@ mod header;
 mod kind;
 pub mod laws;
 mod next;
+mod stream;
 mod writing;
 
 pub use ahead::ReadAhead;
@@ -42,4 +43,5 @@ pub use entry::RecordEntry;
 pub use header::{HEADER_LEN, LONGEST_CONTENT};
 pub use kind::RecordKind;
 pub use next::{Alteration, NextEntry, StoredEntry, next_entry};
+pub use stream::{Look, RecordStream};
 pub use writing::{AppendFault, append_entry};

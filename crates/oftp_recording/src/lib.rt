@@ -3,7 +3,6 @@
 
 mod days;
 mod ends;
-mod hiding;
 mod moments;
 mod passwords;
 mod reading;
@@ -12,7 +11,6 @@ mod registers;
 
 pub use days::{file_of, record_files};
 pub use ends::{cause_of, end_for, line_of_end};
-pub use hiding::{hidden, shown_book};
 pub use moments::moment_text;
 pub use passwords::{SessionPasswords, instead};
 pub use reading::{Found, RecordReader};

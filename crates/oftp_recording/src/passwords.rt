@@ -1,9 +1,13 @@
 //! The passwords of a session, which no record has.
 
+ghost use Rattle.std.specs.Prelude.{◌≡◌, IfOk, OnOk, [], option_map};
+ghost use Rattle.oftp_contents.specs.Passwords.{followed, hidden_octet, shown_octet};
+ghost use Rattle.oftp_recording.specs.Passwords.{expected_of, instead, sent_of, stand_in, unheard};
+
 use oftp_contents::{PasswordFinder, RecordSide};
-use oftp_outcomes::Fault;
 use oftp_partners::Partner;
 use std::alloc::{AllocError, Global};
+use std::marker::Model;
 
 /// What stands for a password where nobody knows it.
 const STAND_IN: &[u8; 8] = b"XXXXXXXX";
@@ -19,6 +23,14 @@ pub struct SessionPasswords {
     said: PasswordFinder,
 }
 
+impl Model for SessionPasswords {
+    ghost use Rattle.oftp_recording.specs.Passwords.{Guarded};
+
+    ghost Value = { Guarded };
+
+    ghost view = { λ p. record { expected = p.expected.items; sent = p.sent.items; heard = p.heard; said = p.said } };
+}
+
 impl SessionPasswords {
     /// Those of a session with a partner of the book, in which the station is on this side. Without a partner both are empty.
     ///
@@ -28,7 +40,9 @@ impl SessionPasswords {
         alloc: Global,
         side: RecordSide,
         partner: Option<&Partner>,
-    ) -> Result<SessionPasswords, AllocError> {
+    ) -> Result<SessionPasswords, AllocError>
+        ensures { let partner = option_map (λ p. p.now) partner.entry in IfOk result (λ passwords. passwords ≡ unheard side (expected_of partner) (sent_of partner)) }
+    {
         match partner {
             Some(partner) => SessionPasswords::new(
                 alloc,
@@ -44,7 +58,9 @@ impl SessionPasswords {
     ///
     /// # Errors
     /// Out of memory.
-    pub fn stand_in(alloc: Global, side: RecordSide) -> Result<SessionPasswords, AllocError> {
+    pub fn stand_in(alloc: Global, side: RecordSide) -> Result<SessionPasswords, AllocError>
+        ensures { IfOk result (λ passwords. passwords ≡ unheard side stand_in stand_in) }
+    {
         let password = STAND_IN.as_slice();
         SessionPasswords::new(alloc, side, password, password)
     }
@@ -55,7 +71,9 @@ impl SessionPasswords {
         side: RecordSide,
         expected: &[u8],
         sent: &[u8],
-    ) -> Result<SessionPasswords, AllocError> {
+    ) -> Result<SessionPasswords, AllocError>
+        ensures { IfOk result (λ passwords. passwords ≡ unheard side expected.now sent.now) }
+    {
         Ok(SessionPasswords {
             alloc,
             expected: Vec::from_slice(alloc, expected)?,
@@ -69,7 +87,10 @@ impl SessionPasswords {
     ///
     /// # Errors
     /// Out of memory.
-    pub fn hide_heard(&mut self, octets: &[u8]) -> Result<Option<Vec<u8>>, AllocError> {
+    pub fn hide_heard(&mut self, octets: &[u8]) -> Result<Option<Vec<u8>>, AllocError>
+        ensures octets { IfOk result (λ other. followed hidden_octet self.old.expected self.old.heard [] octets.now ≡ record { finder = self.new.heard; octets = instead other octets.now }) }
+        ensures others { OnOk result (self.new ≡ record self.old { heard = self.new.heard }) }
+    {
         hidden(
             self.alloc,
             &mut self.heard,
@@ -82,7 +103,10 @@ impl SessionPasswords {
     ///
     /// # Errors
     /// Out of memory.
-    pub fn hide_said(&mut self, octets: &[u8]) -> Result<Option<Vec<u8>>, AllocError> {
+    pub fn hide_said(&mut self, octets: &[u8]) -> Result<Option<Vec<u8>>, AllocError>
+        ensures octets { IfOk result (λ other. followed hidden_octet self.old.sent self.old.said [] octets.now ≡ record { finder = self.new.said; octets = instead other octets.now }) }
+        ensures others { OnOk result (self.new ≡ record self.old { said = self.new.said }) }
+    {
         hidden(self.alloc, &mut self.said, self.sent.as_slice(), octets)
     }
 
@@ -90,7 +114,10 @@ impl SessionPasswords {
     ///
     /// # Errors
     /// Out of memory.
-    pub fn show_heard(&mut self, octets: &[u8]) -> Result<Option<Vec<u8>>, AllocError> {
+    pub fn show_heard(&mut self, octets: &[u8]) -> Result<Option<Vec<u8>>, AllocError>
+        ensures octets { IfOk result (λ other. followed shown_octet self.old.expected self.old.heard [] octets.now ≡ record { finder = self.new.heard; octets = instead other octets.now }) }
+        ensures others { OnOk result (self.new ≡ record self.old { heard = self.new.heard }) }
+    {
         shown(
             self.alloc,
             &mut self.heard,
@@ -103,7 +130,10 @@ impl SessionPasswords {
     ///
     /// # Errors
     /// Out of memory.
-    pub fn show_said(&mut self, octets: &[u8]) -> Result<Option<Vec<u8>>, AllocError> {
+    pub fn show_said(&mut self, octets: &[u8]) -> Result<Option<Vec<u8>>, AllocError>
+        ensures octets { IfOk result (λ other. followed shown_octet self.old.sent self.old.said [] octets.now ≡ record { finder = self.new.said; octets = instead other octets.now }) }
+        ensures others { OnOk result (self.new ≡ record self.old { said = self.new.said }) }
+    {
         shown(self.alloc, &mut self.said, self.sent.as_slice(), octets)
     }
 }
@@ -114,7 +144,9 @@ fn hidden(
     finder: &mut PasswordFinder,
     password: &[u8],
     octets: &[u8],
-) -> Result<Option<Vec<u8>>, AllocError> {
+) -> Result<Option<Vec<u8>>, AllocError>
+    ensures { IfOk result (λ other. followed hidden_octet password.now finder.old [] octets.now ≡ record { finder = finder.new; octets = instead other octets.now }) }
+{
     if finder.is_over() {
         return Ok(None);
     }
@@ -129,7 +161,9 @@ fn shown(
     finder: &mut PasswordFinder,
     password: &[u8],
     octets: &[u8],
-) -> Result<Option<Vec<u8>>, AllocError> {
+) -> Result<Option<Vec<u8>>, AllocError>
+    ensures { IfOk result (λ other. followed shown_octet password.now finder.old [] octets.now ≡ record { finder = finder.new; octets = instead other octets.now }) }
+{
     if finder.is_over() {
         return Ok(None);
     }
@@ -139,7 +173,9 @@ fn shown(
 }
 
 /// Octets, in the place of which others may be there.
-pub fn instead<'o>(other: &'o Option<Vec<u8>>, octets: &'o [u8]) -> &'o [u8] {
+pub fn instead<'o>(other: &'o Option<Vec<u8>>, octets: &'o [u8]) -> &'o [u8]
+    ensures { result.now ≡ instead other.entry.now octets.entry.now }
+{
     match other {
         Some(other) => other.as_slice(),
         None => octets,

@@ -2,9 +2,7 @@
 
 use oftp_files::{file_fault, open_at_once};
 use oftp_outcomes::Fault;
-use oftp_record::{
-    ChainDigest, DIGEST_LEN, HEADER_LEN, NextEntry, PassedEntry, ReadAhead, RecordKind,
-};
+use oftp_record::{DIGEST_LEN, Look, PassedEntry, RecordKind, RecordStream};
 use std::fs::File;
 use std::io::Read;
 
@@ -31,18 +29,11 @@ pub enum Found {
 #[derive(Drop)]
 pub struct RecordReader {
     file: File,
-    // What was read of it and not passed over.
-    octets: Vec<u8>,
-    // Where the next entry begins in these octets.
-    at: usize,
-    // Entries there that were read already.
-    ahead: ReadAhead,
-    // Where the last one's content is.
-    begin: usize,
-    end: usize,
+    stream: RecordStream,
+    // Those of the last entry.
     kind: RecordKind,
     moment: u64,
-    digest: [u8; DIGEST_LEN],
+    // How many entries were read, and how many octets they have.
     count: u64,
     whole: u64,
 }
@@ -59,14 +50,6 @@ pub(crate) fn refuse_others(file: &File) -> Result<(), Fault> {
     }
 }
 
-/// What stands behind the last entry, as far as the octets were read.
-#[derive(Clone, Copy)]
-enum Look {
-    Whole,
-    Lacks(usize),
-    Changed,
-}
-
 impl RecordReader {
     /// Opens a file.
     ///
@@ -75,17 +58,11 @@ impl RecordReader {
     pub fn open(rt: &HostRuntime, path: &str) -> Result<RecordReader, Fault> {
         let file = open_at_once(rt, path).map_err(|error| file_fault(&error))?;
         refuse_others(&file)?;
-        let digest = ChainDigest::first().0;
         Ok(RecordReader {
             file,
-            octets: Vec::new(rt.alloc()),
-            at: 0,
-            ahead: ReadAhead::new(),
-            begin: 0,
-            end: 0,
+            stream: RecordStream::new(rt.alloc()),
             kind: RecordKind::Mark,
             moment: 0,
-            digest,
             count: 0,
             whole: 0,
         })
@@ -97,69 +74,38 @@ impl RecordReader {
     /// [`Fault::File`] if the file can't be read; [`Fault::MEMORY`].
     pub fn advance(&mut self) -> Result<Found, Fault> {
         for _ in 0..u64::MAX {
-            match self.look() {
-                Look::Whole => return Ok(Found::Entry),
-                Look::Changed => return Ok(Found::Changed),
-                Look::Lacks(count) => {
-                    if !self.fill(count)? {
-                        let is_empty = self.octets.len() == self.at;
-                        return Ok(if is_empty { Found::End } else { Found::Cut });
-                    }
+            let (lacking, found) = match self.stream.look() {
+                Look::Entry(passed) => {
+                    self.pass(&passed);
+                    return Ok(Found::Entry);
                 }
+                Look::Changed(_) => return Ok(Found::Changed),
+                Look::End => (1, Found::End),
+                Look::Cut(lacking) => (lacking.unwrap_or(1), Found::Cut),
+            };
+            if !self.fill(lacking)? {
+                return Ok(found);
             }
         }
         Ok(Found::End)
     }
 
-    /// Looks at what was read behind the last entry, and passes over the next one if it is whole.
-    fn look(&mut self) -> Look {
-        let rest = self.octets.get(self.at..).unwrap_or(&[]);
-        let length = rest.len();
-        match self.ahead.next(rest, &ChainDigest(self.digest)) {
-            NextEntry::Whole(stored) => {
-                let passed = PassedEntry {
-                    kind: stored.entry.kind,
-                    moment: stored.entry.moment,
-                    length: stored.length,
-                    digest: stored.digest,
-                };
-                self.pass(&passed);
-                Look::Whole
-            }
-            NextEntry::End | NextEntry::Cut(None) => {
-                Look::Lacks(HEADER_LEN.saturating_sub(length).max(1))
-            }
-            NextEntry::Cut(Some(count)) => Look::Lacks(count),
-            NextEntry::Changed(_) => Look::Changed,
-        }
-    }
-
-    /// Passes over an entry.
+    /// Notes an entry that was read.
     fn pass(&mut self, passed: &PassedEntry) {
-        self.begin = self.at.saturating_add(HEADER_LEN);
-        self.at = self.at.saturating_add(passed.length);
-        self.end = self.at.saturating_sub(DIGEST_LEN);
         self.kind = passed.kind;
         self.moment = passed.moment;
-        self.digest = passed.digest.0;
         self.count = self.count.saturating_add(1);
         self.whole = self.whole.saturating_add(passed.length as u64);
     }
 
     /// Reads so many octets more, and maybe others behind them. Returns whether they are there.
     fn fill(&mut self, count: usize) -> Result<bool, Fault> {
-        let passed = self.at;
-        if passed <= self.octets.len() {
-            let _ = self.octets.drain(..passed);
-        }
-        self.begin = 0;
-        self.end = 0;
-        self.at = 0;
-        let wanted = self.octets.len().saturating_add(count);
+        self.stream.forget();
+        let wanted = self.stream.left().saturating_add(count);
         let ample = wanted.max(AHEAD);
         let mut step = [0; STEP];
         for _ in 0..u64::MAX {
-            if self.octets.len() >= ample {
+            if self.stream.left() >= ample {
                 break;
             }
             let came = self
@@ -169,10 +115,9 @@ impl RecordReader {
             if came == 0 {
                 break;
             }
-            self.octets
-                .extend_from_slice(step.get(..came).unwrap_or(&[]))?;
+            self.stream.add(step.get(..came).unwrap_or(&[]))?;
         }
-        Ok(self.octets.len() >= wanted)
+        Ok(self.stream.left() >= wanted)
     }
 
     /// The kind of the last entry.
@@ -187,12 +132,12 @@ impl RecordReader {
 
     /// The content of the last entry.
     pub fn content(&self) -> &[u8] {
-        self.octets.get(self.begin..self.end).unwrap_or(&[])
+        self.stream.content()
     }
 
     /// The digest of the last entry, or what takes its place before the first.
     pub fn digest(&self) -> [u8; DIGEST_LEN] {
-        self.digest
+        self.stream.digest()
     }
 
     /// How many entries were read.

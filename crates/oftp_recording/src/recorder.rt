@@ -1,17 +1,16 @@
 //! Writing a record.
 
 use crate::days::{day_text, file_of, record_days};
-use crate::hiding::hidden;
 use crate::moments::moment_text;
 use crate::passwords::{SessionPasswords, instead};
 use crate::reading::{Found, RecordReader, refuse_others};
 use crate::registers::{Digest, register_digest};
 use jiff::Timestamp;
 use oftp_contents::{
-    ContentFields, DayTurn, EndCause, Marked, RecordSide, SessionOctets, day_at, is_same_day,
-    last_before, last_day, turn_of,
+    ContentFields, DayTurn, EndCause, Marked, RecordSide, SessionOctets, day_at, hidden_book,
+    is_same_day, last_before, last_day, program_text, turn_of, without_passwords,
 };
-use oftp_files::{file_fault, is_free, make_private, without_passwords};
+use oftp_files::{file_fault, is_free, make_private};
 use oftp_outcomes::Fault;
 use oftp_partners::Partner;
 use oftp_record::{AppendFault, ChainDigest, RecordEntry, RecordKind, append_entry};
@@ -104,8 +103,8 @@ impl<'a> Recorder<'a> {
     ) -> Result<(), Fault> {
         let register = register_digest(self.rt.alloc(), office)?;
         let salt = salt_drawn(self.rt)?;
-        let program = format!(in self.rt.alloc(); "{version}\n{sources}")?;
-        let book = hidden(self.rt.alloc(), book, salt)?;
+        let program = program_text(self.rt.alloc(), version, sources)?;
+        let book = hidden_book(self.rt.alloc(), book, salt)?;
         let fields = ContentFields {
             number: salt,
             first: program.as_bytes(),

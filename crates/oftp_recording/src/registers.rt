@@ -1,5 +1,8 @@
 //! The digest of a register.
 
+ghost use Rattle.std.specs.Prelude.{◌≡◌, OnOk};
+ghost use Rattle.oftp_listing.specs.Texts.{Asks};
+
 use oftp_digest::{LANES, add_digests};
 use oftp_engine::{Port, RunFault};
 use oftp_listing::{ReportKind, report};
@@ -27,49 +30,70 @@ const REPORTS: [ReportKind; 4] = [
 ];
 
 /// The digest of the register of an office: the SHA-256 of its four reports, and then of the description, the text of the response and the digests of
-/// the rows of each file.
+/// the rows of each file. The office is only asked.
 ///
 /// # Errors
 /// [`Fault::Run`] if the office failed; [`Fault::MEMORY`].
-pub fn register_digest<O: Office>(alloc: Global, office: &mut O) -> Result<Digest, Fault> {
+pub fn register_digest<O: Office>(alloc: Global, office: &mut O) -> Result<Digest, Fault>
+    ensures asks { Asks (O.view office.old) (O.view office.new) }
+    ensures untold { OnOk result ((O.view office.new).told ≡ (O.view office.old).told) }
+{
     let mut hasher = Sha256::new();
     for kind in REPORTS {
-        let mut text = Port::new(Vec::new(alloc), 0);
-        report(alloc, kind, office, &mut text).map_err(Fault::from)?;
-        hasher.update(text.into_inner().as_slice());
+        add_report(alloc, &mut hasher, office, kind)?;
     }
-    let Ok(incoming) = office.list_in() else {
+    add_incoming(alloc, &mut hasher, office)?;
+    add_outgoing(alloc, &mut hasher, office)?;
+    Ok(hasher.finalize())
+}
+
+/// Adds a report.
+fn add_report<O: Office>(
+    alloc: Global,
+    hasher: &mut Sha256,
+    office: &mut O,
+    kind: ReportKind,
+) -> Result<(), Fault>
+    ensures asks { Asks (O.view office.old) (O.view office.new) }
+    ensures untold { OnOk result ((O.view office.new).told ≡ (O.view office.old).told) }
+{
+    let mut text = Port::new(Vec::new(alloc), 0);
+    report(alloc, kind, office, &mut text)?;
+    hasher.update(text.into_inner().as_slice());
+    Ok(())
+}
+
+/// Adds what a report doesn't tell of the incoming files.
+fn add_incoming<O: Office>(alloc: Global, hasher: &mut Sha256, office: &mut O) -> Result<(), Fault>
+    ensures asks { Asks (O.view office.old) (O.view office.new) }
+    ensures untold { OnOk result ((O.view office.new).told ≡ (O.view office.old).told) }
+{
+    let Ok(entries) = office.list_in() else {
         return Err(FAILED);
     };
-    for entry in incoming.iter() {
+    for entry in entries.iter() {
         hasher.update(entry.description.as_str().as_bytes());
         if let Some(response) = &entry.response {
             hasher.update(response.text.as_str().as_bytes());
         }
-        add_rows(
-            alloc,
-            &mut hasher,
-            office,
-            Side::Incoming,
-            entry.no,
-            entry.rows,
-        )?;
+        add_rows(alloc, hasher, office, Side::Incoming, entry.no, entry.rows)?;
     }
-    let Ok(outgoing) = office.list_out() else {
+    Ok(())
+}
+
+/// Adds what a report doesn't tell of the outgoing files.
+fn add_outgoing<O: Office>(alloc: Global, hasher: &mut Sha256, office: &mut O) -> Result<(), Fault>
+    ensures asks { Asks (O.view office.old) (O.view office.new) }
+    ensures untold { OnOk result ((O.view office.new).told ≡ (O.view office.old).told) }
+{
+    let Ok(entries) = office.list_out() else {
         return Err(FAILED);
     };
-    for entry in outgoing.iter() {
+    for entry in entries.iter() {
         hasher.update(entry.description.as_str().as_bytes());
-        add_rows(
-            alloc,
-            &mut hasher,
-            office,
-            Side::Outgoing,
-            entry.no,
-            entry.rows,
-        )?;
+        add_rows(alloc, hasher, office, Side::Outgoing, entry.no, entry.rows)?;
     }
-    Ok(hasher.finalize())
+    Ok(())
 }
 
 /// Adds the digest of each row of a file.
@@ -80,7 +104,10 @@ fn add_rows<O: Office>(
     side: Side,
     no: u64,
     count: u64,
-) -> Result<(), Fault> {
+) -> Result<(), Fault>
+    ensures asks { Asks (O.view office.old) (O.view office.new) }
+    ensures untold { OnOk result ((O.view office.new).told ≡ (O.view office.old).told) }
+{
     let mut from = 0;
     let mut room = Vec::new(alloc);
     for _ in 0..count {
@@ -93,12 +120,17 @@ fn add_rows<O: Office>(
         if rows.is_empty() {
             return Err(FAILED);
         }
-        for group in rows.as_slice().chunks(LANES) {
-            add_group(hasher, &mut room, group);
-        }
+        add_digests_of(hasher, &mut room, rows.as_slice());
         from = from.saturating_add(rows.len() as u64);
     }
     Ok(())
+}
+
+/// Adds the digest of each of these rows.
+fn add_digests_of(hasher: &mut Sha256, room: &mut Vec<u8>, rows: &[Row]) {
+    for group in rows.chunks(LANES) {
+        add_group(hasher, room, group);
+    }
 }
 
 /// Adds the digest of each row of a group. Those of eight are added at once.

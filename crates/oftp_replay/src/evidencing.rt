@@ -5,12 +5,12 @@ use crate::searching::{FoundSession, Search, find_sessions};
 use oftp_command_line::Evidence;
 use oftp_engine::{Port, Refusal, RunFault, write_content};
 use oftp_events::Direction;
-use oftp_evidence::{FileFacts, ResponseFacts, SessionFacts, StationFacts, readme, verify_script};
+use oftp_evidence::{
+    FileFacts, ResponseFacts, SessionFacts, StationFacts, readme, response_in, verify_script,
+};
 use oftp_outcomes::{DONE, FAILED, Fault, Outcome, tell, write_line};
 use oftp_recording::moment_text;
-use oftp_register::{
-    Identity, IncomingEntry, Office, OutgoingEntry, OutgoingState, ResponseKind, Side,
-};
+use oftp_register::{Identity, IncomingEntry, Office, OutgoingEntry, ResponseKind, Side};
 use oftp_requests::{GONE, entry_to_fetch, standing_in, standing_out, write_outgoing};
 use oftp_status::Standing;
 use oftp_vfile::Format;
@@ -100,7 +100,7 @@ fn fill<O: Office>(
 ) -> Result<(), Fault> {
     let alloc = bundle.alloc();
     let sum = write_local(alloc, office, filed, bundle)?;
-    bundle.copy_days(record, search.days)?;
+    bundle.copy_days(record, search.findings.days)?;
     write_texts(alloc, filed, search, sum.as_str(), bundle)?;
     bundle.seal()
 }
@@ -206,36 +206,24 @@ fn sent_by(
     })
 }
 
-/// The kind of the response that an outgoing file in a state has.
-fn kind_of(state: OutgoingState) -> Option<ResponseKind> {
-    match state {
-        OutgoingState::Delivered => Some(ResponseKind::EndResponse),
-        OutgoingState::Returned => Some(ResponseKind::NegativeEndResponse),
-        _ => None,
-    }
-}
-
 /// Looks up the response to an outgoing file, if it has one.
 fn received_for<O: Office>(
     alloc: Global,
     office: &mut O,
     entry: &OutgoingEntry,
 ) -> Result<Option<Answered>, Fault> {
-    let Some(kind) = kind_of(entry.state) else {
-        return Ok(None);
-    };
     let Ok(entries) = office.list_received() else {
         return Err(GONE);
     };
-    for received in entries.iter() {
-        let response = &received.response;
-        if response.kind == kind && response.identity.is(&entry.identity) {
-            let text = String::from_str(alloc, response.text.as_str())?;
-            let reason = response.reason;
-            return Ok(Some(Answered { kind, reason, text }));
-        }
-    }
-    Ok(None)
+    let Some(received) = response_in(entries.as_slice(), entry) else {
+        return Ok(None);
+    };
+    let response = &received.response;
+    Ok(Some(Answered {
+        kind: response.kind,
+        reason: response.reason,
+        text: String::from_str(alloc, response.text.as_str())?,
+    }))
 }
 
 /// Writes the content of a file in its local form. Returns its sum.
@@ -310,7 +298,7 @@ fn readme_of(
     search: &Search,
     sum: &str,
 ) -> Result<String, AllocError> {
-    let moment = answered_text(alloc, search.answered)?;
+    let moment = answered_text(alloc, search.findings.answered)?;
     let sessions = facts_of(alloc, search.found.as_slice())?;
     readme(
         alloc,
@@ -323,11 +311,10 @@ fn readme_of(
 }
 
 /// When a file was answered, as text.
-fn answered_text(alloc: Global, moment: u64) -> Result<String, AllocError> {
-    if moment == 0 {
-        String::from_str(alloc, UNTOLD)
-    } else {
-        moment_text(alloc, moment)
+fn answered_text(alloc: Global, moment: Option<u64>) -> Result<String, AllocError> {
+    match moment {
+        Some(moment) => moment_text(alloc, moment),
+        None => String::from_str(alloc, UNTOLD),
     }
 }
 

@@ -96,7 +96,7 @@ impl Listener {
             }
             Listening::Hears => self.hear(fields.rest),
             Listening::Says => self.say(fields.rest),
-            Listening::Closes => self.close(out),
+            Listening::Closes | Listening::Opens => self.close(out),
             Listening::Passes => Ok(()),
         }
     }

@@ -5,8 +5,8 @@
 mod bundle;
 mod evidencing;
 mod explaining;
+mod halting;
 pub mod laws;
-mod part;
 mod player;
 mod replaying;
 mod searching;
@@ -16,5 +16,5 @@ mod tape;
 
 pub use evidencing::write_evidence;
 pub use explaining::explain_record;
-pub use replaying::replay;
+pub use replaying::{NamedBook, Opens, replay};
 pub use standing::{Compared, compare_with_record};

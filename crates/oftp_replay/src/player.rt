@@ -1,15 +1,19 @@
 //! What was played so far, and the ends of sessions and calls that are still to be compared.
 
+use crate::halting::Halt;
 use crate::tape::{At, Stop, Tape};
-use oftp_contents::{ContentFields, Doing, EndCause, EndLine, EntryPlace, Likeness, was_made};
+use oftp_contents::{
+    BookTurn, ContentFields, Doing, EndCause, EndLine, EntryPlace, known_behind, shown_book,
+    was_made,
+};
 use oftp_files::book_of;
 use oftp_life::Life;
 use oftp_outcomes::Fault;
 use oftp_partners::Book;
 use oftp_record::RecordKind;
-use oftp_recording::{Digest, end_for, line_of_end, register_digest, shown_book};
+use oftp_recording::{Digest, end_for, line_of_end, register_digest};
 use oftp_register::Office;
-use oftp_requests::{Asked, line_of_answer};
+use oftp_requests::Asked;
 use std::alloc::Global;
 
 /// The line of a session or a call that is over.
@@ -35,6 +39,8 @@ pub(crate) enum PlayedBook {
 pub(crate) struct Player<'a> {
     pub(crate) alloc: Global,
     pub(crate) tape: Tape<'a>,
+    /// Up to which register its office makes changes.
+    pub(crate) halt: Halt,
     // The octets of the book that was named.
     octets: &'a [u8],
     /// By which book sessions are played.
@@ -48,10 +54,11 @@ pub(crate) struct Player<'a> {
 
 impl<'a> Player<'a> {
     /// A record of which nothing was played.
-    pub(crate) fn new(alloc: Global, tape: Tape<'a>, octets: &'a [u8]) -> Player<'a> {
+    pub(crate) fn new(alloc: Global, tape: Tape<'a>, halt: Halt, octets: &'a [u8]) -> Player<'a> {
         Player {
             alloc,
             tape,
+            halt,
             octets,
             book: PlayedBook::Named,
             sessions: 0,
@@ -63,9 +70,7 @@ impl<'a> Player<'a> {
 
     /// Forgets the digest of the register, if that may be another one behind an entry of this kind.
     pub(crate) fn pass(&mut self, kind: RecordKind) {
-        if Likeness::behind(kind).is_some() {
-            self.register = None;
-        }
+        self.register = known_behind(kind, self.register);
     }
 
     /// The digest of the register.
@@ -141,14 +146,17 @@ impl<'a> Player<'a> {
         let Some(fields) = ContentFields::of(self.tape.content()) else {
             return Ok(());
         };
-        if fields.rest.is_empty() {
-            return Ok(());
+        let shown = shown_book(self.alloc, fields.rest, fields.number, self.octets)?;
+        let shown = shown.as_ref().map(|text| text.as_slice());
+        match BookTurn::behind(fields.rest, shown, self.octets) {
+            BookTurn::Stays => {}
+            BookTurn::Named => self.book = PlayedBook::Named,
+            BookTurn::Recorded => {
+                let book = book_of(self.alloc, shown.unwrap_or(&[]))?;
+                self.book = PlayedBook::Recorded(book);
+            }
+            BookTurn::Lacking => self.book = PlayedBook::Lacking,
         }
-        self.book = match shown_book(self.alloc, fields.rest, fields.number, self.octets)? {
-            None => PlayedBook::Lacking,
-            Some(text) if text.as_slice() == self.octets => PlayedBook::Named,
-            Some(text) => PlayedBook::Recorded(book_of(self.alloc, text.as_slice())?),
-        };
         Ok(())
     }
 
@@ -166,7 +174,7 @@ impl<'a> Player<'a> {
             return Ok(());
         }
         let made = asked.change(self.alloc, life);
-        let line = line_of_answer(self.alloc, made.octets.as_slice())?;
+        let line = made.line(self.alloc)?;
         self.calls = self.calls.saturating_add(1);
         self.keep(fields.number, line)
     }

@@ -1,10 +1,10 @@
 //! Playing a record over a register.
 
-use crate::part::Part;
+use crate::halting::{Halt, Halting};
 use crate::player::{PlayedBook, Player};
 use crate::tape::{At, Stop, Tape};
 use oftp_command_line::Replay;
-use oftp_contents::Playing;
+use oftp_contents::{Playing, RecordPart};
 use oftp_engine::Refusal;
 use oftp_life::Life;
 use oftp_outcomes::{DONE, FAILED, Fault, Outcome, tell, write_line};
@@ -12,31 +12,58 @@ use oftp_partners::Book;
 use oftp_progress::Gauge;
 use oftp_record::RecordKind;
 use oftp_register::Office;
+use std::alloc::Global;
 use std::io::Write;
 use std::mem;
 
-/// Plays a record over the register of a life. The station's books are in the record, without the passwords, which are taken from a book whose octets are
-/// given too. It begins with the entry that the command line
-/// names, or else with the first that has the digest of the register. Writes what came of it to `out`: that all is the same, or the first
-/// difference. Returns the exit status. It is refused if an entry is named by what is no place, or isn't there.
+/// The book that is named for the passwords.
+#[derive(Clone, Copy)]
+pub struct NamedBook<'a> {
+    /// The book.
+    pub book: &'a Book,
+    /// Its octets.
+    pub octets: &'a [u8],
+}
+
+/// Whoever opens the office over which a record is played: once, and again behind each kill of the station within what it did at once.
+pub trait Opens {
+    /// The office.
+    type Office: Office + Drop;
+
+    /// Opens the office. The one that was opened before is closed.
+    ///
+    /// # Errors
+    /// Any. Nothing is played then.
+    fn open(&mut self) -> Result<Self::Office, Fault>;
+}
+
+/// Plays a record over the register of an office. The station's books are in the record, without the passwords, which are taken from `named`, if a
+/// book is named. It begins with the entry that the command line names, or else with the first that has the digest of the register. Writes what came
+/// of it to `out`: that all is the same, or the first difference. Returns the exit status. It is refused if an entry is named by what is no place, or
+/// isn't there.
 ///
 /// # Errors
-/// [`Fault::File`] if the record can't be read; [`Fault::Run`] if the office failed, or `out` returned an error; [`Fault::MEMORY`].
-pub fn replay<O: Office + Drop>(
+/// Those of [`Opens::open`]; [`Fault::File`] if the record can't be read; [`Fault::Run`] if the office failed, or `out` returned an error;
+/// [`Fault::MEMORY`].
+pub fn replay<P: Opens>(
     rt: &HostRuntime,
     line: &Replay<'_>,
-    life: Life<O>,
-    book: &Book,
-    octets: &[u8],
+    opens: &mut P,
+    named: Option<NamedBook<'_>>,
     out: &mut impl Write,
 ) -> Result<u8, Fault> {
-    let Some(part) = Part::of(line) else {
+    let halt = Halt::new(rt.alloc())?;
+    let life = begin(rt.alloc(), opens, &halt)?;
+    let from = line.from.map(|text| text.as_bytes());
+    let to = line.to.map(|text| text.as_bytes());
+    let Some(part) = RecordPart::of_texts(from, to) else {
         return tell(Outcome::Refused(Refusal::Field), out);
     };
     let mut tape = Tape::open_part(rt, line.folder, part)?;
     tape.gauge = Some(Gauge::new(rt));
-    let mut player = Player::new(rt.alloc(), tape, octets);
-    let played = player.play_all(part, life, book);
+    let octets = named.map_or(&[] as &[u8], |named| named.octets);
+    let mut player = Player::new(rt.alloc(), tape, halt, octets);
+    let played = player.play_all(part, life, opens, named.map(|named| named.book));
     player.tape.finish();
     match played {
         Ok(()) => {
@@ -55,13 +82,24 @@ pub fn replay<O: Office + Drop>(
     }
 }
 
+/// Opens the office, and begins a life with it, whose changes are made up to where `halt` says.
+fn begin<P: Opens>(
+    alloc: Global,
+    opens: &mut P,
+    halt: &Halt,
+) -> Result<Life<Halting<P::Office>>, Fault> {
+    let office = opens.open()?;
+    Ok(Life::new(Halting::new(alloc, office, halt.again()?)))
+}
+
 impl Player<'_> {
     /// Plays the entries of a part.
-    fn play_all<O: Office + Drop>(
+    fn play_all<P: Opens>(
         &mut self,
-        part: Part,
-        life: Life<O>,
-        book: &Book,
+        part: RecordPart,
+        life: Life<Halting<P::Office>>,
+        opens: &mut P,
+        book: Option<&Book>,
     ) -> Result<(), Stop> {
         let mut life = life;
         match part.from {
@@ -77,6 +115,10 @@ impl Player<'_> {
                 At::Broken(what) => return Err(Stop::Differs(what)),
                 At::Entry(kind) => life = self.play_entry(kind, life, book)?,
             }
+            if self.halt.lift() {
+                drop(life);
+                life = begin(self.alloc, opens, &self.halt)?;
+            }
         }
         Ok(())
     }
@@ -86,7 +128,7 @@ impl Player<'_> {
         &mut self,
         kind: RecordKind,
         life: Life<O>,
-        book: &Book,
+        book: Option<&Book>,
     ) -> Result<Life<O>, Stop> {
         let mut life = life;
         self.pass(kind);
@@ -104,10 +146,13 @@ impl Player<'_> {
     fn session_by_its_book<O: Office + Drop>(
         &mut self,
         life: Life<O>,
-        book: &Book,
+        book: Option<&Book>,
     ) -> Result<Life<O>, Stop> {
         match mem::replace(&mut self.book, PlayedBook::Named) {
-            PlayedBook::Named => self.session(life, book),
+            PlayedBook::Named => match book {
+                Some(book) => self.session(life, book),
+                None => Err(Stop::Differs("the book")),
+            },
             PlayedBook::Lacking => Err(Stop::Differs("the book")),
             PlayedBook::Recorded(recorded) => {
                 let life = self.session(life, &recorded)?;

@@ -2,8 +2,8 @@
 
 use crate::bundle::{Bundle, hex_text};
 use crate::tape::{At, Tape, text_of};
-use oftp_contents::{ContentFields, RecordSide};
-use oftp_evidence::{Part, SessionFacts, SessionParts};
+use oftp_contents::{ContentFields, Listening, RecordSide, sources_in, version_in};
+use oftp_evidence::{Findings, SessionFacts, SessionParts, SideFinding, answered_after};
 use oftp_files::{Counted, Head, Transcript};
 use oftp_outcomes::Fault;
 use oftp_record::RecordKind;
@@ -21,8 +21,8 @@ struct ReadSide {
     octets: Vec<u8>,
     parts: SessionParts,
     transcript: Transcript,
-    // When it last answered the file; 0 if it didn't.
-    answered: u64,
+    // When it last answered the file; `None` if it didn't.
+    answered: Option<u64>,
 }
 
 /// A session that is read.
@@ -71,10 +71,8 @@ pub(crate) struct Search {
     book: String,
     /// The sessions that say something of the file, in their order.
     pub(crate) found: Vec<FoundSession>,
-    /// How many days they need.
-    pub(crate) days: usize,
-    /// When the file was last answered, in microseconds since 1970; 0 if it wasn't.
-    pub(crate) answered: u64,
+    /// How many days they need, and when the file was last answered.
+    pub(crate) findings: Findings,
     /// What is wrong with the record, in a line.
     pub(crate) broken: Option<String>,
 }
@@ -107,11 +105,6 @@ pub(crate) fn find_sessions(
     Ok(search)
 }
 
-/// Whether parts have a response.
-fn has_response(parts: &[Part]) -> bool {
-    parts.iter().any(|part| *part != Part::Offer)
-}
-
 impl ReadSide {
     /// Nothing was read of it.
     fn new(alloc: Global, sender: Sender, file: &Identity) -> ReadSide {
@@ -120,7 +113,7 @@ impl ReadSide {
             octets: Vec::new(alloc),
             parts: SessionParts::new(alloc, file.again()),
             transcript: Transcript::new(alloc),
-            answered: 0,
+            answered: None,
         }
     }
 
@@ -142,12 +135,19 @@ impl ReadSide {
     ) -> Result<(), AllocError> {
         let before = self.parts.found().len();
         self.parts.hear(piece)?;
-        if has_response(self.parts.found().get(before..).unwrap_or(&[])) {
-            self.answered = moment;
-        }
+        let parts = self.parts.found().get(before..).unwrap_or(&[]);
+        self.answered = answered_after(self.answered, parts, moment);
         self.octets.extend_from_slice(piece)?;
         let head = self.head(moment);
         self.transcript.take(piece, head, counted, words)
+    }
+
+    /// What it says of the file.
+    fn finding(&self) -> SideFinding<'_> {
+        SideFinding {
+            parts: self.parts.found(),
+            answered: self.answered,
+        }
     }
 
     /// Tells its end.
@@ -228,17 +228,9 @@ impl ReadSession {
             .end(self.ended, &mut self.counted, &mut self.words)
     }
 
-    /// Whether it says something of the file.
-    fn has_parts(&self) -> bool {
-        !self.heard.parts.found().is_empty() || !self.said.parts.found().is_empty()
-    }
-
-    /// When a file of a side was answered in it; 0 if it wasn't.
-    fn answered(&self, side: Side) -> u64 {
-        match side {
-            Side::Incoming => self.said.answered,
-            Side::Outgoing => self.heard.answered,
-        }
+    /// What the sessions before it and this one have of a file that goes this way; `None` if this one says nothing of it.
+    fn findings(&self, before: Findings, way: Side) -> Option<Findings> {
+        before.after(way, &self.heard.finding(), &self.said.finding(), self.days)
     }
 
     /// Writes its octets and its words.
@@ -304,10 +296,9 @@ fn write_part(
 impl FoundSession {
     /// The version of the program by the record, and the sum of its sources if the record has it.
     pub(crate) fn program(&self) -> (&str, Option<&str>) {
-        match self.version.as_str().split_once("\nsources ") {
-            Some((version, sources)) => (version, Some(sources)),
-            None => (self.version.as_str(), None),
-        }
+        let text = self.version.as_str();
+        let sources = sources_in(text).map(|sum| text_of(sum));
+        (version_in(text), sources)
     }
 
     /// What is told of it.
@@ -335,8 +326,7 @@ impl Search {
             version: String::new(alloc),
             book: String::new(alloc),
             found: Vec::new(alloc),
-            days: 0,
-            answered: 0,
+            findings: Findings::none(),
             broken: None,
         }
     }
@@ -351,19 +341,19 @@ impl Search {
         let Some(fields) = ContentFields::of(tape.content()) else {
             return Ok(());
         };
-        match kind {
-            RecordKind::Opening => {
+        match Listening::at(kind, fields.number, None, self.number()) {
+            Listening::Opens => {
                 self.close(bundle)?;
                 self.open(&fields)
             }
-            RecordKind::Session => {
+            Listening::Begins => {
                 self.close(bundle)?;
                 self.begin(&fields, tape)
             }
-            RecordKind::OctetsIn => self.hear(&fields, Sender::Partner, tape),
-            RecordKind::OctetsOut => self.hear(&fields, Sender::Station, tape),
-            RecordKind::End => self.end(&fields, tape, bundle),
-            RecordKind::Call | RecordKind::Backup | RecordKind::Mark => Ok(()),
+            Listening::Hears => self.hear(&fields, Sender::Partner, tape),
+            Listening::Says => self.hear(&fields, Sender::Station, tape),
+            Listening::Closes => self.end(tape, bundle),
+            Listening::Passes => Ok(()),
         }
     }
 
@@ -384,24 +374,19 @@ impl Search {
         Ok(())
     }
 
-    /// Whether the session with a number is read.
-    fn reads(&self, number: u64) -> bool {
-        match &self.reading {
-            Some(session) => session.number == number,
-            None => false,
-        }
+    /// The number of the session that is read, if one is.
+    fn number(&self) -> Option<u64> {
+        let session = self.reading.as_ref()?;
+        Some(session.number)
     }
 
-    /// Takes a piece of the session with a number.
+    /// Takes a piece of the session that is read.
     fn hear(
         &mut self,
         fields: &ContentFields<'_>,
         sender: Sender,
         tape: &Tape<'_>,
     ) -> Result<(), Fault> {
-        if !self.reads(fields.number) {
-            return Ok(());
-        }
         if let Some(session) = &mut self.reading {
             session.reach(tape);
             session.take(sender, fields.rest, tape.moment())?;
@@ -409,16 +394,8 @@ impl Search {
         Ok(())
     }
 
-    /// Ends the session with a number.
-    fn end(
-        &mut self,
-        fields: &ContentFields<'_>,
-        tape: &Tape<'_>,
-        bundle: &mut Bundle<'_>,
-    ) -> Result<(), Fault> {
-        if !self.reads(fields.number) {
-            return Ok(());
-        }
+    /// Ends the session that is read.
+    fn end(&mut self, tape: &Tape<'_>, bundle: &mut Bundle<'_>) -> Result<(), Fault> {
         if let Some(session) = &mut self.reading {
             session.reach(tape);
         }
@@ -430,10 +407,11 @@ impl Search {
         let Some(session) = mem::replace(&mut self.reading, None) else {
             return Ok(());
         };
-        if session.has_parts() {
-            self.keep(session, bundle)?;
-        }
-        Ok(())
+        let Some(findings) = session.findings(self.findings, self.side) else {
+            return Ok(());
+        };
+        self.findings = findings;
+        self.keep(session, bundle)
     }
 
     /// Keeps a session.
@@ -442,8 +420,6 @@ impl Search {
         session.end()?;
         let place = (self.found.len() as u64).saturating_add(1);
         session.write(self.alloc, place, bundle)?;
-        self.days = session.days;
-        self.answered = self.answered.max(session.answered(self.side));
         let found = session.into_found(
             self.alloc,
             place,

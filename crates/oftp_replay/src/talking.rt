@@ -2,15 +2,15 @@
 
 use crate::player::Player;
 use crate::tape::Stop;
-use oftp_contents::{ContentFields, Doing, RecordSide, Talking, is_joined, is_settled};
-use oftp_engine::{Admission, End, Role};
+use oftp_contents::{ContentFields, Doing, RecordSide, SaidOctets, Talking, is_joined};
+use oftp_engine::{End, Role};
 use oftp_files::book_of;
 use oftp_life::{Life, LifeSession, Opening, Stage};
 use oftp_outcomes::Fault;
 use oftp_partners::{Book, Partner};
-use oftp_recording::{Digest, SessionPasswords, instead, line_of_end, register_digest};
+use oftp_recording::{SessionPasswords, instead, line_of_end};
 use oftp_register::Office;
-use oftp_requests::goes_on;
+use oftp_requests::{Need, Welcome, need_of, welcome_of};
 use std::alloc::Global;
 
 /// What is wrong with octets that aren't those of the session.
@@ -183,42 +183,21 @@ impl Player<'_> {
         octets: &[u8],
     ) -> Result<(), Stop> {
         match Doing::before(self.tape.kind()) {
-            Doing::Done => {
-                talk.send()?;
-                talk.hear(octets)
-            }
+            Doing::Done => talk.go_on(octets),
             Doing::Untold => Ok(()),
             Doing::ByRegister => self.settle(talk, octets),
         }
     }
 
-    /// Lets a session hear the last octets before the station was killed, as far as it had heard them: until its register is that of the opening
-    /// behind them.
+    /// Lets a session hear the last octets before the station was killed, and makes its changes up to the register of the opening behind them.
     fn settle<O: Office + Drop>(
         &mut self,
         talk: &mut Talk<'_, O>,
         octets: &[u8],
     ) -> Result<(), Stop> {
-        // Behind each change the session says something.
-        let mut has_changed = true;
-        for octet in octets {
-            if has_changed && self.is_settled(talk)? {
-                return Ok(());
-            }
-            let before = talk.said.len();
-            talk.hear(&[*octet])?;
-            has_changed = talk.said.len() > before;
-        }
-        if !self.is_settled(talk)? {
-            talk.send()?;
-        }
-        Ok(())
-    }
-
-    /// Whether a session has the register of the opening at which the record stands, or goes on no more.
-    fn is_settled<O: Office + Drop>(&mut self, talk: &mut Talk<'_, O>) -> Result<bool, Stop> {
-        let now = talk.register()?;
-        Ok(is_settled(self.tape.register(), now))
+        self.halt.set(self.tape.register());
+        talk.go_on(octets)?;
+        talk.send()
     }
 
     /// Compares the octets that went out with those that the session says.
@@ -252,10 +231,10 @@ impl Player<'_> {
 /// Lets an opening hear octets until its caller is let in, or sent away. Returns how many it has heard.
 fn let_in(opening: &mut Opening<'_>, octets: &[u8]) -> Result<usize, Stop> {
     for (place, octet) in octets.iter().enumerate() {
-        match opening.hear(&[*octet]) {
-            Ok(Admission::Undecided) => {}
-            Ok(_) => return Ok(place.saturating_add(1)),
-            Err(_) => return Err(Stop::Failed(Fault::MEMORY)),
+        match welcome_of(opening.hear(&[*octet])) {
+            Welcome::Undecided => {}
+            Welcome::LetIn | Welcome::SentAway(_) => return Ok(place.saturating_add(1)),
+            Welcome::Failed(_) => return Err(Stop::Failed(Fault::MEMORY)),
         }
     }
     Ok(octets.len())
@@ -297,13 +276,19 @@ impl<'b, O: Office + Drop> Talk<'b, O> {
         }
     }
 
+    /// Lets the session go on as far as it goes, and then hear octets.
+    fn go_on(&mut self, octets: &[u8]) -> Result<(), Stop> {
+        self.send()?;
+        self.hear(octets)
+    }
+
     /// Lets the session go on that sends a file, as far as it goes without more octets.
     fn send(&mut self) -> Result<(), Stop> {
         for _ in 0..u64::MAX {
-            if self.session.stage() != Stage::Sends {
-                break;
+            match need_of(Some(self.session.stage())) {
+                Need::Nothing => self.hear(&[])?,
+                Need::Octets => break,
             }
-            self.hear(&[])?;
         }
         Ok(())
     }
@@ -312,25 +297,17 @@ impl<'b, O: Office + Drop> Talk<'b, O> {
     fn says(&mut self, octets: &[u8]) -> Result<bool, Stop> {
         self.pull()?;
         for _ in 0..u64::MAX {
-            if self.said.len() >= octets.len() || self.session.stage() != Stage::Sends {
-                break;
+            let need = need_of(Some(self.session.stage()));
+            match (SaidOctets::at(self.said.as_slice(), octets), need) {
+                (SaidOctets::Fewer, Need::Nothing) => self.hear(&[])?,
+                (SaidOctets::Fewer, Need::Octets) | (SaidOctets::Other, _) => break,
+                (SaidOctets::Same, _) => {
+                    let _ = self.said.drain(..octets.len());
+                    return Ok(true);
+                }
             }
-            self.hear(&[])?;
         }
-        let count = octets.len();
-        if count > self.said.len() || !self.said.starts_with(octets) {
-            return Ok(false);
-        }
-        let _ = self.said.drain(..count);
-        Ok(true)
-    }
-
-    /// The digest of its register; `None` once it goes on no more, so that nothing can be looked up by it.
-    fn register(&mut self) -> Result<Option<Digest>, Stop> {
-        if !goes_on(Some(self.session.stage())) {
-            return Ok(None);
-        }
-        Ok(Some(register_digest(self.alloc, &mut self.session)?))
+        Ok(false)
     }
 
     /// The line of the session, if it has ended by itself.

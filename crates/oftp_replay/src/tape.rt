@@ -1,7 +1,6 @@
 //! The entries of a record, one after another, over all its days.
 
-use crate::part::Part;
-use oftp_contents::{ContentFields, DayLink, EntryPlace, PieceMark, number_of_day};
+use oftp_contents::{ContentFields, DayLink, EntryPlace, PieceMark, RecordPart, number_of_day};
 use oftp_outcomes::Fault;
 use oftp_progress::{Extent, Gauge};
 use oftp_record::RecordKind;
@@ -47,7 +46,7 @@ pub(crate) enum At {
 pub(crate) struct Tape<'a> {
     rt: &'a HostRuntime,
     folder: &'a str,
-    part: Part,
+    part: RecordPart,
     days: Vec<String>,
     // Which of them is read next.
     next: usize,
@@ -64,14 +63,14 @@ pub(crate) struct Tape<'a> {
 impl<'a> Tape<'a> {
     /// The record in a folder, at its first entry.
     pub(crate) fn open(rt: &'a HostRuntime, folder: &'a str) -> Result<Tape<'a>, Fault> {
-        Tape::open_part(rt, folder, Part::whole())
+        Tape::open_part(rt, folder, RecordPart::whole())
     }
 
     /// The record in a folder, at its first entry, and up to the last one of a part.
     pub(crate) fn open_part(
         rt: &'a HostRuntime,
         folder: &'a str,
-        part: Part,
+        part: RecordPart,
     ) -> Result<Tape<'a>, Fault> {
         let mut tape = Tape {
             rt,

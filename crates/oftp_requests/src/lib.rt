@@ -36,7 +36,7 @@ pub use judging::{
     last_status, office_after, office_within, result_at, result_of, told_reason, told_status,
     trouble_of,
 };
-pub use lines::{line_of_answer, line_of_ending};
+pub use lines::line_of_ending;
 pub use made::{Made, stopping};
 pub use outgoing::write_outgoing;
 pub use pacing::Pace;

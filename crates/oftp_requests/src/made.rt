@@ -1,8 +1,13 @@
 //! What is made for whoever asked, and whether the office failed meanwhile.
 
+ghost use Rattle.std.specs.Prelude.{◌≡◌, IfOk, None, string_bytes};
+ghost use Rattle.oftp_requests.specs.Judged.{ending_with, office_after};
+ghost use Rattle.oftp_requests.specs.Lines.{IsEndOf, line_of_ending, told_ending};
+
 use crate::answers::answer_of;
 use crate::asked::Order;
 use crate::judging::{ending_with, office_after};
+use crate::lines::line_of_ending;
 use oftp_channel::Ending;
 use oftp_listing::{ListFault, OfficeState, Query, Reply, stopping_reply};
 use oftp_outcomes::{Fault, Outcome, Trouble};
@@ -14,14 +19,22 @@ pub struct Made {
     /// Its octets; none if there was no memory for them.
     pub octets: Vec<u8>,
     pub office: OfficeState,
+    // The end with which they end, if they are those of a command's answer.
+    ending: Option<Ending>,
 }
 
 impl Made {
     /// No answer: the connection is closed.
     pub fn nothing(alloc: Global) -> Made {
+        Made::replied(Vec::new(alloc), OfficeState::Working)
+    }
+
+    /// The answer over HTTP with these octets.
+    pub fn replied(octets: Vec<u8>, office: OfficeState) -> Made {
         Made {
-            octets: Vec::new(alloc),
-            office: OfficeState::Working,
+            octets,
+            office,
+            ending: None,
         }
     }
 
@@ -40,13 +53,40 @@ impl Made {
     }
 
     /// The answer to a command with this content and this end, or this error.
-    pub(crate) fn of(alloc: Global, content: &[u8], ending: Result<Ending, Fault>) -> Made {
+    pub(crate) fn of(alloc: Global, content: &[u8], ending: Result<Ending, Fault>) -> Made
+        ensures office { result.office ≡ office_after (ending_with ending) }
+        ensures ending { IsEndOf (ending_with ending) result.octets.items result.ending }
+    {
         let ending = ending_with(ending);
         let office = office_after(&ending);
-        Made {
-            octets: answer_of(alloc, content, ending).unwrap_or(Vec::new(alloc)),
-            office,
+        match answer_of(alloc, content, ending) {
+            Some(octets) => Made {
+                octets,
+                office,
+                ending: Some(ending),
+            },
+            None => Made {
+                octets: Vec::new(alloc),
+                office,
+                ending: None,
+            },
         }
+    }
+
+    /// The line of the end of a command's answer. An answer without an end, for which there was no memory, has that of out of memory.
+    ///
+    /// # Errors
+    /// [`Fault::MEMORY`].
+    pub fn line(&self, alloc: Global) -> Result<String, Fault>
+        ensures { IfOk result (λ line. string_bytes line ≡ line_of_ending (told_ending self.now.ending)) }
+    {
+        line_of_ending(
+            alloc,
+            match self.ending {
+                Some(ending) => ending,
+                None => Ending::Failed(Fault::MEMORY),
+            },
+        )
     }
 
     /// The answer to a command that asks for something of the station itself: this content, or this error.
@@ -63,13 +103,16 @@ impl Made {
             Ok(reply) => {
                 let office = reply.office();
                 let octets = reply.into_octets();
-                return (Made { octets, office }, None);
+                return (Made::replied(octets, office), None);
             }
             Err(fault) => Fault::from(fault).in_memory(),
         };
         let octets = Vec::new(alloc);
         let office = office_after(&Ending::Failed(fault));
-        (Made { octets, office }, Some(Trouble::OfService(fault)))
+        (
+            Made::replied(octets, office),
+            Some(Trouble::OfService(fault)),
+        )
     }
 
     /// The answer to what is asked for over HTTP whatever the register has, if there is one.

@@ -4,14 +4,14 @@ use crate::home::Home;
 use crate::peer::{Peer, Task};
 use crate::service::{Shell, peer_in};
 use crate::telling::Progress;
-use oftp_contents::{EndCause, RecordSide, left_to_mark};
+use oftp_contents::{EndCause, MarkBar, MarkTime, RecordSide};
 use oftp_life::{Life, Stage};
 use oftp_listing::OfficeState;
 use oftp_outcomes::{Fault, plain};
 use oftp_partners::Partner;
 use oftp_recording::{Recorder, cause_of, line_of_end};
 use oftp_register::Office;
-use oftp_requests::{Made, line_of_answer, office_behind, office_under};
+use oftp_requests::{Made, office_behind, office_under};
 use oftp_sockets::Keeper;
 use std::alloc::{AllocError, Global};
 use std::mem;
@@ -53,15 +53,15 @@ pub(crate) fn record_said(
 }
 
 impl Shell<'_> {
-    /// The milliseconds after which the register is to be marked in the record, if there is a record and no session goes on.
-    pub(crate) fn left_to_mark(&self, progress: Progress) -> Result<Option<u64>, Fault> {
-        match (self.config.recorder, progress) {
-            (Some(_), Progress::Over) => {
-                let passed = self.now()?.saturating_sub(self.marked);
-                Ok(Some(left_to_mark(passed)))
-            }
-            _ => Ok(None),
-        }
+    /// When the register is marked in the record.
+    pub(crate) fn mark_time(&self, progress: Progress) -> Result<MarkTime, Fault> {
+        let bar = match (self.config.recorder, progress) {
+            (None, _) => MarkBar::NoRecord,
+            (Some(_), Progress::Talking) => MarkBar::Session,
+            (Some(_), Progress::Over) => MarkBar::Free,
+        };
+        let passed = self.now()?.saturating_sub(self.marked);
+        Ok(MarkTime::at(bar, passed))
     }
 
     /// Marks the register in the record, if it is time for that.
@@ -70,7 +70,7 @@ impl Shell<'_> {
         home: &mut Home<'_, O>,
         keeper: &mut impl Keeper<Life<O>>,
     ) -> Result<(), Fault> {
-        if self.left_to_mark(home.progress())? != Some(0) {
+        if self.mark_time(home.progress())? != MarkTime::Now {
             return Ok(());
         }
         self.marked = self.now()?;
@@ -140,7 +140,7 @@ impl Shell<'_> {
     pub(crate) fn record_answer(&self, id: u64, made: &Made) -> Result<(), Fault> {
         match (self.config.recorder, made.office) {
             (Some(recorder), OfficeState::Working) => {
-                let line = line_of_answer(self.rt.alloc(), made.octets.as_slice())?;
+                let line = made.line(self.rt.alloc())?;
                 recorder.ended(id, EndCause::Itself, line.as_str())
             }
             _ => Ok(()),

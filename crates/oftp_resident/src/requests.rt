@@ -49,9 +49,9 @@ impl<'a> Shell<'a> {
         if let Err(trouble) = home.open(rt, keeper) {
             peer.note(Err(trouble));
         }
-        let Made { octets, office } = peer.look_at(alloc, home);
-        let office = office_within(keeper.term(), office);
-        self.take_answer(id, Made { octets, office })
+        let mut made = peer.look_at(alloc, home);
+        made.office = office_within(keeper.term(), made.office);
+        self.take_answer(id, made)
     }
 
     /// Makes a change, and tells the length of its answer.
@@ -172,7 +172,7 @@ impl<'a> Shell<'a> {
 
     /// Keeps an answer, and tells its length.
     fn take_answer(&mut self, id: u64, made: Made) -> Result<(), Fault> {
-        let Made { octets, office } = made;
+        let Made { octets, office, .. } = made;
         let length = octets.len() as u64;
         if let Some(peer) = peer_in(&mut self.peers, id) {
             peer.answer = Some(octets);

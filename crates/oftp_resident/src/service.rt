@@ -430,7 +430,7 @@ impl<'a> Shell<'a> {
 
     /// How long the wait may be.
     fn limit(&self, progress: Progress) -> Result<Option<Duration>, Fault> {
-        let marking = self.left_to_mark(progress)?;
+        let marking = self.mark_time(progress)?.left();
         match (self.schedule.poll_timeout(), marking) {
             (Some(time), marking) => {
                 let left = time.saturating_sub(self.now()?);

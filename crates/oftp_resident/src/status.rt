@@ -100,18 +100,15 @@ impl Shell<'_> {
         let told = self.told(alloc, sought, home);
         match (sought, told) {
             (Sought::Told(_) | Sought::Verdict(_), told) => {
-                let Made { octets, office } = Made::told(alloc, told);
-                let office = office_within(keeper.term(), office);
-                Made { octets, office }
+                let mut made = Made::told(alloc, told);
+                made.office = office_within(keeper.term(), made.office);
+                made
             }
-            (_, Ok(octets)) => Made {
-                octets,
-                office: OfficeState::Working,
-            },
-            (_, Err(Fault::Run(RunFault::Office))) => Made {
-                octets: stopping(alloc),
-                office: office_within(keeper.term(), OfficeState::Failed),
-            },
+            (_, Ok(octets)) => Made::replied(octets, OfficeState::Working),
+            (_, Err(Fault::Run(RunFault::Office))) => Made::replied(
+                stopping(alloc),
+                office_within(keeper.term(), OfficeState::Failed),
+            ),
             (_, Err(_)) => Made::nothing(alloc),
         }
     }

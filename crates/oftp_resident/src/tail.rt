@@ -17,10 +17,7 @@ impl Shell<'_> {
     pub(crate) fn made_of_events(&self) -> Made {
         let alloc = self.rt.alloc();
         let made = match self.reply_of_events() {
-            Ok(octets) => Some(Made {
-                octets,
-                office: OfficeState::Working,
-            }),
+            Ok(octets) => Some(Made::replied(octets, OfficeState::Working)),
             Err(error) if error.kind() == ErrorKind::OutOfMemory => None,
             Err(_) => Made::of_any(alloc, UNKNOWN),
         };

@@ -2,4 +2,4 @@
 
 /// The SHA-256 of the sources, but of this file, as `checks/lint/version.py` computes it.
 pub const SOURCES: &str =
-    "sources 352a8eeaf038e4ad7218b05c603dedb4882e9dfe322b155e040cd76eecea8ecf";
+    "sources 5477349fd4186aa1e0e499b4bfcc62e044835dcce8695f82fd0b16799c1905c9";

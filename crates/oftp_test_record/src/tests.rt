@@ -1,8 +1,8 @@
 //! A record of three entries.
 
 use oftp_record::{
-    Alteration, AppendFault, ChainDigest, HEADER_LEN, NextEntry, RecordEntry, RecordKind,
-    append_entry, next_entry,
+    Alteration, AppendFault, ChainDigest, HEADER_LEN, Look, NextEntry, RecordEntry, RecordKind,
+    RecordStream, append_entry, next_entry,
 };
 use std::process::Abort;
 use std::test::Fail;
@@ -152,5 +152,64 @@ fn entry_taken_out(rt: HostRuntime) -> Result<(), Fail> {
     let (count, told) = read_all(&rt, record.as_slice());
     assert_eq!(rt; count, 1);
     assert!(rt; matches!(told, NextEntry::Changed(Alteration::Digest)));
+    Ok(())
+}
+
+/// Whether this is the content of the entry with this number above.
+fn is_content(content: &[u8], number: usize) -> bool {
+    match ENTRIES.get(number) {
+        Some(entry) => content == entry.content,
+        None => false,
+    }
+}
+
+/// Takes what a stream tells, behind so many of the entries above. Returns how many it has told then.
+fn looked_at(rt: &impl Abort, stream: &mut RecordStream, told: usize) -> usize {
+    let mut count = told;
+    for _ in 0..4 {
+        let Look::Entry(passed) = stream.look() else {
+            break;
+        };
+        assert!(rt; count < ENTRIES.len());
+        assert_eq!(rt; passed.kind, ENTRIES[count].kind);
+        assert_eq!(rt; passed.moment, ENTRIES[count].moment);
+        assert!(rt; is_content(stream.content(), count));
+        count += 1;
+    }
+    count
+}
+
+// In pieces of each size, which are forgotten or kept.
+#[test]
+fn read_in_pieces(rt: HostRuntime) -> Result<(), Fail> {
+    for size in 1..184usize {
+        let mut stream = RecordStream::new(rt.alloc());
+        let mut told = 0;
+        for piece in RECORD.chunks(size) {
+            stream.add(piece)?;
+            told = looked_at(&rt, &mut stream, told);
+            if size % 2 == 0 {
+                stream.forget();
+            }
+        }
+        assert_eq!(rt; told, 3);
+        assert_eq!(rt; stream.left(), 0);
+        assert!(rt; stream.digest().as_slice() == &RECORD[183 - 32..]);
+        assert!(rt; matches!(stream.look(), Look::End));
+    }
+    Ok(())
+}
+
+// Once the octets that lack have come, a look tells the entry.
+#[test]
+fn lacking_octets_told(rt: HostRuntime) -> Result<(), Fail> {
+    let mut stream = RecordStream::new(rt.alloc());
+    stream.add(&RECORD[..22])?;
+    assert!(rt; matches!(stream.look(), Look::Cut(Some(40))));
+    stream.add(&RECORD[22..63])?;
+    assert_eq!(rt; looked_at(&rt, &mut stream, 0), 1);
+    assert!(rt; matches!(stream.look(), Look::Cut(None)));
+    stream.add(&[0; 21])?;
+    assert!(rt; matches!(stream.look(), Look::Changed(Alteration::Header)));
     Ok(())
 }

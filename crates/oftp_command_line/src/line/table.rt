@@ -315,7 +315,7 @@ const REPLAY: Declaration =
     declaration! { Replay, "replay", "Plays a record over a database and compares what comes of it", [
         Needed("record", "FOLDER", "The folder that holds the record"),
         Shared(database),
-        Shared(book),
+        Optional("book", "BOOK", "The file that holds the book with the passwords"),
         Optional("from", "ENTRY", "The first entry to play, as YYYYMMDD:NUMBER"),
         Optional("to", "ENTRY", "The last entry to play, as YYYYMMDD:NUMBER"),
     ] };

@@ -8,7 +8,8 @@ ghost use Rattle.oftp_register.specs.declared.fit.TheConstants.{MOST_UNITS};
 ghost use Rattle.oftp_life.specs.Looks.{IsSameLife, LifeLooksUp, life_seen};
 
 use super::Life;
-use crate::stage::{count, has_failed, lost};
+use crate::faults::{count, lost};
+use crate::stage::has_failed;
 use oftp_register::{
     AnsweredEntry, Change, Cursor, Identity, IncomingEntry, IssuedEntry, Item, Name, Office,
     OfficeFault, OutgoingEntry, ReceivedEntry, ResponseKind, Side,

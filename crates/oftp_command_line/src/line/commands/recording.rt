@@ -5,7 +5,6 @@ ghost use Rattle.std.specs.Prelude.{◌≡◌, codes};
 ghost use Rattle.oftp_command_line.specs.Arguments.{HasValues, values_in};
 ghost use Rattle.oftp_command_line.specs.RecordLines.{replay_app, replay_said, replay_with};
 
-use super::files::{Files, files_read};
 use crate::line::values::{given, value_of};
 use clap::ArgMatches;
 
@@ -29,8 +28,10 @@ pub(super) const RECORD_SYNCS: &[(&str, RecordSync)] = &[
 pub struct Replay<'a> {
     /// The folder with the record.
     pub folder: &'a str,
-    /// The database and the book.
-    pub files: Files<'a>,
+    /// The database.
+    pub database: &'a str,
+    /// The book with the passwords. `None`: no session that needs one can be played.
+    pub book: Option<&'a str>,
     /// The first entry that is played, as YYYYMMDD:NUMBER. `None` is the record's first.
     pub from: Option<&'a str>,
     /// The last entry that is played, as YYYYMMDD:NUMBER. `None` is the record's last.
@@ -44,7 +45,8 @@ pub(super) fn replay_read<'a>(matches: &ArgMatches<'a>) -> Replay<'a>
 {
     Replay {
         folder: given(matches, "record"),
-        files: files_read(matches),
+        database: given(matches, "db"),
+        book: value_of(matches, "book"),
         from: value_of(matches, "from"),
         to: value_of(matches, "to"),
     }

@@ -1,4 +1,3 @@
-use Rattle.std.proofs.Common.{◌≡◌, ◌^◌, ◌<◌, slice_index, arith}
 use Rattle.oftp_digest.proofs.BitLemmas.{ch_short}
 use Rattle.oftp_digest.proofs.LaneLemmas.{lane_fits}
 use Rattle.oftp_digest.proofs.words.ch.Goals as goal

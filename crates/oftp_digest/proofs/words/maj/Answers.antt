@@ -1,4 +1,4 @@
-use Rattle.std.proofs.Common.{◌≡◌, slice_index}
+use Rattle.std.proofs.Common.{slice_index}
 use Rattle.oftp_digest.proofs.BitLemmas.{maj_short}
 use Rattle.oftp_digest.proofs.words.maj.Goals as goal
 

@@ -9,7 +9,8 @@ ghost use Rattle.oftp_life.specs.Lives.{has_ceased};
 ghost use Rattle.oftp_life.specs.Looks.{IsSameSession, SessionLooksUp, session_seen};
 
 use super::LifeSession;
-use crate::stage::{after_look, count, lost};
+use crate::faults::{count, lost};
+use crate::stage::after_look;
 use oftp_register::{
     AnsweredEntry, Change, Cursor, Identity, IncomingEntry, IssuedEntry, Item, Name, Office,
     OfficeFault, OutgoingEntry, ReceivedEntry, ResponseKind, Side,
