@@ -22,10 +22,6 @@ class Holding(Resident):
         copied(database, folder / "database")
         super().__init__(folder, "--http-port", str(self.requests), *words, book=book)
 
-    def taken(self):
-        """The processor seconds that it has taken."""
-        return int(Path(f"/proc/{self.program.pid}/schedstat").read_text().split()[0]) / 1e9
-
     def memory(self):
         """The most KiB of memory that it has had."""
         status = Path(f"/proc/{self.program.pid}/status").read_text()

@@ -175,6 +175,10 @@ class Resident(Service):
         expect(self.either(), "ready", "the first line")
         return self
 
+    def taken(self):
+        """The processor seconds that it has taken."""
+        return int(Path(f"/proc/{self.program.pid}/schedstat").read_text().split()[0]) / 1e9
+
     def client(self, name=None):
         """A connection to its socket for commands, with the octet by which it says that it will read a request. Its end may have a name."""
         client = socket.socket(socket.AF_UNIX)

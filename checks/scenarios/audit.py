@@ -5,7 +5,8 @@
 
 A database lives through sessions, operators' commands and answers, and is copied after each. Each copy is sound, and has lost nothing of those
 before it. Then stock sqlite3 makes one loss after another in a copy of the last one. The audit has to print just the lines that are written
-beside it, with status 1. No database that is audited changes. The last line is `N passed, M failed`.
+beside it, with status 1. Against the record of a station that had the last copy each of them is told, too, and so is another value of any other
+column. No database that is audited changes. The last line is `N passed, M failed`.
 """
 
 import hashlib
@@ -89,6 +90,20 @@ LOSSES = [
     ("DELETE FROM received_note WHERE no = 2", ["received 2 has a value that no entry has"], ["received 2 is missing"]),
 ]
 
+# Other values of the columns of which no loss above changes one alone.
+CHANGES = [
+    *(f"UPDATE in_file SET {column} = '{value}' WHERE no = 1" for column, value in (("date", "20240201"), ("originator", "O0177OTHER"), ("destination", "O0013OTHER"))),
+    *(f"UPDATE out_file SET {column} = '{value}' WHERE no = 1" for column, value in (
+        ("dataset", "INV.9"), ("date", "20240201"), ("time", "1015300009"), ("originator", "O0013OTHER"), ("format", "T"), ("description", "x"))),
+    "UPDATE out_file SET format = 'F', longest = 1024 WHERE no = 1",
+    "UPDATE out_file SET format = 'F', longest = 1025 WHERE no = 1",
+    *(f"UPDATE received SET {column} = '{value}' WHERE no = 2" for column, value in (
+        ("date", "20240201"), ("time", "1015300009"), ("originator", "O0013OTHER"), ("destination", "O0177OTHER"))),
+]
+OTHER_REGISTER = "register: no entry of the record has it"
+# The errors of a register that can't be read.
+UNREADABLE = ("fault: 3 office\n", "fault: 6 store 1\n")
+
 
 class Unlike(Exception):
     """Something isn't as it should be."""
@@ -107,7 +122,7 @@ def expect(got, wanted, what):
 
 def expect_lines(words, lines):
     """An audit prints just these lines, and leaves its databases as they were."""
-    files = [Path(word) for word in words[1::2]]
+    files = [Path(word) for word in words[1::2] if Path(word).is_file()]
     before = [sum_of(file) for file in files]
     expect(run("audit", *words), ("".join(f"{line}\n" for line in lines), "", 1 if lines else 0), " ".join(str(word) for word in words))
     expect([sum_of(file) for file in files], before, "the databases behind it")
@@ -171,8 +186,30 @@ def try_life(copies):
             expect_lines(["--db", later, "--old", earlier], [])
 
 
+def recorded(room, whole):
+    """The record of a station that had this database."""
+    home = room / "station"
+    (home / "record").mkdir(parents=True)
+    copied(home, whole, "database")
+    with Resident(home, "--record", home / "record", book=BOOK) as station:
+        station.give("stop")
+        station.ends()
+    expect_lines(["--db", whole, "--record", home / "record"], [])
+    return home / "record"
+
+
+def try_change(room, whole, text):
+    """What stock sqlite3 does is told against the record, in a line or as an entry that can't be read."""
+    spoilt = copied(room, whole, "spoilt")
+    write(spoilt, text)
+    out, err, status = run("audit", "--db", spoilt, "--record", room / "station/record")
+    expect(status, 1, f"the status of an audit against the record, which says {out!r} and {err!r}")
+    expect(OTHER_REGISTER in out.splitlines() or err in UNREADABLE, True, f"whether {out!r} and {err!r} tell that the register is another one")
+
+
 def try_loss(room, whole, text, alone, against):
-    """A loss is told, alone and against the database that hadn't it."""
+    """A loss is told, alone, against the database that hadn't it, and against its record."""
+    try_change(room, whole, text)
     spoilt = copied(room, whole, "spoilt")
     write(spoilt, text)
     if alone is UNOPENED:
@@ -214,8 +251,11 @@ def main():
         copies = lived(room)
         note("a life", try_life, copies)
         note("refusals", try_refusals, room, copies[-1])
+        note("the record", recorded, room, copies[-1])
         for text, alone, against in LOSSES:
             note(text, try_loss, room, copies[-1], text, alone, against)
+        for text in CHANGES:
+            note(text, try_change, room, copies[-1], text)
     print(f"{results[True]} passed, {results[False]} failed")
     return 1 if results[False] else 0
 

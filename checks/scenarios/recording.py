@@ -12,7 +12,7 @@ nothing that is called the same and isn't. A record that is cut off, or
 in which an octet was changed, is told, and so is a database that isn't the station's. A station goes on behind the last whole entry. One that can't
 write its record ends with `fault: 7 file`. What `listen`, `call`, `feed` and commands without a station record gives their tables, too, also after
 kills of commands and of `feed`. No password of a session or a book is in a record, and sessions with wrong ones are played as they were. The register
-is marked each hour if no session goes on, and before a backup. A part of a record is played from an entry, and up to one.
+is marked each hour if no session goes on, and before a backup. A mark reads no rows of a file that was whole at one before. A part of a record is played from an entry, and up to one.
 An audit against a record tells a database that isn't the last one of it, or never was.
 `explain` shows what isn't to be seen in a changed record by its escape. It tells of each session, or of the one with a number, which may be 0
 """
@@ -35,6 +35,7 @@ from pathlib import Path
 
 sys.path.insert(0, str(Path(__file__).resolve().parents[1] / "lib"))
 
+import filled
 import one_file
 import row_files
 import tables
@@ -1090,6 +1091,60 @@ def marks(room):
     expect_same(room, 1, 0)
 
 
+def registers_in(room):
+    """The digests of the register that the openings and marks of the record have."""
+    places = {OPENING: 1, MARK: 0}
+    return [texts_of(content)[places[kind]] for kind, content in entries_of(file_of(room)) if kind in places]
+
+
+def texts_of(content):
+    """The two texts of a content."""
+    first, at = text_at(content, 9)
+    return first, text_at(content, at)[0]
+
+
+def text_at(content, at):
+    """The text at a place of a content, and the place behind it."""
+    end = at + 4 + struct.unpack_from(">I", content, at)[0]
+    return content[at + 4 : end], end
+
+
+def marks_of_much(room):
+    """The rows of a file that is whole are read once: three marks take less than a tenth of what the beginning took. A file that isn't whole at a mark
+    and is at the next has the digest that the next station finds, and so have files that come and go between marks."""
+    if not shutil.which("cc"):
+        raise NotTried("a C compiler: marks of a large register")
+    hours = {"LD_PRELOAD": str(compile_library(room, "fast_clock")), "CLOCK_RATE": "3600"}
+    patient = ["--patience", "86400", "--longest", "86400", "--admission", "86400"]
+    (room / "record").mkdir()
+    subprocess.run([PROGRAM, "init", "--db", room / "empty"], stdout=subprocess.DEVNULL, timeout=LONG, check=True)
+    filled.settle(room / "empty")
+    filled.fill_large(room / "empty", room / "database", 32)
+    shutil.copyfile(room / "database", room / "again")
+    first, second = row_files.Row(row_files.ROWS / "taken_up/broken_and_taken_up.row").sessions()
+    with recording(room, *patient, environment=hours) as service:
+        begun = service.taken()
+        time.sleep(3.5)
+        marked = service.taken() - begun
+        for octets in (first.joined("in"), second.joined("in")):
+            converse(service, octets)
+            time.sleep(1.2)
+        expect(submit(service, "A", BOOK), "done: submit 1\n", "submit")
+        time.sleep(1.2)
+        service.give("stop")
+        service.ends()
+    if marked > begun / 10:
+        raise Wrong(f"three marks take {marked:.3f} s of a processor, and the beginning {begun:.3f}")
+    with recording(room) as service:
+        service.give("stop")
+        service.ends()
+    found = registers_in(room)
+    expect(len(found) >= 9, True, f"whether there are three marks and three more, and not {found}")
+    expect(len(set(found)), 4, "the registers: at first, with a part of a file, with the whole file, and with the submitted one")
+    expect(found[-3], found[-2], "the digest of the last mark, and the one that the next station finds")
+    expect_same(room)
+
+
 def put(file, kind, content):
     """Appends an entry to a day's file, as a station does."""
     octets = file.read_bytes()
@@ -1173,7 +1228,7 @@ def killed_behind_the_copy(room):
         expect((done.returncode, done.stdout.decode()), (1, f"register: {line}\n"), f"{database} of a killed station")
 
 
-CASES = [without_a_book, two_replays, killed_replays, hundred_partners, password_over_a_socket, commands, rows, two_stations, book_read_again, killed_at_moments, killed_beside_partners, changed_octet, cut_record, most_at_once, killed_within_pieces, torn_pieces, backup, lost_database, days, two_in_one_folder, without_syncing, other_database, full_disk, full_disk_of_the_database, commands_alone, killed_commands, listen_and_call, feeds, feeds_refused, passwords, books_with_passwords, books_changed, killed_feeds, backups_recorded, parts, marks, hostile_record, sessions_explained, audits]
+CASES = [without_a_book, two_replays, killed_replays, hundred_partners, password_over_a_socket, commands, rows, two_stations, book_read_again, killed_at_moments, killed_beside_partners, changed_octet, cut_record, most_at_once, killed_within_pieces, torn_pieces, backup, lost_database, days, two_in_one_folder, without_syncing, other_database, full_disk, full_disk_of_the_database, commands_alone, killed_commands, listen_and_call, feeds, feeds_refused, passwords, books_with_passwords, books_changed, killed_feeds, backups_recorded, parts, marks, marks_of_much, hostile_record, sessions_explained, audits]
 
 
 def tried(case):

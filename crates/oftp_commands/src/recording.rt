@@ -6,7 +6,7 @@ use oftp_command_line::VERSION;
 use oftp_contents::EndCause;
 use oftp_files::own_user;
 use oftp_listing::OfficeState;
-use oftp_outcomes::Fault;
+use oftp_outcomes::{Fault, Term};
 use oftp_recording::{Recorder, Syncing};
 use oftp_register::Office;
 use oftp_requests::{ending_with, line_of_ending, office_after, recorded_request};
@@ -32,7 +32,7 @@ impl<'t> Recording<'t> {
         let Some(folder) = telling.record else {
             return Ok(None);
         };
-        let recorder = Recorder::open(telling.rt, folder, Syncing::Synced)?;
+        let recorder = Recorder::open(telling.rt, folder, Syncing::Synced, Term::OfService)?;
         recorder.begin(VERSION, telling.sources, &[], office)?;
         Ok(Some(Recording { recorder, calls: 0 }))
     }

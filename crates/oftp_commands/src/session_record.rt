@@ -5,7 +5,7 @@ use oftp_contents::RecordSide;
 use oftp_engine::End;
 use oftp_life::Stage;
 use oftp_listing::OfficeState;
-use oftp_outcomes::Fault;
+use oftp_outcomes::{Fault, Term};
 use oftp_partners::Partner;
 use oftp_recording::{Recorder, Syncing, cause_of, line_of_end};
 use oftp_register::Office;
@@ -34,7 +34,7 @@ impl<'r> SessionRecord<'r> {
         peer: &'r str,
     ) -> Result<SessionRecord<'r>, Fault> {
         let recorder = match folder {
-            Some(folder) => Some(Recorder::open(rt, folder, Syncing::Synced)?),
+            Some(folder) => Some(Recorder::open(rt, folder, Syncing::Synced, Term::OfService)?),
             None => None,
         };
         Ok(SessionRecord { recorder, peer })

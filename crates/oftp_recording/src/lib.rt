@@ -15,4 +15,4 @@ pub use moments::moment_text;
 pub use passwords::{SessionPasswords, instead};
 pub use reading::{Found, RecordReader};
 pub use recorder::{Recorder, Syncing};
-pub use registers::{Digest, register_digest};
+pub use registers::{Digest, RegisterDigests};

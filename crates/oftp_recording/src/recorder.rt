@@ -4,14 +4,14 @@ use crate::days::{day_text, file_of, record_days};
 use crate::moments::moment_text;
 use crate::passwords::{SessionPasswords, instead};
 use crate::reading::{Found, RecordReader, refuse_others};
-use crate::registers::{Digest, register_digest};
+use crate::registers::{Digest, RegisterDigests};
 use jiff::Timestamp;
 use oftp_contents::{
     ContentFields, DayTurn, EndCause, Marked, RecordSide, SessionOctets, day_at, hidden_book,
     is_same_day, last_before, last_day, program_text, turn_of, without_passwords,
 };
 use oftp_files::{file_fault, is_free, make_private};
-use oftp_outcomes::Fault;
+use oftp_outcomes::{Fault, Term};
 use oftp_partners::Partner;
 use oftp_record::{AppendFault, ChainDigest, RecordEntry, RecordKind, append_entry};
 use oftp_register::Office;
@@ -44,6 +44,8 @@ pub struct Recorder<'a> {
     rt: &'a HostRuntime,
     folder: &'a str,
     syncing: Syncing,
+    term: Term,
+    digests: RegisterDigests,
     // `None` once the record couldn't be written.
     day: RefCell<Option<Day>>,
     // Those of the session that is recorded, if one is.
@@ -63,7 +65,8 @@ struct Day {
 }
 
 impl<'a> Recorder<'a> {
-    /// Goes on with the record in a folder. What is behind the last whole entry of the day's file is cut off.
+    /// Goes on with the record in a folder. What is behind the last whole entry of the day's file is cut off. `term` is how long each office has the
+    /// register.
     ///
     /// # Errors
     /// [`Fault::File`] if there is no such folder, a file of it can't be written or was changed, or another station writes it; [`Fault::MEMORY`].
@@ -71,6 +74,7 @@ impl<'a> Recorder<'a> {
         rt: &'a HostRuntime,
         folder: &'a str,
         syncing: Syncing,
+        term: Term,
     ) -> Result<Recorder<'a>, Fault> {
         let today = today(rt)?;
         let days = record_days(rt, folder)?;
@@ -84,6 +88,8 @@ impl<'a> Recorder<'a> {
             rt,
             folder,
             syncing,
+            term,
+            digests: RegisterDigests::new(rt.alloc()),
             day: RefCell::new(Some(day)),
             passwords: RefCell::new(None),
         })
@@ -101,7 +107,7 @@ impl<'a> Recorder<'a> {
         book: &[u8],
         office: &mut O,
     ) -> Result<(), Fault> {
-        let register = register_digest(self.rt.alloc(), office)?;
+        let register = self.register(office)?;
         let salt = salt_drawn(self.rt)?;
         let program = program_text(self.rt.alloc(), version, sources)?;
         let book = hidden_book(self.rt.alloc(), book, salt)?;
@@ -121,7 +127,7 @@ impl<'a> Recorder<'a> {
     /// # Errors
     /// Those of [`Recorder::begin`].
     pub fn mark<O: Office>(&self, office: &mut O) -> Result<(), Fault> {
-        let register = register_digest(self.rt.alloc(), office)?;
+        let register = self.register(office)?;
         self.put(RecordKind::Mark, &mark_of(Marked::Register, &register))?;
         self.sync()
     }
@@ -131,7 +137,7 @@ impl<'a> Recorder<'a> {
     /// # Errors
     /// Those of [`Recorder::begin`].
     pub fn back_up<O: Office>(&self, to: &str, office: &mut O) -> Result<(), Fault> {
-        let register = register_digest(self.rt.alloc(), office)?;
+        let register = self.register(office)?;
         self.put(RecordKind::Backup, &backup_of(to, &register))?;
         self.sync()
     }
@@ -208,6 +214,15 @@ impl<'a> Recorder<'a> {
         };
         self.put(RecordKind::End, &fields)?;
         self.sync()
+    }
+
+    /// The digest of the register at this moment.
+    fn register<O: Office>(&self, office: &mut O) -> Result<Digest, Fault> {
+        match self.term {
+            Term::OfService => {}
+            Term::OfJob => self.digests.forget(),
+        }
+        self.digests.digest(office)
     }
 
     /// Appends an entry.

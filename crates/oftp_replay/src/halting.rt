@@ -6,7 +6,8 @@ ghost use Rattle.oftp_replay.specs.Halting.{IsBehind, counted, up_to};
 
 use oftp_contents::is_left;
 use oftp_life::faults::{count, lost};
-use oftp_recording::{Digest, register_digest};
+use oftp_outcomes::Fault;
+use oftp_recording::{Digest, RegisterDigests};
 use oftp_register::{
     AnsweredEntry, Change, Cursor, Identity, IncomingEntry, IssuedEntry, Item, Name, Office,
     OfficeFault, OutgoingEntry, ReceivedEntry, ResponseKind, Side,
@@ -54,6 +55,8 @@ impl Way {
 #[derive(Drop)]
 pub(crate) struct Halt {
     way: Rc<Cell<Way>>,
+    // Those of the registers of that office.
+    digests: Rc<RegisterDigests>,
 }
 
 impl Halt {
@@ -61,6 +64,7 @@ impl Halt {
     pub(crate) fn new(alloc: Global) -> Result<Halt, AllocError> {
         Ok(Halt {
             way: Rc::new(alloc, Cell::new(Way::Open))?,
+            digests: Rc::new(alloc, RegisterDigests::new(alloc))?,
         })
     }
 
@@ -68,7 +72,24 @@ impl Halt {
     pub(crate) fn again(&self) -> Result<Halt, AllocError> {
         Ok(Halt {
             way: self.way.clone()?,
+            digests: self.digests.clone()?,
         })
+    }
+
+    /// The digest of the register of the office, or of a life with it.
+    ///
+    /// # Errors
+    /// [`Fault::Run`] if the office failed; [`Fault::MEMORY`].
+    pub(crate) fn register<O: Office>(&self, office: &mut O) -> Result<Digest, Fault>
+        ensures asks { Asks (O.view office.old) (O.view office.new) }
+        ensures untold { OnOk result ((O.view office.new).told ≡ (O.view office.old).told) }
+    {
+        self.digests.digest(office)
+    }
+
+    /// From now on the office is another one.
+    pub(crate) fn turn(&self) {
+        self.digests.forget();
     }
 
     /// From now on changes are made up to a register, if there is one. Once one was refused, each one is.
@@ -87,7 +108,6 @@ impl Halt {
 #[derive(Drop)]
 pub(crate) struct Halting<O> {
     office: O,
-    alloc: Global,
     halt: Halt,
     // How many errors it returned, modulo 2^64.
     faults: u64,
@@ -95,12 +115,11 @@ pub(crate) struct Halting<O> {
 
 impl<O> Halting<O> {
     /// An office that asks here before each change.
-    pub(crate) fn new(alloc: Global, office: O, halt: Halt) -> Halting<O>
+    pub(crate) fn new(office: O, halt: Halt) -> Halting<O>
         ensures office { result.office ≡ office }
     {
         Halting {
             office,
-            alloc,
             halt,
             faults: 0,
         }
@@ -117,7 +136,7 @@ impl<O: Office> Halting<O> {
     {
         let way = match self.halt.way.get() {
             Way::UpTo(register) => {
-                let Ok(now) = register_digest(self.alloc, &mut self.office) else {
+                let Ok(now) = self.halt.register(&mut self.office) else {
                     return Err(OfficeFault::Store);
                 };
                 Way::UpTo(register).behind(now)

@@ -11,7 +11,7 @@ use oftp_life::Life;
 use oftp_outcomes::Fault;
 use oftp_partners::Book;
 use oftp_record::RecordKind;
-use oftp_recording::{Digest, end_for, line_of_end, register_digest};
+use oftp_recording::{Digest, end_for, line_of_end};
 use oftp_register::Office;
 use oftp_requests::Asked;
 use std::alloc::Global;
@@ -39,7 +39,7 @@ pub(crate) enum PlayedBook {
 pub(crate) struct Player<'a> {
     pub(crate) alloc: Global,
     pub(crate) tape: Tape<'a>,
-    /// Up to which register its office makes changes.
+    /// Up to which register its office makes changes, and the digests of its registers.
     pub(crate) halt: Halt,
     // The octets of the book that was named.
     octets: &'a [u8],
@@ -78,7 +78,7 @@ impl<'a> Player<'a> {
         if let Some(register) = self.register {
             return Ok(register);
         }
-        let register = register_digest(self.alloc, life)?;
+        let register = self.halt.register(life)?;
         self.register = Some(register);
         Ok(register)
     }
@@ -186,7 +186,7 @@ impl<'a> Player<'a> {
             Doing::Done => Ok(true),
             Doing::Untold => Ok(false),
             Doing::ByRegister => {
-                let now = register_digest(self.alloc, life)?;
+                let now = self.halt.register(life)?;
                 Ok(was_made(self.tape.register(), now))
             }
         }

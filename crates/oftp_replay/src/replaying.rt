@@ -12,7 +12,6 @@ use oftp_partners::Book;
 use oftp_progress::Gauge;
 use oftp_record::RecordKind;
 use oftp_register::Office;
-use std::alloc::Global;
 use std::io::Write;
 use std::mem;
 
@@ -53,7 +52,7 @@ pub fn replay<P: Opens>(
     out: &mut impl Write,
 ) -> Result<u8, Fault> {
     let halt = Halt::new(rt.alloc())?;
-    let life = begin(rt.alloc(), opens, &halt)?;
+    let life = begin(opens, &halt)?;
     let from = line.from.map(|text| text.as_bytes());
     let to = line.to.map(|text| text.as_bytes());
     let Some(part) = RecordPart::of_texts(from, to) else {
@@ -83,13 +82,10 @@ pub fn replay<P: Opens>(
 }
 
 /// Opens the office, and begins a life with it, whose changes are made up to where `halt` says.
-fn begin<P: Opens>(
-    alloc: Global,
-    opens: &mut P,
-    halt: &Halt,
-) -> Result<Life<Halting<P::Office>>, Fault> {
+fn begin<P: Opens>(opens: &mut P, halt: &Halt) -> Result<Life<Halting<P::Office>>, Fault> {
     let office = opens.open()?;
-    Ok(Life::new(Halting::new(alloc, office, halt.again()?)))
+    halt.turn();
+    Ok(Life::new(Halting::new(office, halt.again()?)))
 }
 
 impl Player<'_> {
@@ -117,7 +113,7 @@ impl Player<'_> {
             }
             if self.halt.lift() {
                 drop(life);
-                life = begin(self.alloc, opens, &self.halt)?;
+                life = begin(opens, &self.halt)?;
             }
         }
         Ok(())

@@ -3,7 +3,7 @@
 use crate::tape::{At, Tape};
 use oftp_contents::{Likeness, RegisterStanding};
 use oftp_outcomes::{Fault, write_line};
-use oftp_recording::{Digest, register_digest};
+use oftp_recording::{Digest, RegisterDigests};
 use oftp_register::Office;
 use std::io::Write;
 
@@ -27,7 +27,7 @@ pub fn compare_with_record<O: Office>(
     office: &mut O,
     out: &mut impl Write,
 ) -> Result<Compared, Fault> {
-    let register = register_digest(rt.alloc(), office)?;
+    let register = RegisterDigests::new(rt.alloc()).digest(office)?;
     let mut tape = Tape::open(rt, folder)?;
     let standing = standing_of(&mut tape, &register)?;
     if let At::Broken(what) = tape.at() {

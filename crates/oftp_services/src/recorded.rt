@@ -2,7 +2,7 @@
 
 use oftp_command_line::{RecordSync, VERSION};
 use oftp_life::Life;
-use oftp_outcomes::{Fault, Trouble};
+use oftp_outcomes::{Fault, Term, Trouble};
 use oftp_recording::{Recorder, Syncing};
 use oftp_register::Office;
 use oftp_sockets::Keeper;
@@ -50,18 +50,19 @@ impl Recorded<'_> {
     }
 }
 
-/// The record in the folder that a command line names, if it names one.
+/// The record in the folder that a command line names, if it names one. `term` is how long each life with the register lasts.
 pub(crate) fn recorder_of<'a>(
     rt: &'a HostRuntime,
     folder: Option<&'a str>,
     sync: RecordSync,
+    term: Term,
 ) -> Result<Option<Recorder<'a>>, Fault> {
     let syncing = match sync {
         RecordSync::Synced => Syncing::Synced,
         RecordSync::Unsynced => Syncing::Unsynced,
     };
     match folder {
-        Some(folder) => Ok(Some(Recorder::open(rt, folder, syncing)?)),
+        Some(folder) => Ok(Some(Recorder::open(rt, folder, syncing, term)?)),
         None => Ok(None),
     }
 }

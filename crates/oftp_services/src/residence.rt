@@ -9,7 +9,7 @@ use oftp_database::{self as database, PATIENCE, WatchedOffice};
 use oftp_files::{EventFile, read_book_octets};
 use oftp_life::Life;
 use oftp_listing::Site;
-use oftp_outcomes::Fault;
+use oftp_outcomes::{Fault, Term};
 use oftp_register::Office;
 use oftp_requests::{bare_answer, codes_of, overdues_of};
 use oftp_resident::{Kept, ServiceConfig, SessionLines, Shelf, Start, serve};
@@ -63,7 +63,7 @@ fn run_noting<'n>(
     let life = database::live(rt, line.files.database, PATIENCE, noting(&line.files, news))?;
     let trace = trace_of(rt, &line.files, &line.terms)?;
     let events = events_of(rt, &line.files, news)?;
-    let recorder = recorder_of(rt, line.files.record, line.sync)?;
+    let recorder = recorder_of(rt, line.files.record, line.sync, Term::OfService)?;
     let station = station_of(&book, &line.terms, trace.as_ref());
     let recorded = Recorded {
         sources,

@@ -6,7 +6,7 @@ use oftp_database::{self as database, Opened};
 use oftp_engine::End;
 use oftp_files::{EventFile, Trace, book_of, open_events, open_trace, read_book_octets};
 use oftp_listing::Site;
-use oftp_outcomes::{Fault, Outcome, Trouble, Way, write_line};
+use oftp_outcomes::{Fault, Outcome, Term, Trouble, Way, write_line};
 use oftp_partners::Book;
 use oftp_resident::{ServiceConfig, Start, serve};
 use oftp_schedule::connection::Counted;
@@ -129,7 +129,7 @@ fn listen_noting<'n>(
     database::make(rt, line.files.database)?;
     let trace = trace_of(rt, &line.files, &line.terms)?;
     let events = events_of(rt, &line.files, news)?;
-    let recorder = recorder_of(rt, line.files.record, RecordSync::Synced)?;
+    let recorder = recorder_of(rt, line.files.record, RecordSync::Synced, Term::OfJob)?;
     let station = station_of(&book, &line.terms, trace.as_ref());
     let listener = bound(rt, line.entrance.address, line.entrance.port)?;
     let keeper = Opened::new(rt, line.files.database, noting(&line.files, news));
@@ -203,7 +203,7 @@ fn call_noting<'n>(
 ) -> Result<Outcome, Fault> {
     let trace = trace_of(rt, &line.files, &line.terms)?;
     let events = events_of(rt, &line.files, news)?;
-    let recorder = recorder_of(rt, line.files.record, RecordSync::Synced)?;
+    let recorder = recorder_of(rt, line.files.record, RecordSync::Synced, Term::OfJob)?;
     let recorded = Recorded {
         sources,
         book: octets,

@@ -2,4 +2,4 @@
 
 /// The SHA-256 of the sources, but of this file, as `checks/lint/version.py` computes it.
 pub const SOURCES: &str =
-    "sources 5477349fd4186aa1e0e499b4bfcc62e044835dcce8695f82fd0b16799c1905c9";
+    "sources e7ed3513adf2285f710517df9a68f217e0731613f0d4dce01419adf9475c5821";

@@ -2,5 +2,5 @@ use Rattle.oftp_recording.proofs.RegisterLemmas.{HasAsked}
 use Rattle.oftp_recording.proofs.registers.add_incoming.Given as goal
 
 -- what was looked up so far found no error
-abbrev pub invariant-loop-entry : goal.invariant-loop-entry
-invariant-loop-entry g l = HasAsked (g.O.Office.view l.fn.office) (g.O.Office.view l.office)
+abbrev pub invariant-loop-place : goal.invariant-loop-place
+invariant-loop-place g l = HasAsked (g.O.Office.view l.fn.office) (g.O.Office.view l.office)

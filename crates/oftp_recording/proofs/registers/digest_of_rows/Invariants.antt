@@ -1,5 +1,5 @@
 use Rattle.oftp_recording.proofs.RegisterLemmas.{HasAsked}
-use Rattle.oftp_recording.proofs.registers.add_rows.Given as goal
+use Rattle.oftp_recording.proofs.registers.digest_of_rows.Given as goal
 
 -- what was looked up so far found no error
 abbrev pub invariant-loop : goal.invariant-loop
