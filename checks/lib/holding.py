@@ -16,11 +16,11 @@ class Holding(Resident):
     # A database of 1 GiB takes minutes to open on a loaded machine.
     patience = 1800
 
-    def __init__(self, folder, database, book, *words):
+    def __init__(self, folder, database, book, *words, **how):
         self.requests = free_port()
         folder.mkdir(exist_ok=True)
         copied(database, folder / "database")
-        super().__init__(folder, "--http-port", str(self.requests), *words, book=book)
+        super().__init__(folder, "--http-port", str(self.requests), *words, book=book, **how)
 
     def memory(self):
         """The most KiB of memory that it has had."""

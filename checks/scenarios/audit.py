@@ -41,6 +41,9 @@ LATER = [
     "INSERT INTO issued VALUES (2, 'NERP', '34', 'broken', 0)",
 ]
 
+# A text that belongs to no entry. The register is the same with it.
+STRAY_TEXT = "INSERT INTO received_note VALUES (1, '', 'x')"
+
 # What stands for the lines if a row refers to one that isn't there: no command opens such a database.
 UNOPENED = None
 
@@ -83,7 +86,7 @@ LOSSES = [
     ("UPDATE received SET reason = '35' WHERE no = 2", [], ["received 2 has another reason"]),
     ("UPDATE received_note SET creator = 'O0177OTHER' WHERE no = 2", [], ["received 2 has another creator"]),
     ("UPDATE received_note SET note = '' WHERE no = 2", [], ["received 2 has another text"]),
-    ("INSERT INTO received_note VALUES (1, '', 'x')", ["received 1 has a reason, a creator or a text, and is an EERP", "text of received 1 belongs to no entry"],
+    (STRAY_TEXT, ["received 1 has a reason, a creator or a text, and is an EERP", "text of received 1 belongs to no entry"],
      ["received 1 has another text"]),
     ("INSERT INTO received_note VALUES (7, '', '')", UNOPENED, []),
     ("UPDATE received SET kind = 'EERP' WHERE no = 2", ["received 2 has a value that no entry has", "text of received 2 belongs to no entry"], ["received 2 is missing"]),
@@ -209,7 +212,8 @@ def try_change(room, whole, text):
 
 def try_loss(room, whole, text, alone, against):
     """A loss is told, alone, against the database that hadn't it, and against its record."""
-    try_change(room, whole, text)
+    if text != STRAY_TEXT:
+        try_change(room, whole, text)
     spoilt = copied(room, whole, "spoilt")
     write(spoilt, text)
     if alone is UNOPENED:

@@ -6,11 +6,13 @@
 Three stations receive 8 MiB in large windows by turns: without a record, with one, and with one that isn't synced. The least time of each counts.
 With a record a session may take 1.3 times as long on the clock, and 1.1 times without syncs. `replay` of such a session may take the processor no
 longer than `feed` of its octets, with a record and without one, each over a new database. A record that is read to its end may take a processor 10 s for 1 GB. That is what `audit`
-takes against it, without what it takes against a record of four entries. With `--assert` it fails if something takes longer than it may. The last
-line is `N passed, M failed`.
+takes against it, without what it takes against a record of four entries. Over a register of 100 MiB
+a mark may take a tenth of what the record adds to the start: by a clock that passes an hour in a second, five marks are made. With `--assert` it fails
+if something takes longer than it may. The last line is `N passed, M failed`.
 
-Shows: what a record adds to a session of 8 MiB, synced and not; what `replay` takes beside `feed`, which records or not; what reading a record takes.
-It fails where that is more than 1.3 and 1.1 times, longer than `feed`, or more than 10 s of a processor for 1 GB
+Shows: what a record adds to a session of 8 MiB, synced and not; what `replay` takes beside `feed`, which records or not; what reading a record takes;
+what it adds to a start over 100 MiB, and what a mark takes then. It fails where that is more than 1.3 and 1.1 times, longer than `feed`, more than 10 s
+of a processor for 1 GB, or for a mark more than a tenth of what it adds
 """
 
 import argparse
@@ -24,11 +26,12 @@ from pathlib import Path
 
 sys.path.insert(0, str(Path(__file__).resolve().parents[1] / "lib"))
 
-from filled import BLOCK, MEBI
+from filled import BLOCK, MEBI, fill_large, settle
 from holding import Holding, spoken
 from measured import by_processor, run, run_quietly
 from one_file import BOOK, FILE, data_frames, frame_of
 from program import PROGRAM
+from shims import compile_library
 
 SIZE, BUFFER = 8 * MEBI, 16384
 OFTEN, ROUNDS = 7, 4
@@ -53,11 +56,11 @@ class Room:
         self.book.write_text(BOOK.format(buffer=BUFFER, credit=99))
         run_quietly([PROGRAM, "init", "--db", self.empty])
 
-    def station(self, name):
+    def station(self, name, database=None, **how):
         folder = self.path / name
         (folder / "record").mkdir(parents=True)
         words = WORDS[name] + ([folder / "record"] if WORDS[name] else [])
-        return Holding(folder, self.empty, self.book, *words)
+        return Holding(folder, database or self.empty, self.book, *words, **how)
 
     def again(self, name):
         """A new database."""
@@ -147,13 +150,32 @@ def replays(room):
     return [is_well for _, is_well in told]
 
 
+def marks(room):
+    """Whether a mark of a register of 100 MiB takes no longer than it may."""
+    settle(room.empty)
+    large = fill_large(room.empty, room.path / "large", 100)
+    hours = {"LD_PRELOAD": str(compile_library(room.path, "fast_clock")), "CLOCK_RATE": "3600"}
+    begun = {}
+    for name in ("without a record", "with a record"):
+        shutil.rmtree(room.path / name, ignore_errors=True)
+        with room.station(name, large, environment=hours) as station:
+            begun[name] = station.taken()
+            time.sleep(5.5)
+            mark = (station.taken() - begun[name]) / 5
+    first, second = begun.values()
+    is_well = mark <= (second - first) / 10
+    line = f"  a start over 100 MiB takes {first:.2f} s, {second:.2f} s with a record, and a mark then {mark:.3f} s"
+    print(f"{line}{'' if is_well else ': TOO MUCH'}", flush=True)
+    return [is_well]
+
+
 def main():
     parser = argparse.ArgumentParser(description=__doc__.splitlines()[0])
     parser.add_argument("--assert", action="store_true", dest="is_asserted")
     taken = parser.parse_args()
     with tempfile.TemporaryDirectory() as path:
         room = Room(Path(path))
-        done = sessions(room) + replays(room)
+        done = sessions(room) + replays(room) + marks(room)
     failed = done.count(False)
     print(f"{len(done) - failed} passed, {failed} failed")
     return 1 if taken.is_asserted and failed else 0
