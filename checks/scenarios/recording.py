@@ -988,6 +988,24 @@ def books_changed(room):
     expect((status, out[-9:]), (1, "the book\n"), "replay by a book without the password of a partner")
 
 
+def passwords_changed(room):
+    """Once a password was changed, the book from before plays up to that, and the new one goes on over the same database."""
+    before, behind = room / "before.toml", room / "behind.toml"
+    before.write_text(BOOK.read_text())
+    behind.write_text(BOOK.read_text().replace("CARPW", "NEWPW"))
+    for name, book, password in ((b"ASN.0001", before, b"CARPW"), (b"ASN.0002", behind, b"NEWPW")):
+        with recording(room, book=book) as service:
+            session = one_file.session(3000, 128, 2).replace(b"ASN.0001", name).replace(b"CARPW", password)
+            expect(converse(service, session), "session O0177CARMAKER in: end: partner 00", f"the session with {password}")
+            service.give("stop")
+            service.ends()
+    status, out, _ = replayed(room, "new", behind)
+    expect((status, out[-19:]), (1, " entry 1: the book\n"), "replay by the new book alone")
+    status, out, _ = replayed(room, "again", before)
+    expect((status, out[-11:], tables.read(room / "again") == tables.read(room / "database")), (1, ": the book\n", False), "replay by the book from before")
+    expect_same(room, 1, 0, book=behind)
+
+
 def killed_feed(room, seed):
     """SIGKILL at any moment of `feed`, whose partner sends in pieces."""
     chance = random.Random(seed)
@@ -1228,7 +1246,7 @@ def killed_behind_the_copy(room):
         expect((done.returncode, done.stdout.decode()), (1, f"register: {line}\n"), f"{database} of a killed station")
 
 
-CASES = [without_a_book, two_replays, killed_replays, hundred_partners, password_over_a_socket, commands, rows, two_stations, book_read_again, killed_at_moments, killed_beside_partners, changed_octet, cut_record, most_at_once, killed_within_pieces, torn_pieces, backup, lost_database, days, two_in_one_folder, without_syncing, other_database, full_disk, full_disk_of_the_database, commands_alone, killed_commands, listen_and_call, feeds, feeds_refused, passwords, books_with_passwords, books_changed, killed_feeds, backups_recorded, parts, marks, marks_of_much, hostile_record, sessions_explained, audits]
+CASES = [without_a_book, two_replays, killed_replays, hundred_partners, password_over_a_socket, commands, rows, two_stations, book_read_again, killed_at_moments, killed_beside_partners, changed_octet, cut_record, most_at_once, killed_within_pieces, torn_pieces, backup, lost_database, days, two_in_one_folder, without_syncing, other_database, full_disk, full_disk_of_the_database, commands_alone, killed_commands, listen_and_call, feeds, feeds_refused, passwords, books_with_passwords, books_changed, passwords_changed, killed_feeds, backups_recorded, parts, marks, marks_of_much, hostile_record, sessions_explained, audits]
 
 
 def tried(case):
