@@ -7,9 +7,9 @@ The last line is `N passed, M failed`.
 
 Shows: what a station recorded, played over a new database, gives the tables that the station has, read by stock sqlite3. That is after sessions
 with a partner who calls and who is called, with files both ways. It is after operators' commands and after a book that was read again. It is after
-SIGKILL between any two octets of sessions and within commands, with a start again each time. It goes on from a backup. Of two replays at once one plays it all, and one that is killed leaves
+SIGKILL between any two octets of sessions and within commands, with a start again each time, also as days turn. It goes on from a backup. Of two replays at once one plays it all, and one that is killed leaves
 nothing that is called the same and isn't. A record that is cut off, or
-in which an octet was changed, is told, and so is a database that isn't the station's. A station goes on behind the last whole entry. One that can't
+in which an octet was changed, is told, and so is a database that isn't the station's. A station goes on behind the last whole entry, also of days before. One that can't
 write its record ends with `fault: 7 file`. What `listen`, `call`, `feed` and commands without a station record gives their tables, too, also after
 kills of commands and of `feed`. No password of a session or a book is in a record, and sessions with wrong ones are played as they were. The register
 is marked each hour if no session goes on, and before a backup. A mark reads no rows of a file that was whole at one before. A part of a record is played from an entry, and up to one.
@@ -18,6 +18,8 @@ An audit against a record tells a database that isn't the last one of it, or nev
 """
 
 import contextlib
+import datetime
+import fcntl
 import hashlib
 import os
 import random
@@ -185,14 +187,14 @@ def book_read_again(room):
     expect_same(room, 1, 2, book=first)
 
 
-def killed(room, seed):
+def killed(room, seed, **how):
     """SIGKILL at any moment of sessions and commands, with a start again each time."""
     chance = random.Random(seed)
     file = room / "file"
     file.write_bytes(bytes(5000))
     whole = [one_file.session(30_000, 128, 2), session_of("receiving/one_octet").joined("in"), one_file.session(3000, 2048, 5)]
     for turn in range(6):
-        with recording(room) as service:
+        with recording(room, **how) as service:
             for octets in chance.sample(whole, 2):
                 with service.caller() as caller, contextlib.suppress(OSError):
                     cut = chance.randrange(len(octets) + 1)
@@ -207,7 +209,7 @@ def killed(room, seed):
             service.program.wait()
             if asked:
                 asked.close()
-    with recording(room, "--jobs", "1") as service:
+    with recording(room, "--jobs", "1", **how) as service:
         submit(service, "LAST", file)
         service.ends()
     expect_same(room)
@@ -267,6 +269,24 @@ def many(room, case, count):
 def killed_at_moments(room):
     """SIGKILL while callers talk and commands ask."""
     many(room, killed, 12)
+
+
+def passing_days(room):
+    """What lets the clock of a program pass fifty days in a second."""
+    if not shutil.which("cc"):
+        raise NotTried("a C compiler: days that turn")
+    return {"LD_PRELOAD": str(compile_library(room, "fast_days")), "DAYS_RATE": "4320000", "DAYS_FROM": str(int(time.time()))}
+
+
+def killed_as_days_turn(room):
+    """SIGKILL while callers talk and commands ask, by a clock that passes fifty days in a second."""
+    days = passing_days(room)
+
+    def one(folder, seed):
+        killed(folder, seed, environment=days)
+        expect(len(list((folder / "record").iterdir())) > 9, True, "that days turned")
+
+    many(room, one, 8)
 
 
 def killed_beside_partners(room):
@@ -604,10 +624,40 @@ def days(room):
     middle = room / "record/20200102.record"
     middle.rename(room / "away")
     status, out, _ = replayed(room, "third")
-    expect((status, out.split(": ")[2]), (1, "it doesn't follow the day before\n"), "replay without a day")
+    expect((status, out.split(", ")[1]), (1, "entry 1: it doesn't follow the day before\n"), "replay without a day")
     (room / "away").rename(middle)
     (room / "record/20200101.record").unlink()
     expect_same(room, 1, 2, database="copy1")
+
+
+def torn_days(room):
+    """A station that begins on a later day goes on behind the last whole entry of the days before, whichever of them were torn, or have no whole entry. So it does
+    in a file of its day that has none. While another one still writes the file of a day before, it doesn't begin."""
+    file, record = room / "file", room / "record"
+    file.write_bytes(b"ABC")
+
+    def lived(name):
+        with recording(room, "--jobs", "1") as service:
+            expect(submit(service, name, file), f"done: submit {name[1:]}\n", "submit")
+            service.ends()
+        return max(record.glob("*.record"))
+
+    first = lived("A1").rename(record / "20200101.record")
+    begun = first.read_bytes()[:30]
+    first.write_bytes(first.read_bytes() + begun)
+    second = lived("A2").rename(record / "20200102.record")
+    second.write_bytes(second.read_bytes() + begun)
+    today = f"{datetime.datetime.now(datetime.timezone.utc):%Y%m%d}"
+    for day, octets in (("20200103", b""), ("20200104", begun), (today, begun)):
+        (record / f"{day}.record").write_bytes(octets)
+    with open(second, "rb") as written:
+        fcntl.flock(written, fcntl.LOCK_EX)
+        refused = subprocess.run([PROGRAM, "release", "--db", room / "other", "--book", BOOK, "--record", record, "1"], capture_output=True, timeout=LONG, check=False)
+        expect((refused.returncode, refused.stderr), (1, b"fault: 7 file\n"), "while the file of a day before is written")
+    lived("A3")
+    expect_same(room, 0, 3)
+    second.rename(room / "away")
+    expect(replayed(room, "third")[:2], (1, f"differs: {today}.record, entry 1: it doesn't follow the day before\n"), "replay without the second day")
 
 
 def two_in_one_folder(room):
@@ -656,6 +706,23 @@ def disk_of(folder, size):
         yield
     finally:
         subprocess.run(["umount", folder], check=False)
+
+
+def full_disk_as_days_turn(room):
+    """A disk that is full again and again, as days turn, leaves entries that are cut off on days before. Once it has room the record goes on behind them."""
+    days, file = passing_days(room), room / "file"
+    file.write_bytes(random.Random(7).randbytes(3000))
+    with disk_of(room / "record", 65_536):
+        for turn in range(2, 8):
+            with recording(room, environment=days) as service:
+                while submit(service, f"A{time.time_ns()}", file).startswith("done: "):
+                    pass
+                service.ends(1, b"fault: 7 file\n")
+            subprocess.run(["mount", "-o", f"remount,size={65_536 * turn}", room / "record"], check=True)
+        with recording(room, "--jobs", "1", environment=days) as service:
+            expect(submit(service, "LAST", file)[:6], "done: ", "submit with room")
+            service.ends()
+        expect_same(room)
 
 
 def full_disk_of_the_database(room):
@@ -1246,7 +1313,7 @@ def killed_behind_the_copy(room):
         expect((done.returncode, done.stdout.decode()), (1, f"register: {line}\n"), f"{database} of a killed station")
 
 
-CASES = [without_a_book, two_replays, killed_replays, hundred_partners, password_over_a_socket, commands, rows, two_stations, book_read_again, killed_at_moments, killed_beside_partners, changed_octet, cut_record, most_at_once, killed_within_pieces, torn_pieces, backup, lost_database, days, two_in_one_folder, without_syncing, other_database, full_disk, full_disk_of_the_database, commands_alone, killed_commands, listen_and_call, feeds, feeds_refused, passwords, books_with_passwords, books_changed, passwords_changed, killed_feeds, backups_recorded, parts, marks, marks_of_much, hostile_record, sessions_explained, audits]
+CASES = [without_a_book, two_replays, killed_replays, hundred_partners, password_over_a_socket, commands, rows, two_stations, book_read_again, killed_at_moments, killed_as_days_turn, killed_beside_partners, changed_octet, cut_record, most_at_once, killed_within_pieces, torn_pieces, backup, lost_database, days, torn_days, two_in_one_folder, without_syncing, other_database, full_disk, full_disk_as_days_turn, full_disk_of_the_database, commands_alone, killed_commands, listen_and_call, feeds, feeds_refused, passwords, books_with_passwords, books_changed, passwords_changed, killed_feeds, backups_recorded, parts, marks, marks_of_much, hostile_record, sessions_explained, audits]
 
 
 def tried(case):

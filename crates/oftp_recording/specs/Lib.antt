@@ -1,3 +1,4 @@
+pub mod Days
 pub mod Digests
 pub mod Ends
 pub mod Passwords

@@ -1,9 +1,44 @@
 //! The files of a record, one for each day.
 
+ghost use Rattle.std.specs.Prelude.{◌≡◌};
+ghost use Rattle.oftp_recording.specs.Days.{last_entry, link_due};
+
+use crate::registers::Digest;
 use oftp_contents::{RECORD_ENDING, day_in};
 use oftp_files::file_fault;
 use oftp_outcomes::Fault;
 use std::fs;
+
+/// Where the whole entries in the file of a day end.
+#[derive(Clone, Copy, Debug, PartialEq, Eq)]
+pub struct DayEnd {
+    /// How many there are.
+    pub entries: u64,
+    /// The digest of the last one, or what takes its place before the first.
+    pub digest: Digest,
+}
+
+impl DayEnd {
+    /// The digest of the last entry of a record up to here, by that of the days before: a day without an entry leaves that.
+    pub fn last_entry(&self, before: Option<Digest>) -> Option<Digest>
+        ensures { result ≡ last_entry self.now before }
+    {
+        match self.entries {
+            0 => before,
+            _ => Some(self.digest),
+        }
+    }
+
+    /// The digest that the next entry has to name, by that of the days before: the first entry of a day names the last one before it, if there is one.
+    pub(crate) fn link_due(&self, before: Option<Digest>) -> Option<Digest>
+        ensures { result ≡ link_due self.now before }
+    {
+        match self.entries {
+            0 => before,
+            _ => None,
+        }
+    }
+}
 
 /// The path of a day's file in a folder.
 ///

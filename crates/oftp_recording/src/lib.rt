@@ -9,7 +9,7 @@ mod reading;
 mod recorder;
 mod registers;
 
-pub use days::{file_of, record_files};
+pub use days::{DayEnd, file_of, record_files};
 pub use ends::{cause_of, end_for, line_of_end};
 pub use moments::moment_text;
 pub use passwords::{SessionPasswords, instead};

@@ -1,5 +1,6 @@
 //! Reading a file of a record, entry by entry.
 
+use crate::days::DayEnd;
 use oftp_files::{file_fault, open_at_once};
 use oftp_outcomes::Fault;
 use oftp_record::{DIGEST_LEN, Look, PassedEntry, RecordKind, RecordStream};
@@ -138,6 +139,14 @@ impl RecordReader {
     /// The digest of the last entry, or what takes its place before the first.
     pub fn digest(&self) -> [u8; DIGEST_LEN] {
         self.stream.digest()
+    }
+
+    /// Where the entries that were read end.
+    pub fn day_end(&self) -> DayEnd {
+        DayEnd {
+            entries: self.count,
+            digest: self.stream.digest(),
+        }
     }
 
     /// How many entries were read.

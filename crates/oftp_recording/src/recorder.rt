@@ -1,6 +1,6 @@
 //! Writing a record.
 
-use crate::days::{day_text, file_of, record_days};
+use crate::days::{DayEnd, day_text, file_of, record_days};
 use crate::moments::moment_text;
 use crate::passwords::{SessionPasswords, instead};
 use crate::reading::{Found, RecordReader, refuse_others};
@@ -10,7 +10,7 @@ use oftp_contents::{
     ContentFields, DayTurn, EndCause, Marked, RecordSide, SessionOctets, day_at, hidden_book,
     is_same_day, last_before, last_day, program_text, turn_of, without_passwords,
 };
-use oftp_files::{file_fault, is_free, make_private};
+use oftp_files::{file_fault, is_free, make_private, open_at_once};
 use oftp_outcomes::{Fault, Term};
 use oftp_partners::Partner;
 use oftp_record::{AppendFault, ChainDigest, RecordEntry, RecordKind, append_entry};
@@ -65,8 +65,8 @@ struct Day {
 }
 
 impl<'a> Recorder<'a> {
-    /// Goes on with the record in a folder. What is behind the last whole entry of the day's file is cut off. `term` is how long each office has the
-    /// register.
+    /// Goes on with the record in a folder. What is behind the last whole entry is cut off, also on the day before. `term` is how long each office has
+    /// the register.
     ///
     /// # Errors
     /// [`Fault::File`] if there is no such folder, a file of it can't be written or was changed, or another station writes it; [`Fault::MEMORY`].
@@ -79,10 +79,7 @@ impl<'a> Recorder<'a> {
         let today = today(rt)?;
         let days = record_days(rt, folder)?;
         let last = last_day(today, days.as_slice());
-        let before = match last_before(last, days.as_slice()) {
-            Some(day) => Some(last_digest(rt, folder, day)?),
-            None => None,
-        };
+        let before = digest_before(rt, folder, last, days.as_slice())?;
         let day = Day::open(rt, folder, last, before)?;
         Ok(Recorder {
             rt,
@@ -312,7 +309,7 @@ impl<'a> Recorder<'a> {
 }
 
 impl Day {
-    /// Opens the file of a day, and makes it if it isn't there. Its first entry then says which entry was the last of the day before.
+    /// Opens the file of a day, and makes it if it isn't there. Its first entry says which one was the last of the days before, with this digest.
     fn open(
         rt: &HostRuntime,
         folder: &str,
@@ -326,7 +323,7 @@ impl Day {
                 Day::new(rt, day, file, before)
             }
             Err(error) if error.kind() == ErrorKind::AlreadyExists => {
-                Day::go_on(rt, path.as_str(), day)
+                Day::go_on(rt, path.as_str(), day, before)
             }
             Err(error) => Err(file_fault(&error)),
         }
@@ -338,42 +335,40 @@ impl Day {
             return Err(Fault::File);
         }
         let digest = ChainDigest::first().0;
-        let day = Day {
-            day,
-            known: None,
-            file,
-            digest,
-        };
-        match before {
-            Some(before) => {
-                let fields = mark_of(Marked::DayBefore, &before);
-                day.put(rt, moment_now(rt)?, RecordKind::Mark, &fields)
-            }
-            None => Ok(day),
-        }
+        let begun = DayEnd { entries: 0, digest };
+        Day::at(day, file, &begun).linked(rt, begun.link_due(before))
     }
 
     /// Goes on with a file behind its last whole entry.
-    fn go_on(rt: &HostRuntime, path: &str, day: u64) -> Result<Day, Fault> {
+    fn go_on(rt: &HostRuntime, path: &str, day: u64, before: Option<Digest>) -> Result<Day, Fault> {
         let file = OpenOptions::new()
             .read(true)
             .append(true)
             .open(rt, path)
             .map_err(|error| file_fault(&error))?;
-        refuse_others(&file)?;
-        if !is_free(&file) {
-            return Err(Fault::File);
-        }
-        let ended = ended_at(rt, path)?;
-        file.set_len(ended.whole)
-            .map_err(|error| file_fault(&error))?;
-        let digest = ended.digest;
-        Ok(Day {
+        let end = settled(rt, path, &file)?;
+        Day::at(day, file, &end).linked(rt, end.link_due(before))
+    }
+
+    /// A file that ends so.
+    fn at(day: u64, file: File, end: &DayEnd) -> Day {
+        Day {
             day,
             known: None,
             file,
-            digest,
-        })
+            digest: end.digest,
+        }
+    }
+
+    /// Appends the entry that names the last one of the days before, if one is to be named.
+    fn linked(self, rt: &HostRuntime, named: Option<Digest>) -> Result<Day, Fault> {
+        match named {
+            Some(named) => {
+                let fields = mark_of(Marked::DayBefore, &named);
+                self.put(rt, moment_now(rt)?, RecordKind::Mark, &fields)
+            }
+            None => Ok(self),
+        }
     }
 
     /// Appends an entry of a moment, with one write.
@@ -427,43 +422,75 @@ impl Day {
     }
 }
 
-/// Where a file's whole entries end.
-#[derive(Clone, Copy)]
-struct Ended {
-    whole: u64,
-    digest: Digest,
+/// Where the whole entries of a file end that no other program writes. What is behind them is cut off.
+///
+/// # Errors
+/// [`Fault::File`] if it isn't a regular file, another program writes it, it can't be read or cut off, or was changed; [`Fault::MEMORY`].
+fn settled(rt: &HostRuntime, path: &str, file: &File) -> Result<DayEnd, Fault> {
+    refuse_others(file)?;
+    if !is_free(file) {
+        return Err(Fault::File);
+    }
+    let mut reader = RecordReader::open(rt, path)?;
+    if read_to_end(&mut reader)? == Found::Cut {
+        cut_off(file, reader.whole())?;
+    }
+    Ok(reader.day_end())
 }
 
-/// Reads a file of a record to its end.
+/// Reads a file to the end of its whole entries. Returns what is behind them.
 ///
 /// # Errors
 /// [`Fault::File`] if it can't be read, or was changed; [`Fault::MEMORY`].
-fn ended_at(rt: &HostRuntime, path: &str) -> Result<Ended, Fault> {
-    let mut reader = RecordReader::open(rt, path)?;
+fn read_to_end(reader: &mut RecordReader) -> Result<Found, Fault> {
     for _ in 0..u64::MAX {
         match reader.advance()? {
             Found::Entry => {}
             Found::Changed => return Err(Fault::File),
-            Found::End | Found::Cut => break,
+            behind => return Ok(behind),
         }
     }
-    Ok(Ended {
-        whole: reader.whole(),
-        digest: reader.digest(),
-    })
+    Ok(Found::End)
+}
+
+/// Cuts off what is behind the first octets of a file, so that it isn't there after a loss of power either.
+fn cut_off(file: &File, length: u64) -> Result<(), Fault> {
+    file.set_len(length).map_err(|error| file_fault(&error))?;
+    file.sync_all().map_err(|error| file_fault(&error))
+}
+
+/// The digest of the last entry of the days before one; `None` if they have none. What is behind it in its file is cut off.
+fn digest_before(
+    rt: &HostRuntime,
+    folder: &str,
+    day: u64,
+    days: &[u64],
+) -> Result<Option<Digest>, Fault> {
+    let mut day = day;
+    for _ in days {
+        let Some(before) = last_before(day, days) else {
+            break;
+        };
+        let end = end_of(rt, folder, before)?;
+        if let Some(digest) = end.last_entry(None) {
+            return Ok(Some(digest));
+        }
+        day = before;
+    }
+    Ok(None)
+}
+
+/// Where the entries of an earlier day end.
+fn end_of(rt: &HostRuntime, folder: &str, day: u64) -> Result<DayEnd, Fault> {
+    let path = path_of(rt, folder, day)?;
+    let file = open_at_once(rt, path.as_str()).map_err(|error| file_fault(&error))?;
+    settled(rt, path.as_str(), &file)
 }
 
 /// The path of the file of a day in a folder.
 fn path_of(rt: &HostRuntime, folder: &str, day: u64) -> Result<String, Fault> {
     let day = day_text(rt, day)?;
     file_of(rt, folder, day.as_str())
-}
-
-/// The digest of the last entry of a day.
-fn last_digest(rt: &HostRuntime, folder: &str, day: u64) -> Result<Digest, Fault> {
-    let path = path_of(rt, folder, day)?;
-    let ended = ended_at(rt, path.as_str())?;
-    Ok(ended.digest)
 }
 
 /// Syncs a folder, so that the names in it are durable. File systems that don't sync folders are accepted.

@@ -50,9 +50,9 @@ pub fn explain_record(
         match tape.at() {
             At::End => break,
             At::Entry(kind) => listener.take(kind, tape.content(), out)?,
-            At::Broken(what) => {
+            At::Broken(damage) => {
                 listener.close(out)?;
-                let line = tape.told(what)?;
+                let line = tape.told(damage.words())?;
                 write_line(out, &line.as_str())?;
                 return Ok(FAILED);
             }

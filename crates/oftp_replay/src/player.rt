@@ -97,7 +97,7 @@ impl<'a> Player<'a> {
             match self.tape.at() {
                 At::Entry(kind) => self.skip(kind)?,
                 At::End => return Err(Stop::Differs("no entry has the register of the database")),
-                At::Broken(what) => return Err(Stop::Differs(what)),
+                At::Broken(damage) => return Err(Stop::Differs(damage.words())),
             }
         }
         Ok(())
@@ -110,7 +110,7 @@ impl<'a> Player<'a> {
                 At::Entry(_) if self.tape.place() == place => return Ok(()),
                 At::Entry(kind) => self.skip(kind)?,
                 At::End => return Err(Stop::Unknown),
-                At::Broken(what) => return Err(Stop::Differs(what)),
+                At::Broken(damage) => return Err(Stop::Differs(damage.words())),
             }
         }
         Ok(())

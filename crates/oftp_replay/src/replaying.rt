@@ -108,7 +108,7 @@ impl Player<'_> {
         for _ in 0..u64::MAX {
             match self.tape.at() {
                 At::End => return Ok(()),
-                At::Broken(what) => return Err(Stop::Differs(what)),
+                At::Broken(damage) => return Err(Stop::Differs(damage.words())),
                 At::Entry(kind) => life = self.play_entry(kind, life, book)?,
             }
             if self.halt.lift() {

@@ -94,8 +94,8 @@ pub(crate) fn find_sessions(
         match tape.at() {
             At::End => break,
             At::Entry(kind) => search.take(kind, &tape, bundle)?,
-            At::Broken(what) => {
-                search.broken = Some(tape.told(what)?);
+            At::Broken(damage) => {
+                search.broken = Some(tape.told(damage.words())?);
                 break;
             }
         }

@@ -30,8 +30,8 @@ pub fn compare_with_record<O: Office>(
     let register = RegisterDigests::new(rt.alloc()).digest(office)?;
     let mut tape = Tape::open(rt, folder)?;
     let standing = standing_of(&mut tape, &register)?;
-    if let At::Broken(what) = tape.at() {
-        let line = tape.told(what)?;
+    if let At::Broken(damage) = tape.at() {
+        let line = tape.told(damage.words())?;
         write_line(out, &line.as_str())?;
         return Ok(Compared::Other);
     }

@@ -30,6 +30,36 @@ impl From<AllocError> for Stop {
     }
 }
 
+/// What is wrong with a record.
+#[derive(Clone, Copy, Debug, PartialEq, Eq)]
+pub(crate) enum Damage {
+    /// An entry is cut off.
+    Cut,
+    /// An entry isn't as it was written, or not behind the one before it.
+    Changed,
+    /// The first entry of a day doesn't name the last one before it.
+    Unlinked,
+}
+
+impl Damage {
+    /// What is said of it.
+    pub(crate) fn words(self) -> &'static str {
+        match self {
+            Damage::Cut => "it is cut off",
+            Damage::Changed => "it was changed, or what was before it",
+            Damage::Unlinked => "it doesn't follow the day before",
+        }
+    }
+
+    /// The number of the entry in its file, of which so many entries were read.
+    fn entry(self, read: u64) -> u64 {
+        match self {
+            Damage::Cut | Damage::Changed => read.saturating_add(1),
+            Damage::Unlinked => read,
+        }
+    }
+}
+
 /// Where a tape stands.
 #[derive(Clone, Copy, PartialEq, Eq)]
 pub(crate) enum At {
@@ -37,8 +67,8 @@ pub(crate) enum At {
     Entry(RecordKind),
     /// At its end.
     End,
-    /// At an entry that is cut off, was changed, or doesn't follow the day before: this is wrong with it.
-    Broken(&'static str),
+    /// At an entry with which this is wrong.
+    Broken(Damage),
 }
 
 /// A record that is read, entry by entry.
@@ -164,20 +194,22 @@ impl<'a> Tape<'a> {
         };
         match found {
             Found::Entry => Ok(self.seen()),
-            Found::Cut => Ok(Some(At::Broken("it is cut off"))),
-            Found::Changed => Ok(Some(At::Broken("it was changed, or what was before it"))),
+            Found::Cut => Ok(Some(At::Broken(Damage::Cut))),
+            Found::Changed => Ok(Some(At::Broken(Damage::Changed))),
             Found::End => {
-                self.before = self.last_digest();
+                self.before = self.last_entry();
                 self.reader = None;
                 Ok(None)
             }
         }
     }
 
-    /// The digest of the last entry of the day.
-    fn last_digest(&self) -> Option<Digest> {
-        let reader = self.reader.as_ref()?;
-        Some(reader.digest())
+    /// The digest of the last entry up to the end of the day that was read.
+    fn last_entry(&self) -> Option<Digest> {
+        match &self.reader {
+            Some(reader) => reader.day_end().last_entry(self.before),
+            None => self.before,
+        }
     }
 
     /// Opens the file of the next day.
@@ -202,7 +234,7 @@ impl<'a> Tape<'a> {
         match DayLink::at(reader.count(), self.before, named) {
             DayLink::Entry => Some(At::Entry(kind)),
             DayLink::Link => None,
-            DayLink::Broken => Some(At::Broken("it doesn't follow the day before")),
+            DayLink::Broken => Some(At::Broken(Damage::Unlinked)),
         }
     }
 
@@ -260,7 +292,7 @@ impl<'a> Tape<'a> {
             return Ok(format!(in alloc; "differs: at the end of the record: {what}")?);
         };
         let entry = match self.at {
-            At::Broken(_) => reader.count().saturating_add(1),
+            At::Broken(damage) => damage.entry(reader.count()),
             At::Entry(_) | At::End => reader.count(),
         };
         Ok(format!(in alloc; "differs: {day}.record, entry {entry}: {what}")?)

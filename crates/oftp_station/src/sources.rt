@@ -2,4 +2,4 @@
 
 /// The SHA-256 of the sources, but of this file, as `checks/lint/version.py` computes it.
 pub const SOURCES: &str =
-    "sources e7ed3513adf2285f710517df9a68f217e0731613f0d4dce01419adf9475c5821";
+    "sources 318dc91b91f6e0c334f8fa6c4f41ba57581c3931f3044bf5caf759da93ee97fc";
