@@ -6,15 +6,16 @@
 The last line is `N passed, M failed`.
 
 Shows: what a station recorded, played over a new database, gives the tables that the station has, read by stock sqlite3. That is after sessions
-with a partner who calls and who is called, with files both ways. It is after operators' commands and after a book that was read again. It is after
-SIGKILL between any two octets of sessions and within commands, with a start again each time, also as days turn. It goes on from a backup. Of two replays at once one plays it all, and one that is killed leaves
-nothing that is called the same and isn't. A record that is cut off, or
-in which an octet was changed, is told, and so is a database that isn't the station's. A station goes on behind the last whole entry, also of days before. One that can't
-write its record ends with `fault: 7 file`. What `listen`, `call`, `feed` and commands without a station record gives their tables, too, also after
-kills of commands and of `feed`. No password of a session or a book is in a record, and sessions with wrong ones are played as they were. The register
-is marked each hour if no session goes on, and before a backup. A mark reads no rows of a file that was whole at one before. A part of a record is played from an entry, and up to one.
-An audit against a record tells a database that isn't the last one of it, or never was.
-`explain` shows what isn't to be seen in a changed record by its escape. It tells of each session, or of the one with a number, which may be 0
+with a partner who calls and who is called, with files both ways. It is after operators' commands and after a book that was read again. It is
+after SIGKILL between any two octets of sessions and within commands, with a start again each time, also as days turn. It goes on from a backup.
+Of two replays at once one plays it all, and one that is killed leaves nothing that is called the same and isn't. A record that is cut off, or in
+which an octet was changed, is told, and so is a database that isn't the station's. A station goes on behind the last whole entry, also of days
+before. One that can't write its record ends with `fault: 7 file`. What `listen`, `call`, `feed` and commands without a station record gives their
+tables, too, also after kills of commands and of `feed`. No password of a session or a book is in a record, and sessions with wrong ones are
+played as they were. The register is marked each hour if no session goes on, and before a backup. A mark reads no rows of a file that was whole at
+one before. A part of a record is played from an entry, and up to one. An audit against a record tells a database that isn't the last one of it,
+or never was. `explain` shows what isn't to be seen in a changed record by its escape. It tells of each session, or of the one with a number,
+which may be 0
 """
 
 import contextlib
