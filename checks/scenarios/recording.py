@@ -285,7 +285,7 @@ def killed_as_days_turn(room):
 
     def one(folder, seed):
         killed(folder, seed, environment=days)
-        expect(len(list((folder / "record").iterdir())) > 9, True, "that days turned")
+        expect(len(list((folder / "record").iterdir())) > 4, True, "that days turned")
 
     many(room, one, 8)
 
