@@ -655,10 +655,10 @@ def torn_days(room):
         fcntl.flock(written, fcntl.LOCK_EX)
         refused = subprocess.run([PROGRAM, "release", "--db", room / "other", "--book", BOOK, "--record", record, "1"], capture_output=True, timeout=LONG, check=False)
         expect((refused.returncode, refused.stderr), (1, b"fault: 7 file\n"), "while the file of a day before is written")
-    lived("A3")
+    third = lived("A3")
     expect_same(room, 0, 3)
     second.rename(room / "away")
-    expect(replayed(room, "third")[:2], (1, f"differs: {today}.record, entry 1: it doesn't follow the day before\n"), "replay without the second day")
+    expect(replayed(room, "third")[:2], (1, f"differs: {third.name}, entry 1: it doesn't follow the day before\n"), "replay without the second day")
 
 
 def two_in_one_folder(room):
